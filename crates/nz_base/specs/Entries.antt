@@ -2,9 +2,9 @@
 use Rattle.std.specs.Prelude.{◌≡◌, ◌+◌, ◌-◌, ◌≤◌, ℕ, map, vec_len, vec_capacity}
 use Rattle.std.specs.declared.vec.Vec.{Vec}
 use Rattle.std.specs.declared.alloc.Global.{Global}
-use Rattle.nz_spec.specs.Work.{WorkEntry, DecisionEntry, LearnedEntry, WorkLine, UnitLine, NoteLine, unit_count}
+use Rattle.nz_spec.specs.Work.{WorkEntry, DecisionEntry, LearnedEntry, PivotEntry, WorkLine, UnitLine, NoteLine, unit_count}
 use Rattle.nz_base.specs.declared.entries.Entry.{Entry}
-use Rattle.nz_base.specs.declared.entries.Entry.TheVariants.{Decision, Learned}
+use Rattle.nz_base.specs.declared.entries.Entry.TheVariants.{Decision, Learned, Pivot}
 use Rattle.nz_base.specs.declared.entries.Line.{Line}
 use Rattle.nz_base.specs.declared.entries.Line.TheVariants as line
 use Rattle.nz_base.specs.declared.entries.Noted.{Noted}
@@ -14,6 +14,7 @@ use Rattle.nz_base.specs.declared.entries.Noted.TheVariants as lent
 abbrev pub entry_of : Entry → WorkEntry
 entry_of (Decision atom sign) = DecisionEntry atom sign
 entry_of (Learned keep lits) = LearnedEntry keep lits
+entry_of (Pivot leaves enters) = PivotEntry leaves enters
 
 module _ {T : Type 0} where
   -- a line, as the definitions have it

@@ -42,13 +42,15 @@ impl From<Vec<(usize, bool)>> for Literals {
     }
 }
 
-/// A step of a check that counts as one unit of work. Atoms are named by their numbers in the list.
+/// A step of a check that counts as one unit of work. Atoms and forms are named by their numbers in the list.
 #[derive(Debug, Drop)]
 pub enum Entry {
     /// An undecided atom is decided with this sign.
     Decision { atom: usize, sign: bool },
     /// A new clause is learned, and the stack of decisions is cut to `keep` of them.
     Learned { keep: usize, lits: Literals },
+    /// A basic form leaves the basis, and a nonbasic one enters it.
+    Pivot { leaves: usize, enters: usize },
 }
 
 /// A line of a work list, lent.

@@ -1,12 +1,20 @@
+mod Added
+mod Adding
 mod AtomsStay
+mod Bounding
 mod Covering
+mod Elements
 mod GateLevels
-mod GatesPut
+mod Kept
 pub mod Levels
-mod Listing
+mod Listed
 mod Parts
+mod PartsCovered
+mod RowClauses
+mod RowNames
+mod RowsMet
+mod RowsPut
 mod Sizes
 mod Staying
-mod Truths
+mod Stopping
 mod Underway
-mod Values

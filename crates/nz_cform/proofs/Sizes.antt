@@ -1,8 +1,6 @@
--- Sizes of terms, by which the covering of terms comes to an end; and arguments of terms that hold no number.
-use Rattle.std.proofs.Common.{◌≡◌, ℕ, suc, ◌+◌, ◌<◌, ◌||◌, Bool, true, false, List, [], ◌∷◌, ◌++◌, refl, sym, ap, ◌∙◌, arith, true≢false}
-use Rattle.std.specs.Prelude.{All}
-use Rattle.std.proofs.lemmas.List.Elements.{All-cons, All-nil}
-use Rattle.nz_spec.specs.Term.{Term, apply, Terms, no_terms, terms, Head, is_numeric, holds_number, hold_number}
+-- Sizes of terms, by which the covering of terms comes to an end.
+use Rattle.std.proofs.Common.{◌≡◌, ℕ, suc, ◌+◌, ◌<◌, List, [], ◌∷◌, ◌++◌, refl, ap, ◌∙◌, arith}
+use Rattle.nz_spec.specs.Term.{Term, apply, Terms, no_terms, terms, Head}
 use Rattle.nz_spec.specs.Table.{terms_at}
 
 -- how many terms one is made of
@@ -48,27 +46,3 @@ module _ (term : ℕ → Term) where
       let parts = total-append is kids in
       let of : size (term i) ≡ suc (total term kids) = ap size e ∙ ap suc (sizes_at kids) in
       omega arith
-
--- ---- Numbers
-
--- where neither of two tests holds, the second doesn't, nor the first
-neither : (b c : Bool) → (b || c) ≡ false → c ≡ false
-neither true c e = absurd (true≢false e)
-neither false c e = e
-
-first_of_two : (b c : Bool) → (b || c) ≡ false → b ≡ false
-first_of_two true c e = absurd (true≢false e)
-first_of_two false c e = refl
-
--- arguments that hold no number
-plain_at : (term : ℕ → Term) (is : List ℕ) → hold_number (terms_at term is) ≡ false → All (λ i. holds_number (term i) ≡ false) is
-plain_at term [] e = All-nil (λ i. holds_number (term i) ≡ false)
-plain_at term (i ∷ is) e =
-    All-cons (λ i. holds_number (term i) ≡ false) i is (first_of_two (holds_number (term i)) (hold_number (terms_at term is)) e)
-    (plain_at term is (neither (holds_number (term i)) (hold_number (terms_at term is)) e))
-
--- the arguments of a term that holds no number hold none
-pub plain_arguments : (term : ℕ → Term) (i : ℕ) (h : Head) (kids : List ℕ) → term i ≡ apply h (terms_at term kids) → holds_number (term i) ≡ false
-    → All (λ k. holds_number (term k) ≡ false) kids
-plain_arguments term i h kids e plain =
-    plain_at term kids (neither (is_numeric h) (hold_number (terms_at term kids)) (sym (ap holds_number e) ∙ plain))

@@ -1,19 +1,39 @@
 -- Terms that are covered one after another, from a stack of those that wait.
-use Rattle.std.proofs.Common.{◌≡◌, ℕ, ◌<◌, ◌≤◌, inl, inr, false, List, [], ◌∷◌, ◌++◌, length, Some, None, refl, sym, ap, subst, ◌∙◌, arith}
+use Rattle.std.proofs.Common.{◌≡◌, ℕ, ◌<◌, ◌≤◌, inl, inr, List, [], ◌∷◌, ◌++◌, length, Some, None, refl, sym, ap, subst, ◌∙◌, arith}
 use Rattle.std.specs.Prelude.{All, Contains, IsSome, unwrap_or}
 use Rattle.std.proofs.lemmas.List.Elements.{All-append, All-cons, All-head, All-nil, All-pop, All-push, All-tail, All-weaker}
-use Rattle.nz_spec.specs.Term.{Head, apply, holds_number}
+use Rattle.nz_lists.proofs.Numbers.{same_or_other}
+use Rattle.nz_spec.specs.Term.{Head, apply}
 use Rattle.nz_spec.specs.Table.{Node, term_in, terms_at}
+use Rattle.nz_spec.specs.Taken.{IsTaken, TakenTermsAreInOrder}
 use Rattle.nz_spec.specs.Order.{post_order}
-use Rattle.nz_spec.specs.Gates.{HasBooleanArguments, PlainTermsAreBoolean}
 use Rattle.nz_log.specs.Logs.{LogState, told_level}
 use Rattle.nz_log.specs.Sound.{IsLog}
-use Rattle.nz_cform.specs.Forms.{FormState, covered_at, IsCoveredWithin, Takes, Grows}
-use Rattle.nz_cform.specs.Covering.{AreAdded, Covers, HasGates, Keeps, kids_at}
+use Rattle.nz_cform.specs.declared.stop.FormStop.{FormStop}
+use Rattle.nz_cform.specs.declared.stop.FormStop.TheVariants.{Wide, Memory}
+use Rattle.nz_cform.specs.Listings.{Takes}
+use Rattle.nz_cform.specs.Forms.{FormState, covered_at, IsCoveredWithin, Grows}
+use Rattle.nz_cform.specs.Covering.{AddsRows, AreAdded, Covers, HasBounds, HasRows, Keeps, kids_at}
+use Rattle.nz_cform.specs.Stops.{IsStopIn, OnWide}
+use Rattle.nz_cform.proofs.Added.{added_twice, keeps_twice, none_added}
 use Rattle.nz_cform.proofs.Levels.{covered_within, level_of}
-use Rattle.nz_cform.proofs.Listing.{grows_itself, grows_more, has_some, none_or_some, same_or_other}
+use Rattle.nz_cform.proofs.Listed.{none_more, none_or_some}
+use Rattle.nz_cform.proofs.Listed as listed
 use Rattle.nz_cform.proofs.Parts.{arguments_are_parts, itself, part_of_part}
-use Rattle.nz_cform.proofs.Sizes.{plain_arguments}
+
+-- ---- Bounds and terms together
+
+pub grows_itself : (s : FormState) (level : ℕ) → Grows s level s
+grows_itself s level = record { terms = listed.grows_itself s.terms level; bounds = listed.grows_itself s.bounds level }
+
+pub grows_more : (a b c : FormState) (level : ℕ) → Grows a level b → Grows b level c → Grows a level c
+grows_more a b c level f g =
+    record {
+      terms = listed.grows_more a.terms b.terms c.terms level f.terms g.terms;
+      bounds = listed.grows_more a.bounds b.bounds c.bounds level f.bounds g.bounds;
+    }
+
+-- ---- How far it has come
 
 -- what a term is made of has the term of a number
 abbrev pub IsPart : List Node → ℕ → ℕ → Type 0
@@ -25,10 +45,7 @@ AreParts ns id first s = (t : ℕ) → covered_at first t ≡ None → IsSome (c
 
 -- no term is covered more
 pub no_parts : (ns : List Node) (id : ℕ) (s : FormState) → AreParts ns id s s
-no_parts ns id s t none some =
-    let n = has_some (covered_at s t) some in
-    let both : None ≡ Some n.0 = sym none ∙ n.1 in
-    cc
+no_parts ns id s t none some = absurd (none_more s.terms t none some)
 
 -- what is covered stays so, at its level
 abbrev pub Stays : FormState → FormState → Type 0
@@ -48,26 +65,16 @@ pub record Reaches (ns : List Node) (id level : ℕ) (s : FormState) (waiting : 
 pub record IsUnderway (ns : List Node) (id level : ℕ) (start : LogState) (first : FormState) (log : LogState) (s : FormState) (ids waiting : List ℕ) : Type 0 where
   pub table : All (λ t. t < length ns) waiting
   pub within : (t n : ℕ) → covered_at s t ≡ Some n → t < length ns
-  pub gates : HasGates ns log s
+  pub rows : HasRows ns log s
+  pub bounds : HasBounds log s
   pub reaches : Reaches ns id level s waiting
   pub added : AreAdded start ids log
   pub grown : Grows first level s
   pub kept : Keeps start log
   pub told : (t : ℕ) → told_level log t ≤ level
-  pub plain : holds_number (term_in ns id) ≡ false → All (λ t. holds_number (term_in ns t) ≡ false) waiting
-  pub sound : (levels : List (List ℕ)) → holds_number (term_in ns id) ≡ false → IsLog ns levels start → IsLog ns levels log
+  pub sound : (levels : List (List ℕ)) → IsLog ns levels start → IsLog ns levels log
   pub waits : All (IsPart ns id) waiting
   pub parts : AreParts ns id first s
-
--- no clause is new where none was put
-none_added : (log : LogState) → AreAdded log [] log
-none_added log =
-    record {
-      live = λ i. (λ live. inl live, λ h. elim h [ inl live ↦ live | inr c ↦ absurd (let inside : c.0 < 0 = c.1 in omega arith) ]);
-      fresh = λ k d inside. absurd (omega arith);
-      gates = λ k d inside. absurd (omega arith);
-      once = λ i j d below inside. absurd (omega arith);
-    }
 
 -- at the start the term itself waits
 pub start_underway : (ns : List Node) (id level : ℕ) (log : LogState) (s : FormState) → id < length ns → Covers ns log s
@@ -76,7 +83,8 @@ start_underway ns id level log s inside covers told waiting one =
     record {
       table = subst (All (λ t. t < length ns)) (sym one) (All-cons (λ t. t < length ns) id [] inside (All-nil (λ t. t < length ns)));
       within = covers.within;
-      gates = covers.gates;
+      rows = covers.rows;
+      bounds = covers.bounds;
       reaches = record {
         root = λ r stays all. subst (All (IsCoveredWithin r level)) one all 0 0 (omega arith);
         arguments = λ r stays all t n at. All-weaker (IsCoveredWithin s n) (IsCoveredWithin r n) (λ k h. within_stays s r n k stays h) (kids_at ns t) (covers.arguments t n at);
@@ -85,9 +93,7 @@ start_underway ns id level log s inside covers told waiting one =
       grown = grows_itself s level;
       kept = record { clauses = λ i live. refl; atoms = λ i a at. at };
       told = told;
-      plain = λ e. subst (All (λ t. holds_number (term_in ns t) ≡ false)) (sym one)
-          (All-cons (λ t. holds_number (term_in ns t) ≡ false) id [] e (All-nil (λ t. holds_number (term_in ns t) ≡ false)));
-      sound = λ levels plain order. order;
+      sound = λ levels order. order;
       waits = subst (All (IsPart ns id)) (sym one) (All-cons (IsPart ns id) id [] (itself (term_in ns id)) (All-nil (IsPart ns id)));
       parts = no_parts ns id s;
     }
@@ -107,23 +113,38 @@ parts P (t ∷ ts) us h =
 
 module _ (ns : List Node) (id level : ℕ) (start : LogState) (first : FormState) (log : LogState) (s : FormState) (ids waiting : List ℕ) (t : ℕ)
     (u : IsUnderway ns id level start first log s ids (waiting ++ t ∷ [])) where
-  -- it is of the table, and holds no number where the first doesn't
+  -- it is of the table, and of what the first is made of
   pub is_within : t < length ns
   is_within = (front (λ v. v < length ns) waiting t u.table).1
 
-  is_plain : holds_number (term_in ns id) ≡ false → holds_number (term_in ns t) ≡ false
-  is_plain e = (front (λ v. holds_number (term_in ns v) ≡ false) waiting t (u.plain e)).1
+  pub is_part : IsPart ns id t
+  is_part = (front (IsPart ns id) waiting t u.waits).1
+
+  pub is_taken : TakenTermsAreInOrder → IsTaken (term_in ns id) → IsTaken (term_in ns t)
+  is_taken law taken = law.parts (term_in ns id) (term_in ns t) taken is_part
+
+  -- where it stops, the first one stops
+  pub stops_too : (e : FormStop) → OnWide e (IsStopIn ns (term_in ns t)) → OnWide e (IsStopIn ns (term_in ns id))
+  stops_too (Wide wide v) stop =
+      record {
+        within = stop.within;
+        part = part_of_part (term_in ns id) (term_in ns t) (term_in ns v) is_part stop.part;
+        of = stop.of;
+        leaves = stop.leaves;
+      }
+  stops_too Memory stop = tt
 
   -- it is covered already
   pub skip : (n : ℕ) → covered_at s t ≡ Some n → IsUnderway ns id level start first log s ids waiting
   skip n covered =
-      let below : n ≤ level = subst (λ o. unwrap_or o 0 ≤ level) (u.gates.told t ∙ covered) (u.told t) in
+      let below : n ≤ level = subst (λ o. unwrap_or o 0 ≤ level) (u.rows.told t ∙ covered) (u.told t) in
       let with_it = λ (r : FormState) (stays : Stays s r) (all : All (IsCoveredWithin r level) waiting).
       All-push (IsCoveredWithin r level) waiting t all (covered_within (covered_at r t) n level (stays t n covered) below) in
       record {
         table = (front (λ v. v < length ns) waiting t u.table).0;
         within = u.within;
-        gates = u.gates;
+        rows = u.rows;
+        bounds = u.bounds;
         reaches = record {
           root = λ r stays all. u.reaches.root r stays (with_it r stays all);
           arguments = λ r stays all. u.reaches.arguments r stays (with_it r stays all);
@@ -132,7 +153,6 @@ module _ (ns : List Node) (id level : ℕ) (start : LogState) (first : FormState
         grown = u.grown;
         kept = u.kept;
         told = u.told;
-        plain = λ e. (front (λ v. holds_number (term_in ns v) ≡ false) waiting t (u.plain e)).0;
         sound = u.sound;
         waits = (front (IsPart ns id) waiting t u.waits).0;
         parts = u.parts;
@@ -142,73 +162,61 @@ module _ (ns : List Node) (id level : ℕ) (start : LogState) (first : FormState
   pub parts_on : (s' : FormState) → ((v : ℕ) → covered_at s v ≡ None → IsSome (covered_at s' v) → v ≡ t) → AreParts ns id first s'
   parts_on s' only v none some =
       elim (none_or_some (covered_at s v)) [
-        | inl before ↦ subst (IsPart ns id) (sym (only v before some)) (front (IsPart ns id) waiting t u.waits).1
+        | inl before ↦ subst (IsPart ns id) (sym (only v before some)) is_part
         | inr was ↦ u.parts v none (subst (λ o. IsSome o) (sym was.1) refl)
       ]
 
-  -- what covering it did to the log and the list, in any case
-  module _ (law : PlainTermsAreBoolean) (log' : LogState)
-      (sound : (levels : List (List ℕ)) → HasBooleanArguments (term_in ns t) → IsLog ns levels log → IsLog ns levels log') where
-    -- the log is in order
-    pub sound_on : (levels : List (List ℕ)) → holds_number (term_in ns id) ≡ false → IsLog ns levels start → IsLog ns levels log'
-    sound_on levels e order = sound levels (law.arguments (term_in ns t) (is_plain e)) (u.sound levels e order)
+  -- it is covered, and its arguments wait in its place
+  module _ (log' : LogState) (s' : FormState) (ids' : List ℕ) (takes : Takes s.terms t level s'.terms) (rows : HasRows ns log' s') (bounds : HasBounds log' s')
+      (adds : AddsRows t log ids log' ids') (grown : Grows s level s') (kept : Keeps log log') (told : (v : ℕ) → told_level log' v ≤ level)
+      (only : (v : ℕ) → covered_at s v ≡ None → IsSome (covered_at s' v) → v ≡ t) (sound : (levels : List (List ℕ)) → IsLog ns levels log → IsLog ns levels log')
+      (h : Head) (kids : List ℕ) (node : kids_at ns t ≡ kids) (term : term_in ns t ≡ apply h (terms_at (term_in ns) kids)) (before : All (λ k. k < t) kids) where
+    -- what stays from then on stays from now on, and with what waits then it is covered
+    stays_on : (r : FormState) → Stays s' r → Stays s r
+    stays_on r stays v n at = stays v n (grown.terms.stays v n at)
 
-    -- it is covered, and its arguments wait in its place
-    module _ (s' : FormState) (ids' : List ℕ) (takes : Takes s t level s') (grown : Grows s level s') (kept : Keeps log log') (gates : HasGates ns log s → HasGates ns log' s')
-        (added : (begun : LogState) → AreAdded begun ids log → AreAdded begun ids' log') (told : (v : ℕ) → told_level log' v ≤ level)
-        (h : Head) (kids : List ℕ) (node : kids_at ns t ≡ kids) (term : term_in ns t ≡ apply h (terms_at (term_in ns) kids))
-        (before : All (λ k. k < t) kids) (only : (v : ℕ) → covered_at s v ≡ None → IsSome (covered_at s' v) → v ≡ t) where
-      -- what stays from then on stays from now on, and with what waits then it is covered
-      stays_on : (r : FormState) → Stays s' r → Stays s r
-      stays_on r stays v n at = stays v n (grown.stays v n at)
+    with_term : (r : FormState) → Stays s' r → All (IsCoveredWithin r level) (waiting ++ kids) → All (IsCoveredWithin r level) (waiting ++ t ∷ [])
+    with_term r stays all =
+        All-push (IsCoveredWithin r level) waiting t (parts (IsCoveredWithin r level) waiting kids all).0
+        (covered_within (covered_at r t) level level (stays t level takes.here) (omega arith))
 
-      with_term : (r : FormState) → Stays s' r → All (IsCoveredWithin r level) (waiting ++ kids) → All (IsCoveredWithin r level) (waiting ++ t ∷ [])
-      with_term r stays all =
-          All-push (IsCoveredWithin r level) waiting t (parts (IsCoveredWithin r level) waiting kids all).0
-          (covered_within (covered_at r t) level level (stays t level takes.here) (omega arith))
+    -- arguments of what is covered then
+    arguments_on : (r : FormState) → Stays s' r → All (IsCoveredWithin r level) (waiting ++ kids) → (v n : ℕ) → covered_at s' v ≡ Some n
+        → All (IsCoveredWithin r n) (kids_at ns v)
+    arguments_on r stays all v n at =
+        elim (same_or_other v t) [
+          | inl same ↦
+              let both : Some level ≡ Some n = sym takes.here ∙ ap (covered_at s') (sym same) ∙ at in
+              let one : level ≡ n = cc in
+              subst (λ m. All (IsCoveredWithin r m) (kids_at ns v)) one
+              (subst (All (IsCoveredWithin r level)) (sym (ap (kids_at ns) same ∙ node)) (parts (IsCoveredWithin r level) waiting kids all).1)
+          | inr other ↦ u.reaches.arguments r (stays_on r stays) (with_term r stays all) v n (sym (takes.others v other) ∙ at)
+        ]
 
-      -- arguments of what is covered then
-      arguments_on : (r : FormState) → Stays s' r → All (IsCoveredWithin r level) (waiting ++ kids) → (v n : ℕ) → covered_at s' v ≡ Some n
-          → All (IsCoveredWithin r n) (kids_at ns v)
-      arguments_on r stays all v n at =
-          elim (same_or_other v t) [
-            | inl same ↦
-                let both : Some level ≡ Some n = sym takes.here ∙ ap (covered_at s') (sym same) ∙ at in
-                let one : level ≡ n = cc in
-                subst (λ m. All (IsCoveredWithin r m) (kids_at ns v)) one
-                (subst (All (IsCoveredWithin r level)) (sym (ap (kids_at ns) same ∙ node)) (parts (IsCoveredWithin r level) waiting kids all).1)
-            | inr other ↦ u.reaches.arguments r (stays_on r stays) (with_term r stays all) v n (sym (takes.others v other) ∙ at)
-          ]
-
-      -- together
-      pub cover_on : IsUnderway ns id level start first log' s' ids' (waiting ++ kids)
-      cover_on =
-          record {
-            table = All-append (λ v. v < length ns) waiting kids (front (λ v. v < length ns) waiting t u.table).0
-                (All-weaker (λ k. k < t) (λ k. k < length ns) (λ k below. let inside = is_within in omega arith) kids before);
-            within = λ v n at. elim (same_or_other v t) [
-              | inl same ↦ subst (λ w. w < length ns) (sym same) is_within
-              | inr other ↦ u.within v n (sym (takes.others v other) ∙ at)
-            ];
-            gates = gates u.gates;
-            reaches = record {
-              root = λ r stays all. u.reaches.root r (stays_on r stays) (with_term r stays all);
-              arguments = arguments_on;
-            };
-            added = added start u.added;
-            grown = grows_more first s s' level u.grown grown;
-            kept = record {
-              clauses = λ i live. kept.clauses i (subst (λ o. IsSome o) (sym (u.kept.clauses i live)) live) ∙ u.kept.clauses i live;
-              atoms = λ i a at. kept.atoms i a (u.kept.atoms i a at);
-            };
-            told = told;
-            plain = λ e. All-append (λ v. holds_number (term_in ns v) ≡ false) waiting kids
-                (front (λ v. holds_number (term_in ns v) ≡ false) waiting t (u.plain e)).0
-                (plain_arguments (term_in ns) t h kids term (is_plain e));
-            sound = sound_on;
-            waits = All-append (IsPart ns id) waiting kids (front (IsPart ns id) waiting t u.waits).0
-                (All-weaker (λ k. Contains (post_order (term_in ns t)) (term_in ns k)) (IsPart ns id)
-                (λ k has. part_of_part (term_in ns id) (term_in ns t) (term_in ns k) (front (IsPart ns id) waiting t u.waits).1 has) kids
-                (arguments_are_parts (term_in ns) (term_in ns t) h kids term));
-            parts = parts_on s' only;
-          }
+    -- together
+    pub cover_on : IsUnderway ns id level start first log' s' ids' (waiting ++ kids)
+    cover_on =
+        record {
+          table = All-append (λ v. v < length ns) waiting kids (front (λ v. v < length ns) waiting t u.table).0
+              (All-weaker (λ k. k < t) (λ k. k < length ns) (λ k below. let inside = is_within in omega arith) kids before);
+          within = λ v n at. elim (same_or_other v t) [
+            | inl same ↦ subst (λ w. w < length ns) (sym same) is_within
+            | inr other ↦ u.within v n (sym (takes.others v other) ∙ at)
+          ];
+          rows = rows;
+          bounds = bounds;
+          reaches = record {
+            root = λ r stays all. u.reaches.root r (stays_on r stays) (with_term r stays all);
+            arguments = arguments_on;
+          };
+          added = subst (λ l. AreAdded start l log') (sym adds.joined) (added_twice start log log' kept ids adds.more u.added adds.added);
+          grown = grows_more first s s' level u.grown grown;
+          kept = keeps_twice start log log' u.kept kept;
+          told = told;
+          sound = λ levels order. sound levels (u.sound levels order);
+          waits = All-append (IsPart ns id) waiting kids (front (IsPart ns id) waiting t u.waits).0
+              (All-weaker (λ k. Contains (post_order (term_in ns t)) (term_in ns k)) (IsPart ns id)
+              (λ k has. part_of_part (term_in ns id) (term_in ns t) (term_in ns k) is_part has) kids
+              (arguments_are_parts (term_in ns) (term_in ns t) h kids term));
+          parts = parts_on s' only;
+        }

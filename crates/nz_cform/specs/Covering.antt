@@ -1,19 +1,34 @@
--- What it is that the covered terms have their gates in a log.
-use Rattle.std.specs.Prelude.{◌≡◌, ◌≢◌, ◌↔◌, ◌⊎◌, ℕ, ◌<◌, ◌≤◌, List, [], length, Option, Some, None, All, Contains, slice_get, option_map, unwrap_or}
+-- What it is that the covered terms have their clauses in a log: those of the gate table, of the link table and of the unit table.
+use Rattle.std.specs.Prelude.{◌≡◌, ◌≢◌, ◌↔◌, ◌⊎◌, ⊤, ℕ, ◌<◌, ◌≤◌, List, [], ◌++◌, length, Option, Some, None, All, Contains, IsSome, slice_get, option_map, unwrap_or}
 use Rattle.std.specs.List.{AllPairs}
-use Rattle.nz_spec.specs.Table.{Node}
+use Rattle.nz_spec.specs.FormOf.{number_in}
+use Rattle.nz_spec.specs.Links.{link_clauses}
 use Rattle.nz_spec.specs.Literal.{once}
+use Rattle.nz_spec.specs.Table.{Node, term_in}
+use Rattle.nz_spec.specs.Units.{unit_clauses}
+use Rattle.nz_lin.specs.declared.bound.Bound.{Bound}
 use Rattle.nz_log.specs.declared.atoms.Atom.{Atom}
+use Rattle.nz_log.specs.declared.atoms.Atom.TheVariants.{AtMost}
+use Rattle.nz_log.specs.declared.lits.Lit.{Lit}
 use Rattle.nz_log.specs.declared.term_lits.TermLit.{TermLit}
 use Rattle.nz_log.specs.Atoms.{HasTerm, Stay, lits_of}
+use Rattle.nz_log.specs.Axioms.{link_of, unit_of}
 use Rattle.nz_log.specs.Lits.{are_same_lit}
+use Rattle.nz_log.specs.Sound.{IsLog}
 use Rattle.nz_log.specs.TermLits.{gates_at}
-use Rattle.nz_log.specs.Logs.{Origin, gate_of, Entry, LogState, entry_at, IsLive, level_at, told_of, told_level}
+use Rattle.nz_log.specs.Logs.{Origin, gate_of, axiom_of, row_term, Entry, LogState, entry_at, IsLive, literals_at, level_at, told_of, told_level}
+use Rattle.nz_cform.specs.Listings.{ListingState, IsListedWithin, listed_at}
 use Rattle.nz_cform.specs.Forms.{FormState, covered_at, IsCoveredWithin}
 
 -- the arguments of the term of a number
 abbrev pub kids_at : List Node → ℕ → List ℕ
 kids_at ns t = elim (slice_get ns t) [ None ↦ [] | Some n ↦ n.kids ]
+
+-- how the clause of a number was made, where the log has one
+abbrev pub origin_at : LogState → ℕ → Option Origin
+origin_at log i = option_map (λ e. e.origin) (entry_at log i)
+
+-- ---- Clauses of the gate table
 
 -- the clause of this number of a term of the gate table, on terms
 abbrev pub gate_terms : List Node → ℕ → ℕ → List TermLit
@@ -31,21 +46,53 @@ gate_clause ns atoms t j level = record { literals = once are_same_lit (lits_of 
 abbrev pub HasGate : List Node → LogState → ℕ → ℕ → ℕ → Type 0
 HasGate ns log t j level = (i : ℕ) × (entry_at log i ≡ Some (gate_clause ns log.atoms t j level)) × AreNamed ns log.atoms t j
 
--- how the clause of a number was made, where the log has one
-abbrev pub origin_at : LogState → ℕ → Option Origin
-origin_at log i = option_map (λ e. e.origin) (entry_at log i)
+-- ---- Clauses of the tables
 
--- The gates in the log are those of the covered terms, each once, at the level of its term, which is the level told of it.
-pub record HasGates (ns : List Node) (log : LogState) (s : FormState) : Type 0 where
+-- The log has a clause that was made so, at a level.
+pub record HasClause (log : LogState) (o : Origin) (level : ℕ) : Type 0 where
+  pub id : ℕ
+  pub origin : origin_at log id ≡ Some o
+  pub at : level_at log id ≡ level
+
+-- The clause of a number is one of a table, of this term.
+abbrev pub IsRowAt : LogState → ℕ → ℕ → Type 0
+IsRowAt log i t = (o : Origin) × (origin_at log i ≡ Some o) × (row_term o ≡ Some t)
+
+-- the literals of the clause of a number are on atoms that are there
+abbrev pub IsOnAtoms : LogState → ℕ → Type 0
+IsOnAtoms log i = (l : Lit) → Contains (literals_at log i) l → l.atom < length log.atoms
+
+-- The clauses of the tables in the log are those of the covered terms, each once, on atoms that are there, at the level of its term, which is the level
+-- told of it.
+pub record HasRows (ns : List Node) (log : LogState) (s : FormState) : Type 0 where
   pub gates : (t n j : ℕ) → covered_at s t ≡ Some n → j < length (gates_at ns t) → HasGate ns log t j n
-  pub of_covered : (i t j : ℕ) → origin_at log i ≡ Some (gate_of t j) → covered_at s t ≡ Some (level_at log i)
-  pub once : (i k t j : ℕ) → origin_at log i ≡ Some (gate_of t j) → origin_at log k ≡ Some (gate_of t j) → i ≡ k
+  pub links : (t n j : ℕ) → covered_at s t ≡ Some n → j < length (link_clauses (number_in ns) (term_in ns t)) → HasClause log (axiom_of (link_of t j)) n
+  pub units : (t n j : ℕ) → covered_at s t ≡ Some n → j < length (unit_clauses (number_in ns) (term_in ns t)) → HasClause log (axiom_of (unit_of t j)) n
+  pub of_covered : (i t : ℕ) → IsRowAt log i t → covered_at s t ≡ Some (level_at log i)
+  pub once : (i k : ℕ) (o : Origin) → IsSome (row_term o) → origin_at log i ≡ Some o → origin_at log k ≡ Some o → i ≡ k
   pub told : (t : ℕ) → told_of log t ≡ covered_at s t
+  pub on_atoms : (i t : ℕ) → IsRowAt log i t → IsOnAtoms log i
 
--- The covered terms are of the table, their gates are in the log, and the arguments of each are covered, at or below its level.
+-- A clause of a table has a literal on an atom that is a bound.
+pub record HasBound (log : LogState) (i atom : ℕ) : Type 0 where
+  pub term : ℕ
+  pub row : IsRowAt log i term
+  pub literal : Lit
+  pub has : Contains (literals_at log i) literal
+  pub on : literal.atom ≡ atom
+  pub bound : Bound
+  pub is_bound : slice_get log.atoms atom ≡ Some (AtMost bound)
+
+-- The bounds that are listed are those of the clauses of the tables, each at the least level of these.
+pub record HasBounds (log : LogState) (s : FormState) : Type 0 where
+  pub listed : (i atom : ℕ) → HasBound log i atom → IsListedWithin s.bounds (level_at log i) atom
+  pub tabled : (atom n : ℕ) → listed_at s.bounds atom ≡ Some n → (i : ℕ) × HasBound log i atom × (level_at log i ≡ n)
+
+-- The covered terms are of the table, their clauses are in the log, with their bounds, and the arguments of each are covered, at or below its level.
 pub record Covers (ns : List Node) (log : LogState) (s : FormState) : Type 0 where
   pub within : (t n : ℕ) → covered_at s t ≡ Some n → t < length ns
-  pub gates : HasGates ns log s
+  pub rows : HasRows ns log s
+  pub bounds : HasBounds log s
   pub arguments : (t n : ℕ) → covered_at s t ≡ Some n → All (IsCoveredWithin s n) (kids_at ns t)
 
 -- ---- Changes of the log
@@ -55,22 +102,53 @@ pub record Keeps (old new : LogState) : Type 0 where
   pub clauses : (i : ℕ) → IsLive old i → entry_at new i ≡ entry_at old i
   pub atoms : Stay old.atoms new.atoms
 
--- The clauses that the log has more than before are those of these numbers, each once, and they are gates.
+-- The clauses that the log has more than before are those of these numbers, each once, and they are clauses of the tables.
 pub record AreAdded (old : LogState) (ids : List ℕ) (new : LogState) : Type 0 where
   pub live : (i : ℕ) → IsLive new i ↔ (IsLive old i ⊎ Contains ids i)
   pub fresh : All (λ i. IsLive old i → ⊥) ids
-  pub gates : All (λ i. (t : ℕ) × (j : ℕ) × (origin_at new i ≡ Some (gate_of t j))) ids
+  pub rows : All (λ i. (t : ℕ) × IsRowAt new i t) ids
   pub once : AllPairs (λ i k. i ≢ k) ids
+
+-- Clauses and atoms stay, what was told stays, and the log stays in order.
+pub record GoesOn (ns : List Node) (old new : LogState) : Type 0 where
+  pub keeps : Keeps old new
+  pub told : new.told ≡ old.told
+  pub sound : (levels : List (List ℕ)) → IsLog ns levels old → IsLog ns levels new
 
 -- ---- One term
 
--- The same where of one covered term just the gates below a number are in the log.
-pub record HasGatesBelow (ns : List Node) (log : LogState) (s : FormState) (term below : ℕ) : Type 0 where
-  pub gates : (t n j : ℕ) → covered_at s t ≡ Some n → j < length (gates_at ns t) → (t ≡ term → j < below) → HasGate ns log t j n
-  pub of_covered : (i t j : ℕ) → origin_at log i ≡ Some (gate_of t j) → covered_at s t ≡ Some (level_at log i)
-  pub put : (i j : ℕ) → origin_at log i ≡ Some (gate_of term j) → j < below
-  pub once : (i k t j : ℕ) → origin_at log i ≡ Some (gate_of t j) → origin_at log k ≡ Some (gate_of t j) → i ≡ k
+-- Clauses of the tables of a term were put, and their numbers come at the end of a list.
+pub record AddsRows (term : ℕ) (old : LogState) (before : List ℕ) (new : LogState) (after : List ℕ) : Type 0 where
+  pub more : List ℕ
+  pub joined : after ≡ before ++ more
+  pub added : AreAdded old more new
+  pub of_term : All (λ i. IsRowAt new i term) more
+
+-- the clause of a table that was made so is among the first ones of its term there, as many as these of each table
+abbrev pub IsBelow : (gates links units : ℕ) → Origin → Type 0
+IsBelow gates links units (gate_of t j) = j < gates
+IsBelow gates links units (axiom_of (link_of t j)) = j < links
+IsBelow gates links units (axiom_of (unit_of t j)) = j < units
+IsBelow gates links units o = ⊤
+
+-- It is as in `HasRows` where of one covered term just so many clauses of each table are in the log; no level told is above that of the term.
+pub record HasRowsBelow (ns : List Node) (log : LogState) (s : FormState) (term gate_count link_count unit_count : ℕ) : Type 0 where
+  pub gates : (t n j : ℕ) → covered_at s t ≡ Some n → j < length (gates_at ns t) → (t ≡ term → j < gate_count) → HasGate ns log t j n
+  pub links : (t n j : ℕ) → covered_at s t ≡ Some n → j < length (link_clauses (number_in ns) (term_in ns t)) → (t ≡ term → j < link_count) → HasClause log (axiom_of (link_of t j)) n
+  pub units : (t n j : ℕ) → covered_at s t ≡ Some n → j < length (unit_clauses (number_in ns) (term_in ns t)) → (t ≡ term → j < unit_count) → HasClause log (axiom_of (unit_of t j)) n
+  pub of_covered : (i t : ℕ) → IsRowAt log i t → covered_at s t ≡ Some (level_at log i)
+  pub once : (i l : ℕ) (o : Origin) → IsSome (row_term o) → origin_at log i ≡ Some o → origin_at log l ≡ Some o → i ≡ l
   pub told : (t : ℕ) → told_of log t ≡ covered_at s t
+  pub on_atoms : (i t : ℕ) → IsRowAt log i t → IsOnAtoms log i
+  pub put : (i : ℕ) (o : Origin) → row_term o ≡ Some term → origin_at log i ≡ Some o → IsBelow gate_count link_count unit_count o
   pub level : ℕ
   pub covered : covered_at s term ≡ Some level
   pub highest : (t : ℕ) → told_level log t ≤ level
+
+-- each bound of these clauses is listed
+abbrev pub AreBoundsListed : LogState → List ℕ → ListingState → Type 0
+AreBoundsListed log ids bounds = All (λ i. (atom : ℕ) → HasBound log i atom → IsSome (listed_at bounds atom)) ids
+
+-- what is listed and wasn't is a bound of one of these clauses
+abbrev pub AreBoundsOf : LogState → List ℕ → (old new : ListingState) → Type 0
+AreBoundsOf log ids old new = (atom : ℕ) → listed_at old atom ≡ None → IsSome (listed_at new atom) → (i : ℕ) × Contains ids i × HasBound log i atom

@@ -1,3 +1,5 @@
 pub mod Covering
 pub mod Forms
 pub mod Laws
+pub mod Listings
+pub mod Stops

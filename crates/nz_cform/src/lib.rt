@@ -1,9 +1,13 @@
-//! Clause form: the gates of terms and of all that they are made of, each once in a log, however often the terms are shared.
+//! Clause form: the clauses of terms and of all that they are made of, each once in a log, however often the terms are shared.
 //! What is added costs time and memory in proportion to what is new, and not to the table.
 #![tactic(auto)]
 
+mod bounds;
 mod form;
-mod gates;
 pub mod laws;
+mod listing;
+mod rows;
+mod stop;
 
 pub use form::ClauseForm;
+pub use stop::FormStop;

@@ -1,8 +1,7 @@
 //! The gates of terms that share arguments, each once.
+use crate::cover::Cover;
 use nz_base::Memory;
-use nz_cform::ClauseForm;
-use nz_cform::laws::covers_stay;
-use nz_log::Log;
+use nz_cform::FormStop;
 use nz_term::{Operator, Sort, TermId, Terms};
 use nz_term_samples::{constant, operation};
 use std::alloc::Global;
@@ -17,49 +16,36 @@ fn shared(terms: &mut Terms, alloc: Global) -> Result<TermId, Memory> {
     operation(terms, Operator::And, &[differ, agree])
 }
 
-// How many clauses a term adds, and how many terms are covered then: the first time, and once more.
-fn added_twice(alloc: Global, terms: &Terms, id: TermId) -> Result<[(usize, usize); 2], Memory> {
-    if terms.len() <= id {
-        return Err(Memory);
-    }
-    let mut log = Log::new(alloc)?;
-    let mut form = ClauseForm::new(alloc);
-    let clauses = form.add_term(&mut log, terms, id, 1)?;
-    let covered = form.terms().len();
-    let again = form.add_term(&mut log, terms, id, 1)?;
-    Ok([(clauses.len(), covered), (again.len(), form.terms().len())])
+// What it comes to: the first time, and once more.
+fn added_twice(alloc: Global) -> Result<[[usize; 3]; 2], FormStop> {
+    let mut terms = Terms::new(alloc)?;
+    let both = shared(&mut terms, alloc)?;
+    let mut cover = Cover::new(alloc, terms)?;
+    let first = cover.add(alloc, both, 1)?;
+    let again = cover.add(alloc, both, 1)?;
+    Ok([first, again])
 }
 
 #[test]
 fn shared_terms_have_their_gates_once(rt: HostRuntime) -> Result<(), Fail> {
-    let mut terms = Terms::new(rt.alloc())?;
-    let both = shared(&mut terms, rt.alloc())?;
-
     // Four of each of the two, and three of the conjunction.
-    assert_eq!(rt; added_twice(rt.alloc(), &terms, both)?, [(11, 5), (0, 5)]);
+    assert_eq!(rt; added_twice(rt.alloc())?, [[11, 5, 0], [0, 5, 0]]);
     Ok(())
 }
 
-// How many terms are covered once a term was added and cut, and how many clauses it then adds.
-fn added_anew(alloc: Global, terms: &Terms, id: TermId) -> Result<(usize, usize), Memory> {
-    if terms.len() <= id {
-        return Err(Memory);
-    }
-    covers_stay();
-    let mut log = Log::new(alloc)?;
-    let mut form = ClauseForm::new(alloc);
-    form.add_term(&mut log, terms, id, 1)?;
-    log.drop_above(0);
-    form.cut(0);
-    let covered = form.terms().len();
-    let anew = form.add_term(&mut log, terms, id, 2)?;
-    Ok((covered, anew.len()))
+// How many terms are covered once it was added and cut, and what it comes to then.
+fn added_anew(alloc: Global) -> Result<(usize, [usize; 3]), FormStop> {
+    let mut terms = Terms::new(alloc)?;
+    let both = shared(&mut terms, alloc)?;
+    let mut cover = Cover::new(alloc, terms)?;
+    cover.add(alloc, both, 1)?;
+    let covered = cover.cut(0);
+    let anew = cover.add(alloc, both, 2)?;
+    Ok((covered, anew))
 }
 
 #[test]
 fn what_is_cut_is_covered_anew(rt: HostRuntime) -> Result<(), Fail> {
-    let mut terms = Terms::new(rt.alloc())?;
-    let both = shared(&mut terms, rt.alloc())?;
-    assert_eq!(rt; added_anew(rt.alloc(), &terms, both)?, (0, 11));
+    assert_eq!(rt; added_anew(rt.alloc())?, (0, [11, 5, 0]));
     Ok(())
 }

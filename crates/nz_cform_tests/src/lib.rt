@@ -2,4 +2,8 @@
 #![tactic(auto)]
 
 #[cfg(test)]
+mod cover;
+#[cfg(test)]
 mod form;
+#[cfg(test)]
+mod rows;

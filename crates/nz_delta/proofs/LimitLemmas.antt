@@ -5,7 +5,7 @@ use Rattle.std.proofs.lemmas.Int.{ints}
 use Rattle.nz_fractions.specs.Fraction.{Fraction, denominator, whole, ◌=ℚ◌, ◌<ℚ◌, ◌+ℚ◌, neg_ℚ, fraction_cmp, fraction_lt, fraction_le, fraction_min, outcome, Difference, Operation, first_wide}
 use Rattle.nz_spec.specs.Infinitesimal.{Pair, is_limiting, limit, limits, limit_operations, least_from, chosen_delta, delta_operations}
 use Rattle.nz_fractions.proofs.Laws.{=ℚ_sym, =ℚ_trans, <ℚ_irrefl, ≤ℚ-from_eq}
-use Rattle.nz_fractions.proofs.Order.{fraction_ranked, fraction_cmp_is}
+use Rattle.nz_fractions.proofs.Order.{fraction_ranked, fraction_cmp_is, lt-cmp}
 use Rattle.nz_fractions.proofs.Arithmetic.{outcome-difference, +ℚ-neg, cmp-+ℚ}
 use Rattle.nz_delta.specs.declared.delta.Delta.{Delta}
 use Rattle.nz_delta.specs.Pairs.{pair_of}
@@ -36,15 +36,6 @@ below-from_cmp p q e = by_order (fraction_cmp p q) refl e
     by_order Less e t = fraction_ranked p q Less e
     by_order Equal e t = absurd (cc)
     by_order Greater e t = absurd (cc)
-
-pub lt-cmp : (p q : Fraction) → fraction_lt p q ≡ is_lt (fraction_cmp p q)
-unfolding fraction_lt fraction_cmp
-lt-cmp p q = by_tests (int_lt (p.numerator *ℤ pos (denominator q)) (q.numerator *ℤ pos (denominator p))) (int_lt (q.numerator *ℤ pos (denominator p)) (p.numerator *ℤ pos (denominator q)))
-  where
-    by_tests : (a b : Bool) → a ≡ is_lt (cond a Less (cond b Greater Equal))
-    by_tests true b = refl
-    by_tests false true = refl
-    by_tests false false = refl
 
 le-lt : (x y : ℤ) (b : Bool) → int_lt y x ≡ b → int_le x y ≡ not b
 le-lt x y true h = let e : false ≡ int_le x y = omega (arith, ints) in sym e

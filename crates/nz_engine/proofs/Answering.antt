@@ -8,7 +8,7 @@ use Rattle.nz_log.specs.Sound.{LogsStay}
 use Rattle.nz_cform.specs.Laws.{CoversStay}
 use Rattle.nz_engine.specs.Engines.{IsKept, IsLow, IsReadied, IsSettled}
 use Rattle.nz_engine.specs.Levels.{count_of}
-use Rattle.nz_engine.specs.Preparing.{PreparedState, CutsTo, IsPrepared}
+use Rattle.nz_engine.specs.Preparing.{PreparedState, CutsTo, IsPrepared, KeepsBounds}
 use Rattle.nz_engine.proofs.Going.{cut_prepared, goes_on, grown, standing}
 use Rattle.nz_engine.proofs.Placing.{GoOn, lower_or_not}
 
@@ -21,12 +21,12 @@ take_length n xs ys e long = let all = ap length (sym e) ∙ length-take n xs in
 
 -- what is cut to the last of the first levels
 pub settled : CoversStay → LogsStayLeveled → (ns : List Node) (old levels : List (List ℕ)) (p q : PreparedState) (last : ℕ) → take (length levels) old ≡ levels → suc last ≡ length levels
-    → CutsTo p last (count_of levels) q → IsReadied ns old p → IsSettled ns levels q
-settled covers leveled ns old levels p q last front end cuts r =
+    → CutsTo p last (count_of levels) q → KeepsBounds p.form q.form → IsReadied ns old p → IsSettled ns levels q
+settled covers leveled ns old levels p q last front end cuts keeps r =
     let same : take (suc last) old ≡ levels = ap (λ n. take n old) end ∙ front in
     let few : suc last ≤ length old = take_length (suc last) old levels same (sym end) in
     let own : CutsTo p last (count_of (take (suc last) old)) q = subst (λ ls. CutsTo p last (count_of ls) q) (sym same) cuts in
-    let cut = cut_prepared ns old (old ++ r.more ∷ []) p q last own r.standing.raised covers leveled in
+    let cut = cut_prepared ns old (old ++ r.more ∷ []) p q last own r.standing.raised covers leveled keeps in
     record {
       table = r.table;
       prepared = subst (λ ls. IsPrepared ns ls ls q) same (subst (λ ls. IsPrepared ns (take (suc last) old) ls q) (front_of old r.more (suc last) few) cut);

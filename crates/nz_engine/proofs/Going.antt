@@ -1,28 +1,35 @@
 -- What is prepared stays so when levels go on, when a level is put above them, when the table grows, and when levels are cut.
-use Rattle.std.proofs.Common.{◌≡◌, ℕ, suc, ◌<◌, ◌≤◌, ◌⊎◌, inl, inr, Bool, true, false, true≢false, List, [], ◌∷◌, ◌++◌, length, take, Option, Some, None, refl, sym, ap, subst, ◌∙◌, arith, cond}
-use Rattle.std.specs.Prelude.{All, Contains, IsSome, nat_le, unwrap_or, option_map, slice_get, if◌then◌else◌}
+use Rattle.std.proofs.Common.{◌≡◌, ℕ, suc, ◌<◌, ◌≤◌, ◌⊎◌, inl, inr, Bool, true, false, true≢false, List, [], ◌∷◌, ◌++◌, length, get_or, take, Option, Some, None, refl, sym, ap, subst, ◌∙◌, arith, cond}
+use Rattle.std.specs.Prelude.{All, Contains, IsSome, IsSomeAnd, filter, is_some, nat_le, unwrap_or, option_map, slice_get, if◌then◌else◌}
 use Rattle.std.specs.List.{AllByRecursion}
 use Rattle.std.proofs.lemmas.Bool.{leb-true, le-leb}
 use Rattle.std.proofs.lemmas.List.{length-append, take-append-le}
-use Rattle.std.proofs.lemmas.List.Elements.{All-contains, All-from_recursion, Contains-append_right, recursion_from_All}
+use Rattle.std.proofs.lemmas.List.Elements.{All-contains, All-contains_itself, All-from_recursion, All-weaker, Contains-append_right, recursion_from_All}
 use Rattle.nz_lists.proofs.Elements.{AllByRecursion-weaker}
 use Rattle.nz_lists.proofs.Options.{kept_if}
 use Rattle.nz_spec.specs.Table.{Node, IsTable, TermStays, term_in}
 use Rattle.nz_spec.specs.Order.{post_order}
 use Rattle.nz_spec.specs.Decide.{asserted_numbers}
+use Rattle.nz_spec.specs.Gates.{is_boolean_term}
+use Rattle.nz_spec.specs.Taken.{IsTaken}
 use Rattle.nz_log.specs.declared.atoms.Atom.{Atom}
-use Rattle.nz_log.specs.Atoms.{HasTerm, lit_of}
-use Rattle.nz_log.specs.Leveled.{LogsStayLeveled}
-use Rattle.nz_log.specs.Logs.{gate_of, Origin, Entry, entry_at, IsLive, level_at, literals_at, told_of, told_level, kept_below, told_below}
+use Rattle.nz_log.specs.declared.atoms.Atom.TheVariants.{Term, AtMost}
+use Rattle.nz_log.specs.declared.lits.Lit.{Lit}
+use Rattle.nz_log.specs.Atoms.{HasTerm, lit_of, terms_of}
+use Rattle.nz_log.specs.Leveled.{IsToldWithin, LogsStayLeveled}
+use Rattle.nz_log.specs.Logs.{Origin, Entry, empty_log, entry_at, IsLive, level_at, literals_at, told_of, told_level, kept_below, told_below}
 use Rattle.nz_log.specs.Sound.{live_at, LogsStay}
 use Rattle.nz_log.specs.TermLits.{yes}
-use Rattle.nz_cform.specs.Covering.{origin_at}
+use Rattle.nz_cform.specs.Covering.{IsRowAt, origin_at}
 use Rattle.nz_cform.specs.Forms.{covered_at}
+use Rattle.nz_cform.specs.Listings as listings
+use Rattle.nz_cform.specs.Listings.{ListingState, listed_at}
+use Rattle.nz_reals.proofs.Elements.{has_cases, has_none}
 use Rattle.nz_cform.specs.Laws.{CoversStay}
 use Rattle.nz_sat.specs.declared.clauses.Held.{Held}
 use Rattle.nz_sat.specs.Sats.{AreHeld, held_of, held_up_to}
 use Rattle.nz_engine.specs.Levels.{count_in, count_of}
-use Rattle.nz_engine.specs.Preparing.{PreparedState, AreOnTerms, HoldsUnit, IsOnTerm, IsMadeOf, IsPrepared, IsStanding, CutsTo, nothing_prepared}
+use Rattle.nz_engine.specs.Preparing.{PreparedState, AreSearched, HoldsUnit, IsMadeOf, IsOfForm, IsPrepared, IsSearched, IsStanding, CutsTo, KeepsBounds}
 use Rattle.nz_engine.proofs.Placing.{GoOn, count_all, count_cut, count_more, in_all, live_cut, longer_cut, lower_or_not, place_of, stands_there}
 
 pub none_or_some : {X : Type 0} (o : Option X) → (o ≡ None) ⊎ ((x : X) × (o ≡ Some x))
@@ -45,23 +52,24 @@ told_parts level (Some m) n at =
 pub made_of_more : (ns : List Node) (xs ys : List ℕ) (t : ℕ) → ((r : ℕ) → Contains xs r → Contains ys r) → IsMadeOf ns xs t → IsMadeOf ns ys t
 made_of_more ns xs ys t more h = record { root = h.root; has = more h.root h.has; within = h.within; part = h.part }
 
+pub some_of : {X : Type 0} (o : Option X) → IsSome o → (x : X) × (o ≡ Some x)
+some_of None h = absurd (true≢false (sym h))
+some_of (Some x) h = (x, refl)
+
+-- a level within another one is one
+pub some_within : (o : Option ℕ) (n : ℕ) → IsSomeAnd o (λ m. m ≤ n) → IsSome o
+some_within None n h = absurd h
+some_within (Some m) n h = refl
+
+-- a literal that was searched for is so still, where its atom is of the form still
+pub still_searched : (ns more : List Node) (p q : PreparedState) (i : ℕ) → ((a : Atom) → slice_get p.log.atoms i ≡ Some a → slice_get q.log.atoms i ≡ Some a)
+    → ((a : Atom) → slice_get p.log.atoms i ≡ Some a → IsOfForm ns p.form i a → IsOfForm more q.form i a) → IsSearched ns p.log p.form i → IsSearched more q.log q.form i
+still_searched ns more p q i stay of s = record { atom = s.atom; at = stay s.atom s.at; of = of s.atom s.at s.of }
+
 -- ---- Nothing yet
 
-pub none_prepared : LogsStay → CoversStay → LogsStayLeveled → (ns : List Node) (levels roots : List (List ℕ)) → IsPrepared ns levels roots nothing_prepared
-none_prepared stay covers leveled ns levels roots =
-    record {
-      order = stay.start ns levels;
-      covers = covers.start ns;
-      below = λ t n at. cc;
-      made = λ t n at. cc;
-      leveled = leveled.start;
-      held = All-from_recursion _ [] tt;
-      on_terms = All-from_recursion _ [] tt;
-      gates = λ i t j at. cc;
-      units = λ k t below at. absurd (omega (arith, below));
-      within = omega arith;
-      lower = λ t. omega arith;
-    }
+none_row : (i t : ℕ) → IsRowAt empty_log i t → ⊥
+none_row i t row = let at : origin_at empty_log i ≡ Some row.0 = row.1 in cc
 
 -- ---- Levels go on
 
@@ -95,7 +103,7 @@ module _ (ns : List Node) (old new : List (List ℕ)) (p : PreparedState) (on : 
       elim (told_or (told_of p.log t)) [
         | inl none ↦ subst (λ n. count_in new n ≤ p.given) (sym none) (omega arith)
         | inr some ↦
-            let below : told_level p.log t < length old = h.below t (told_level p.log t) (sym (h.covers.gates.told t) ∙ some) in
+            let below : told_level p.log t < length old = h.below t (told_level p.log t) (sym (h.covers.rows.told t) ∙ some) in
             subst (λ n. n ≤ p.given) (sym (on.counts (told_level p.log t) below)) (h.lower t)
       ]
 
@@ -107,10 +115,11 @@ module _ (ns : List Node) (old new : List (List ℕ)) (p : PreparedState) (on : 
         below = λ t n at. let low = h.below t n at in let longer = on.longer in omega (arith, low, longer);
         made = λ t n at. made_of_more ns (live_at old n) (live_at new n) t
             (λ r has. let place = place_of (live_at old n) r has in stands_there (live_at new n) place.0 r (on.more n place.0 r place.1)) (h.made t n at);
+        taken = h.taken;
         leveled = h.leveled;
         held = h.held;
-        on_terms = h.on_terms;
-        gates = h.gates;
+        searched = h.searched;
+        rows = h.rows;
         units = goes_units;
         within = let within = h.within in let total = on.total in omega (arith, within, total);
         lower = goes_lower;
@@ -127,10 +136,11 @@ raised ns levels more p h =
       made = λ t n at.
           let low = h.below t n at in
           subst (λ ls. IsMadeOf ns ls t) (sym (ap asserted_numbers (take-append-le (suc n) levels (more ∷ []) (omega (arith, low))))) (h.made t n at);
+      taken = h.taken;
       leveled = h.leveled;
       held = h.held;
-      on_terms = h.on_terms;
-      gates = h.gates;
+      searched = h.searched;
+      rows = h.rows;
       units = h.units;
       within = h.within;
       lower = h.lower;
@@ -140,6 +150,14 @@ pub standing : (ns : List Node) (levels : List (List ℕ)) (more : List ℕ) (p 
 standing ns levels more p h = record { raised = raised ns levels more p h; plain = λ e. h }
 
 -- ---- The table grows
+
+-- what is of the form over a table is so over one that goes on
+grown_of : TermStays → (ns more : List Node) (p : PreparedState) → ((t n : ℕ) → covered_at p.form t ≡ Some n → t < length ns) → (i : ℕ) (a : Atom)
+    → IsOfForm ns p.form i a → IsOfForm (ns ++ more) p.form i a
+grown_of terms ns more p within i (Term t) of =
+    let n = some_of (covered_at p.form t) of.0 in
+    (of.0, ap is_boolean_term (terms ns more t (within t n.0 n.1)) ∙ of.1)
+grown_of terms ns more p within i (AtMost b) of = of
 
 pub grown : TermStays → LogsStay → CoversStay → (ns more : List Node) (levels roots : List (List ℕ)) (p : PreparedState) → IsTable ns → IsPrepared ns levels roots p
     → IsPrepared (ns ++ more) levels roots p
@@ -159,10 +177,17 @@ grown terms stay covers ns more levels roots p table h =
             within = let long = length-append ns more in omega (arith, long, there);
             part = subst (λ u. Contains (post_order u) (term_in (ns ++ more) t)) (sym (terms ns more of.root there)) part;
           };
+      taken = λ t some.
+          let n = some_of (covered_at p.form t) some in
+          subst IsTaken (sym (terms ns more t (h.covers.within t n.0 n.1))) (h.taken t some);
       leveled = h.leveled;
       held = h.held;
-      on_terms = h.on_terms;
-      gates = h.gates;
+      searched = λ k d inside.
+          let x = get_or p.sat.clauses k d in
+          All-weaker (λ (l : Lit). IsSearched ns p.log p.form l.atom) (λ (l : Lit). IsSearched (ns ++ more) p.log p.form l.atom)
+          (λ l s. still_searched ns (ns ++ more) p p l.atom (λ a at. at) (λ a at of. grown_of terms ns more p h.covers.within l.atom a of) s)
+          (literals_at p.log x.id) (h.searched k d inside);
+      rows = h.rows;
       units = h.units;
       within = h.within;
       lower = h.lower;
@@ -227,6 +252,9 @@ told_low m None = (omega arith, omega arith)
 told_low m (Some n) = told_test m n (nat_le n m) refl
 
 module _ (ns : List Node) (levels roots : List (List ℕ)) (p q : PreparedState) (m : ℕ) (c : CutsTo p m (count_of (take (suc m) levels)) q) (h : IsPrepared ns levels roots p) where
+  c_terms : (t : ℕ) → covered_at q.form t ≡ told_below m (covered_at p.form t)
+  c_terms t = c.form.terms.levels t
+
   same_entry : (i : ℕ) → IsLive p.log i → level_at p.log i ≤ m → entry_at q.log i ≡ entry_at p.log i
   same_entry i live low = c.log.entries i ∙ entry_kept m (entry_at p.log i) live low
 
@@ -245,24 +273,53 @@ module _ (ns : List Node) (levels roots : List (List ℕ)) (p q : PreparedState)
       (subst (λ o. IsSome o) (sym same) k.0, ap (λ (o : Option Entry). elim o [ None ↦ 0 | Some e ↦ e.level ]) same ∙ k.1))
       p.sat.clauses (recursion_from_All P p.sat.clauses h.held)))
 
-  cut_on_terms : AreOnTerms q.log q.sat.clauses
-  cut_on_terms =
-      let P = λ (x : Held). (IsLive p.log x.id × (level_at p.log x.id ≡ x.level)) × All (IsOnTerm p.log.atoms) (literals_at p.log x.id) in
-      let Q = λ (x : Held). All (IsOnTerm q.log.atoms) (literals_at q.log x.id) in
-      subst (AreOnTerms q.log) (sym c.clauses)
+  -- a term that a clause below the level names is covered still
+  cut_covered : (x : Held) → IsLive p.log x.id → level_at p.log x.id ≤ m → (l : Lit) → Contains (literals_at p.log x.id) l → (t : ℕ) → slice_get p.log.atoms l.atom ≡ Some (Term t)
+      → IsSome (covered_at q.form t)
+  cut_covered x live low l has t at = of_entry (entry_at p.log x.id) refl live low has
+    where
+      told_stays : (o : Option ℕ) (k : ℕ) → k ≤ m → IsSomeAnd o (λ n. n ≤ k) → IsSome (told_below m o)
+      told_stays None k few h = absurd h
+      told_stays (Some n) k few h = subst (λ (b : Bool). IsSome (if b then Some n else None)) (sym (le-leb n m (omega (arith, few, h)))) refl
+
+      of_entry : (o : Option Entry) → entry_at p.log x.id ≡ o → IsSome o → elim o [ None ↦ 0 | Some e ↦ e.level ] ≤ m → Contains (elim o [ None ↦ [] | Some e ↦ e.literals ]) l → IsSome (covered_at q.form t)
+      of_entry None is some few c = absurd (true≢false (sym some))
+      of_entry (Some e) is some few c =
+          let names = h.leveled x.id e is l c in
+          let both : Some names.atom ≡ Some (Term t) = sym names.at ∙ at in
+          let one : names.atom ≡ Term t = cc in
+          let told : IsToldWithin p.log e.level t = (subst (λ (a : Atom). AllByRecursion (IsToldWithin p.log e.level) (terms_of a)) one names.terms).0 in
+          subst (λ (o : Option ℕ). IsSome o) (sym (c_terms t)) (subst (λ (o : Option ℕ). IsSome (told_below m o)) (h.covers.rows.told t) (told_stays (told_of p.log t) e.level few told))
+
+  cut_of : KeepsBounds p.form q.form → (x : Held) → IsLive p.log x.id → level_at p.log x.id ≤ m → (l : Lit) → Contains (literals_at p.log x.id) l → (a : Atom) → slice_get p.log.atoms l.atom ≡ Some a
+      → IsOfForm ns p.form l.atom a → IsOfForm ns q.form l.atom a
+  cut_of keeps x live low l has (Term t) at of = (cut_covered x live low l has t at, of.1)
+  cut_of keeps x live low l has (AtMost b) at of = keeps l.atom of
+
+  cut_searched : KeepsBounds p.form q.form → AreSearched ns q.log q.form q.sat.clauses
+  cut_searched keeps =
+      let P = λ (x : Held). (IsLive p.log x.id × (level_at p.log x.id ≡ x.level)) × All (λ (l : Lit). IsSearched ns p.log p.form l.atom) (literals_at p.log x.id) in
+      let Q = λ (x : Held). All (λ (l : Lit). IsSearched ns q.log q.form l.atom) (literals_at q.log x.id) in
+      subst (AreSearched ns q.log q.form) (sym c.clauses)
       (All-from_recursion Q (held_up_to m p.sat.clauses)
       (up_to P Q m
       (λ x low k.
-      let same = same_entry x.id k.0.0 (subst (λ n. n ≤ m) (sym k.0.1) low) in
-      subst (λ (atoms : List Atom). All (IsOnTerm atoms) (literals_at q.log x.id)) (sym c.log.atoms)
-      (subst (All (IsOnTerm p.log.atoms)) (sym (ap (λ (o : Option Entry). elim o [ None ↦ [] | Some e ↦ e.literals ]) same)) k.1))
-      p.sat.clauses (recursion_from_All P p.sat.clauses (λ k d inside. (h.held k d inside, h.on_terms k d inside)))))
+      let below : level_at p.log x.id ≤ m = subst (λ n. n ≤ m) (sym k.0.1) low in
+      let lits = literals_at p.log x.id in
+      let same : literals_at q.log x.id ≡ lits = ap (λ (o : Option Entry). elim o [ None ↦ [] | Some e ↦ e.literals ]) (same_entry x.id k.0.0 below) in
+      subst (All (λ (l : Lit). IsSearched ns q.log q.form l.atom)) (sym same)
+      (All-weaker (Contains lits) (λ (l : Lit). IsSearched ns q.log q.form l.atom)
+      (λ l has.
+      still_searched ns ns p q l.atom (λ a at. ap (λ (atoms : List Atom). slice_get atoms l.atom) c.log.atoms ∙ at)
+      (λ a at of. cut_of keeps x k.0.0 below l has a at of) (All-contains (λ (y : Lit). IsSearched ns p.log p.form y.atom) lits l k.1 has))
+      lits (All-contains_itself lits)))
+      p.sat.clauses (recursion_from_All P p.sat.clauses (λ k d inside. (h.held k d inside, h.searched k d inside)))))
 
-  cut_gates : (i t j : ℕ) → origin_at q.log i ≡ Some (gate_of t j) → Contains q.sat.clauses (held_of q.log i)
-  cut_gates i t j at =
-      let was = origin_kept m (gate_of t j) (entry_at p.log i) (ap (option_map (λ (e : Entry). e.origin)) (sym (c.log.entries i)) ∙ at) in
+  cut_rows : (i t : ℕ) → IsRowAt q.log i t → Contains q.sat.clauses (held_of q.log i)
+  cut_rows i t row =
+      let was = origin_kept m row.0 (entry_at p.log i) (ap (option_map (λ (e : Entry). e.origin)) (sym (c.log.entries i)) ∙ row.1) in
       subst (λ x. Contains q.sat.clauses x) (sym (held_of_same i was.0 was.1))
-      (subst (λ hs. Contains hs (held_of p.log i)) (sym c.clauses) (kept_up_to m p.sat.clauses (held_of p.log i) (h.gates i t j was.2) was.1))
+      (subst (λ hs. Contains hs (held_of p.log i)) (sym c.clauses) (kept_up_to m p.sat.clauses (held_of p.log i) (h.rows i t (row.0, was.2, row.2)) was.1))
 
   cut_units : (k t : ℕ) → k < q.given → slice_get (asserted_numbers (take (suc m) levels)) k ≡ Some t → HoldsUnit (take (suc m) levels) q k t
   cut_units k t below at =
@@ -298,22 +355,55 @@ module _ (ns : List Node) (levels roots : List (List ℕ)) (p q : PreparedState)
       let count = c.given in
       omega (arith, same, first, second, was, count)
 
-  pub cut_prepared : CoversStay → LogsStayLeveled → IsPrepared ns (take (suc m) levels) (take (suc m) roots) q
-  cut_prepared covers leveled =
+  pub cut_prepared : CoversStay → LogsStayLeveled → KeepsBounds p.form q.form → IsPrepared ns (take (suc m) levels) (take (suc m) roots) q
+  cut_prepared covers leveled keeps =
       record {
         order = c.sound ns levels h.order;
         covers = covers.dropped ns p.log q.log p.form q.form m c.log c.form h.covers;
         below = λ t n at.
-            let was = told_parts m (covered_at p.form t) n (sym (c.form.levels t) ∙ at) in
+            let was = told_parts m (covered_at p.form t) n (sym (c_terms t) ∙ at) in
             longer_cut roots m n was.1 (h.below t n was.0);
         made = λ t n at.
-            let was = told_parts m (covered_at p.form t) n (sym (c.form.levels t) ∙ at) in
+            let was = told_parts m (covered_at p.form t) n (sym (c_terms t) ∙ at) in
             subst (λ ls. IsMadeOf ns ls t) (sym (live_cut roots m n was.1)) (h.made t n was.0);
+        taken = λ t some.
+            let n = some_of (covered_at q.form t) some in
+            let was = told_parts m (covered_at p.form t) n.0 (sym (c_terms t) ∙ n.1) in
+            h.taken t (subst (λ (o : Option ℕ). IsSome o) (sym was.0) refl);
         leveled = leveled.dropped p.log q.log m c.log h.leveled;
         held = cut_held;
-        on_terms = cut_on_terms;
-        gates = cut_gates;
+        searched = cut_searched keeps;
+        rows = cut_rows;
         units = cut_units;
         within = let count = c.given in omega (arith, count);
         lower = cut_lower;
       }
+
+-- ---- Nothing is taken off
+
+filter_short : (f : ℕ → Bool) (xs : List ℕ) → length (filter f xs) ≤ length xs
+filter_short f [] = omega arith
+filter_short f (x ∷ xs) = by_test (f x) (filter_short f xs)
+  where
+    by_test : (b : Bool) → length (filter f xs) ≤ length xs → length (cond b (x ∷ filter f xs) (filter f xs)) ≤ suc (length xs)
+    by_test true rest = omega (arith, rest)
+    by_test false rest = omega (arith, rest)
+
+-- where no element is left out, each passes the test
+filter_all : (f : ℕ → Bool) (xs : List ℕ) → length (filter f xs) ≡ length xs → (y : ℕ) → Contains xs y → f y ≡ true
+filter_all f [] e y c = absurd (has_none y c)
+filter_all f (x ∷ xs) e y c = by_test (f x) refl e (λ k more. filter_all f xs k y more)
+  where
+    by_test : (b : Bool) → f x ≡ b → length (cond b (x ∷ filter f xs) (filter f xs)) ≡ suc (length xs) → (length (filter f xs) ≡ length xs → Contains xs y → f y ≡ true) → f y ≡ true
+    by_test true t k rest =
+        elim (has_cases x y xs c) [
+          | inl same ↦ ap f (sym same) ∙ t
+          | inr more ↦ rest (omega (arith, k)) more
+        ]
+    by_test false t k rest = let short = filter_short f xs in absurd (omega (arith, short, k))
+
+-- so what is cut to as many has all that there were
+pub all_kept : (old new : ListingState) (level : ℕ) → ((i : ℕ) → IsSome (listed_at old i) → Contains old.ids i) → listings.Cuts old level new → length new.ids ≡ length old.ids → (i : ℕ) → IsSome (listed_at old i)
+    → IsSome (listed_at new i)
+all_kept old new level listed cuts long i some =
+    filter_all (λ k. is_some (listed_at new k)) old.ids (ap length (sym cuts.ids) ∙ long) i (listed i some)

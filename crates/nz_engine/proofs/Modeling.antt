@@ -97,3 +97,41 @@ listed_truth ns p ts t c b has head bool found =
     let own : value_at ns p t ≡ (t, truth b) ∷ [] =
     ap (λ h. value_as t h (truth_in p t)) head ∙ ap (λ o. value_as t (Some (constant c)) o) found ∙ ap (λ x. if x then (t, truth b) ∷ [] else []) bool in
     listed_at ns p t b own ts has
+
+-- ---- Other values behind them
+
+-- what is listed first
+pub listed_first : (ps qs : List (ℕ × Value)) (i : ℕ) (v : Value) → listed_value ps i ≡ Some v → listed_value (ps ++ qs) i ≡ Some v
+listed_first [] qs i v e = absurd cc
+listed_first (p ∷ ps) qs i v e = by_test (p.0 == i) e (listed_first ps qs i v)
+  where
+    by_test : (b : Bool) → (if b then Some p.1 else listed_value ps i) ≡ Some v → (listed_value ps i ≡ Some v → listed_value (ps ++ qs) i ≡ Some v)
+        → (if b then Some p.1 else listed_value (ps ++ qs) i) ≡ Some v
+    by_test true f rest = f
+    by_test false f rest = rest f
+
+-- and what is listed behind
+pub listed_behind : (ps qs : List (ℕ × Value)) (i : ℕ) → listed_value ps i ≡ None → listed_value (ps ++ qs) i ≡ listed_value qs i
+listed_behind [] qs i e = refl
+listed_behind (p ∷ ps) qs i e = by_test (p.0 == i) e (listed_behind ps qs i)
+  where
+    by_test : (b : Bool) → (if b then Some p.1 else listed_value ps i) ≡ None → (listed_value ps i ≡ None → listed_value (ps ++ qs) i ≡ listed_value qs i)
+        → (if b then Some p.1 else listed_value (ps ++ qs) i) ≡ listed_value qs i
+    by_test true f rest = absurd cc
+    by_test false f rest = rest f
+
+-- a constant of another sort isn't among the truths
+pub no_truth : (ns : List Node) (p : PreparedState) (ts : List ℕ) (t : ℕ) (c : Constant) → option_map (λ (n : Node). n.head) (slice_get ns t) ≡ Some (constant c) → is_bool c.sort ≡ false
+    → listed_value (flat_map (value_at ns p) ts) t ≡ None
+no_truth ns p [] t c head other = refl
+no_truth ns p (u ∷ us) t c head other =
+    let rest = flat_map (value_at ns p) us in
+    elim (eqb_tells u t) [
+      | inl same ↦
+          ap (λ k. listed_value (value_at ns p k ++ rest) t) same.1 ∙ ap (λ (h : Option Head). listed_value (value_as t h (truth_in p t) ++ rest) t) head ∙ none (truth_in p t) ∙ no_truth ns p us t c head other
+      | inr differ ↦ skipped t u (option_map (λ (m : Node). m.head) (slice_get ns u)) (truth_in p u) rest differ.0 ∙ no_truth ns p us t c head other
+    ]
+  where
+    none : (o : Option Bool) → listed_value (value_as t (Some (constant c)) o ++ flat_map (value_at ns p) us) t ≡ listed_value (flat_map (value_at ns p) us) t
+    none None = refl
+    none (Some b) = ap (λ (x : Bool). listed_value ((if x then (t, truth b) ∷ [] else []) ++ flat_map (value_at ns p) us) t) other

@@ -1,133 +1,357 @@
--- Notes of atoms are legal: each is of what is asked, and none is named twice.
-use Rattle.std.proofs.Common.{◌≡◌, ◌≢◌, inl, inr, ℕ, zero, suc, ◌<◌, true, List, [], ◌∷◌, ◌++◌, length, get_or, take, map, Some, refl, sym, ap, ◌∙◌, subst, arith, append_assoc}
-use Rattle.std.specs.Prelude.{All, Contains, flat_map, slice_get}
+-- Notes of atoms are legal: each is of what is asked, and none is named twice. Where a list of them leads, the theory of no sum stands.
+use Rattle.std.proofs.Common.{◌≡◌, ◌≢◌, inl, inr, ℕ, zero, suc, ◌+◌, ◌<◌, Bool, true, false, List, [], ◌∷◌, ◌++◌, append-nil, length, get_or, take, map, Option, Some, None, option_map, Result, Ok, Err, refl, sym, ap, ◌∙◌, subst, arith, append_assoc}
+use Rattle.std.specs.Prelude.{All, Contains, flat_map, slice_get, slice_index_or, ⊤}
 use Rattle.std.specs.List.{AllByRecursion, AllPairs}
-use Rattle.std.proofs.lemmas.List.{take-map, map-append}
-use Rattle.std.proofs.lemmas.Option.{get_or_from_slice_get, slice_get_within}
-use Rattle.std.proofs.lemmas.List.Elements.{All-contains, All-contains_itself, All-from_recursion, All-head, All-map, All-tail, All-take, All-weaker, Contains-append_cases, Contains-append_left, Contains-append_right, recursion_from_All}
-use Rattle.nz_spec.specs.Term.{Term, apply, Terms, no_terms, terms}
+use Rattle.std.proofs.lemmas.List.{length-map, map-append, take_all, take_more}
+use Rattle.std.proofs.lemmas.Option.{get_or_from_slice_get, slice_get-get_or, slice_get_within}
+use Rattle.std.proofs.lemmas.List.Elements.{All-contains, All-contains_itself, All-from_recursion, All-map, All-take, All-weaker, Contains-append_cases, Contains-append_left, Contains-append_right, recursion_from_All}
 use Rattle.nz_lists.proofs.Elements.{AllByRecursion-append, AllByRecursion-weaker}
 use Rattle.nz_lists.proofs.Places.{slice_get_kept}
-use Rattle.nz_spec.specs.Table.{Node, HasOneNumberEach, term_in}
-use Rattle.nz_spec.specs.Order.{post_order, post_orders, companions, listing_order, listing_orders}
+use Rattle.nz_spec.specs.Bland.{Point}
 use Rattle.nz_spec.specs.Decide.{asserted_numbers, asserted_terms}
-use Rattle.nz_spec.specs.Literal.{StandOnce}
-use Rattle.nz_spec.specs.Gates.{is_boolean_term}
-use Rattle.nz_spec.specs.Work.{WorkLine, UnitLine, NoteLine, WorkList, unit_count}
-use Rattle.nz_spec.specs.Reply as reply
-use Rattle.nz_spec.specs.Legal.{Task, Search, at_first, after_line, AreLegal}
+use Rattle.nz_spec.specs.Gates.{holds}
+use Rattle.nz_spec.specs.Legal.{Task, Search, IsAtom, MayFollow, MayName, Lead, at_first, no_point, after_line, after_lines, literal_by, told_literals, AreLegal}
+use Rattle.nz_spec.specs.Literal.{Literal, term_literal, is_at_most, is_below, negation_of, are_same_literal, StandOnce, TellsLiterals}
+use Rattle.nz_spec.specs.Notes as spec
+use Rattle.nz_spec.specs.Notes.{atom_note, form_note}
+use Rattle.nz_spec.specs.Order.{post_order, post_orders, companions, listing_order, listing_orders}
+use Rattle.nz_spec.specs.Table.{Node, IsTable, term_in}
+use Rattle.nz_spec.specs.Term.{falsum, Term, apply, Terms, no_terms, terms}
+use Rattle.nz_spec.specs.Work.{WorkLine, UnitLine, NoteLine, WorkList, unit_count, with_line}
+use Rattle.nz_lin.specs.Bounds.{bounded}
+use Rattle.nz_lin.specs.Forms.{parts_over}
+use Rattle.nz_log.specs.declared.atoms.Atom as log
+use Rattle.nz_log.specs.declared.atoms.Atom.TheVariants as atoms
+use Rattle.nz_log.specs.declared.lits.Lit.{Lit}
 use Rattle.nz_log.specs.declared.term_lits.TermLit.{TermLit}
 use Rattle.nz_log.specs.declared.note.Note.{Note}
-use Rattle.nz_log.specs.declared.note.Note.TheVariants.{Atom}
+use Rattle.nz_log.specs.declared.note.Note.TheVariants.{Atom, Bound, Form, Told}
+use Rattle.nz_log.specs.declared.stop.Stop.{Stop}
+use Rattle.nz_log.specs.declared.stop.Stop.TheVariants.{Wide, Spent, Memory}
+use Rattle.nz_log.specs.Atoms.{AreAtoms, IsAtomIn, IsNormal, TellsLits, atom_in, with_sign}
+use Rattle.nz_log.specs.Lits.{are_same_lit}
 use Rattle.nz_log.specs.Notes.{noted_line, noted_list, AreNotedWithin}
+use Rattle.nz_log.specs.Standing.{Standing, Ends, Stands, search_after}
 use Rattle.nz_log.specs.Verdicts.{task_in}
-use Rattle.nz_sat.specs.Numbers.{noted_atoms}
-use Rattle.nz_engine.specs.Checking.{NotesFirst, Works, terms_named, with_atoms}
-use Rattle.nz_engine.proofs.Orders.{ArePlain, HasNoNumber, parts_boolean}
+use Rattle.nz_reals.specs.Joins.{IsNumberIn}
+use Rattle.nz_reals.specs.Stands.{IsAt}
+use Rattle.nz_reals.specs.State.{empty_theory}
+use Rattle.nz_sat.specs.Numbers.{AreBeginnings, IsAtomAt, IsBeginning, atom_literal, noted_atoms}
+use Rattle.nz_engine.specs.Checking.{AreNumbered, EndsWith, HasBegun, MayBegin, NotesAll, NotesFirst, NotesForms, atom_at, atom_lines, form_lines, note_of, terms_named}
 use Rattle.nz_engine.proofs.Placing.{in_second, lower_or_not, place_of}
 
--- the lines that note these
-abbrev pub notes_of : List ℕ → List (WorkLine Note)
-notes_of ids = map (λ (t : ℕ). NoteLine (Atom t)) ids
+-- ---- Lists of lines
 
--- a term that a search may name, if it hasn't
-abbrev pub IsNameable : Task → Term → Type 0
-IsNameable q t = Contains q.listed t × (is_boolean_term t ≡ true)
+-- where the search stands after lines and then others
+after_both : (s : Search) (xs ys : List (WorkLine spec.Note)) → after_lines s (xs ++ ys) ≡ after_lines (after_lines s xs) ys
+after_both s [] ys = refl
+after_both s (x ∷ xs) ys = after_both (after_line s x) xs ys
 
--- what is in a mapped list is of one of its elements
-from_map : (f : ℕ → Term) (xs : List ℕ) (y : Term) → Contains (map f xs) y → (x : ℕ) × Contains xs x × (f x ≡ y)
-from_map f xs y c =
-    let P = λ (z : Term). z ≡ y → (x : ℕ) × Contains xs x × (f x ≡ y) in
-    All-contains P (map f xs) y
-    (All-map P f xs (All-weaker (Contains xs) (λ x. P (f x)) (λ x has e. (x, has, e)) xs (All-contains_itself xs))) c refl
+lines_both : (ns : List Node) (xs ys : List (WorkLine Note)) → map (noted_line ns) (xs ++ ys) ≡ map (noted_line ns) xs ++ map (noted_line ns) ys
+lines_both ns xs ys = map-append (noted_line ns) xs ys
 
--- numbers of a table, each once, of terms that may be named: each may be named after those before it
-legal_names : (q : Task) (ns : List Node) → HasOneNumberEach ns → (seen ids : List ℕ) (s : Search) → s.atoms ≡ map (term_in ns) seen
-    → StandOnce (seen ++ ids) → AllByRecursion (λ t. t < length ns) seen → AllByRecursion (λ t. t < length ns) ids → AllByRecursion (λ t. IsNameable q (term_in ns t)) ids
-    → AreLegal q s (map (noted_line ns) (notes_of ids))
-legal_names q ns one seen [] s same once before within each = tt
-legal_names q ns one seen (i ∷ ids) s same once before within each =
-    let joined : (seen ++ i ∷ []) ++ ids ≡ seen ++ i ∷ ids = append_assoc seen (i ∷ []) ids in
-    let fresh : Contains s.atoms (term_in ns i) → ⊥ = λ c.
-    let was = from_map (term_in ns) seen (term_in ns i) (subst (λ ts. Contains ts (term_in ns i)) same c) in
-    let inside = All-contains (λ t. t < length ns) seen was.0 (All-from_recursion (λ t. t < length ns) seen before) was.1 in
-    let number : was.0 ≡ i = one was.0 i inside within.0 was.2 in
-    let place = place_of seen was.0 was.1 in
-    let first : slice_get (seen ++ i ∷ ids) place.0 ≡ Some i = slice_get_kept seen (i ∷ ids) place.0 was.0 place.1 ∙ ap Some number in
-    let second : slice_get (seen ++ i ∷ ids) (length seen) ≡ Some i = in_second seen (i ∷ ids) (length seen) 0 (omega arith) in
-    let meet : place.0 ≡ length seen = once place.0 (length seen) i first second in
-    let below = slice_get_within seen place.0 was.0 place.1 in
-    omega (arith, meet, below) in (
-      record { listed = each.0.0; boolean = each.0.1; fresh = fresh },
-      legal_names q ns one (seen ++ i ∷ []) ids (record s { atoms = s.atoms ++ term_in ns i ∷ [] })
-          (ap (λ ts. ts ++ term_in ns i ∷ []) same ∙ sym (map-append (term_in ns) seen (i ∷ [])))
-          (subst StandOnce (sym joined) once)
-          (AllByRecursion-append (λ t. t < length ns) seen (i ∷ []) before (within.0, tt)) within.1 each.1,
+-- forms that join name no atom
+forms_name_none : (ns : List Node) (s : Search) (ks : List ℕ) → (after_lines s (map (noted_line ns) (form_lines ks))).atoms ≡ s.atoms
+forms_name_none ns s [] = refl
+forms_name_none ns s (k ∷ ks) = forms_name_none ns (after_line s (NoteLine (form_note k))) ks
+
+-- so the list knows an atom by its number still
+pub numbered_still : (ns : List Node) (all : List log.Atom) (i k : ℕ) (old new : WorkList Note) → NotesForms old new → IsNumberIn ns all i k old → IsNumberIn ns all i k new
+numbered_still ns all i k old new forms h =
+    let same : (search_after ns new).atoms ≡ (search_after ns old).atoms =
+    ap (λ (w : WorkList Note). (search_after ns w).atoms) forms.noted
+    ∙ ap (λ (ls : List (WorkLine spec.Note)). (after_lines at_first ls).atoms) (lines_both ns old.lines (form_lines forms.forms))
+    ∙ ap (λ (s : Search). s.atoms) (after_both at_first (map (noted_line ns) old.lines) (map (noted_line ns) (form_lines forms.forms)))
+    ∙ forms_name_none ns (search_after ns old) forms.forms in
+    record {
+      named = subst (λ (ls : List Literal). k < length ls) (sym same) h.named;
+      says = ap (λ (ls : List Literal). literal_by ls (k, true)) same ∙ h.says;
+    }
+
+-- ---- Atoms that are named
+
+module _ (tells : TellsLits) (tells_spec : TellsLiterals) (ns : List Node) (table : IsTable ns) (all : List log.Atom) (are : AreAtoms all) where
+  abbrev lit : ℕ → Literal
+  lit i = atom_literal ns all i
+
+  abbrev own : ℕ → Lit
+  own i = record { atom = i; sign = true }
+
+  -- what an atom says
+  says : (i : ℕ) (a : log.Atom) → slice_get all i ≡ Some a → lit i ≡ atom_in ns a
+  says i a at = ap (λ (o : Option log.Atom). elim o [ None ↦ term_literal (term_in ns 0) true | Some x ↦ with_sign true (atom_in ns x) ]) at
+
+  note_says : (a : log.Atom) → noted_line ns (NoteLine (note_of a)) ≡ NoteLine (atom_note (atom_in ns a))
+  note_says (atoms.Term t) = refl
+  note_says (atoms.AtMost b) = refl
+
+  line_says : (i : ℕ) → IsAtomAt ns all i → noted_line ns (NoteLine (note_of (atom_at all i))) ≡ NoteLine (atom_note (lit i))
+  line_says i h =
+      ap (λ (a : log.Atom). noted_line ns (NoteLine (note_of a))) (get_or_from_slice_get all i h.atom (atoms.Term 0) h.at) ∙ note_says h.atom
+      ∙ ap (λ (l : Literal). NoteLine (atom_note l)) (sym (says i h.atom h.at))
+
+  -- two atoms that say the same are one
+  one_atom : (i j : ℕ) → IsAtomAt ns all i → IsAtomAt ns all j → lit j ≡ lit i → j ≡ i
+  one_atom i j h k same =
+      let alike : are_same_literal (lit j) (lit i) ≡ true = subst (λ (l : Literal). are_same_literal (lit j) l ≡ true) same (tells_spec.one (lit j)) in
+      let test : are_same_lit (own j) (own i) ≡ true = sym (tells.agree ns table all are (own j) (own i) k h) ∙ alike in
+      ap (λ (l : Lit). l.atom) (tells.same (own j) (own i) test)
+
+  -- no atom says what the negation of one does
+  abbrev IsPositive : Literal → Type 0
+  IsPositive (term_literal t true) = ⊤
+  IsPositive (term_literal t false) = ⊥
+  IsPositive (is_at_most ps b) = ⊤
+  IsPositive (is_below ps b) = ⊥
+
+  positive_atom : (a : log.Atom) → IsNormal a → IsPositive (atom_in ns a)
+  positive_atom (atoms.Term t) normal = tt
+  positive_atom (atoms.AtMost b) normal =
+      subst (λ (s : Bool). IsPositive (bounded s (parts_over ns b.sides.parts) b.sides.offset)) (sym normal) tt
+
+  normal_at : (xs : List log.Atom) (i : ℕ) (a : log.Atom) → AllByRecursion IsNormal xs → slice_get xs i ≡ Some a → IsNormal a
+  normal_at xs i a h at =
+      All-contains IsNormal xs a (All-from_recursion IsNormal xs h) (i, slice_get_within xs i a at, get_or_from_slice_get xs i a a at)
+
+  positive : (i : ℕ) → IsAtomAt ns all i → IsPositive (lit i)
+  positive i h = subst IsPositive (sym (says i h.atom h.at)) (positive_atom h.atom (normal_at all i h.atom are.normal h.at))
+
+  negated : (l : Literal) → IsPositive l → IsPositive (negation_of l) → ⊥
+  negated (term_literal t true) h k = absurd k
+  negated (term_literal t false) h k = absurd h
+  negated (is_at_most ps b) h k = absurd k
+  negated (is_below ps b) h k = absurd h
+
+  -- what is in a mapped list is of one of its elements
+  from_map : (f : ℕ → Literal) (xs : List ℕ) (y : Literal) → Contains (map f xs) y → (x : ℕ) × Contains xs x × (f x ≡ y)
+  from_map f xs y c =
+      let P = λ (z : Literal). z ≡ y → (x : ℕ) × Contains xs x × (f x ≡ y) in
+      All-contains P (map f xs) y
+      (All-map P f xs (All-weaker (Contains xs) (λ x. P (f x)) (λ x has e. (x, has, e)) xs (All-contains_itself xs))) c refl
+
+  -- each may be named after those before it
+  lead_names : (q : Task) (seen ids : List ℕ) (s : Search) → s.atoms ≡ map lit seen → StandOnce (seen ++ ids) → AllByRecursion (IsAtomAt ns all) seen → AllByRecursion (IsAtomAt ns all) ids
+      → AllByRecursion (λ i. IsAtom q (lit i)) ids → Lead q s no_point (map (noted_line ns) (atom_lines all ids)) no_point
+  lead_names q seen [] s same once before within each = refl
+  lead_names q seen (i ∷ ids) s same once before within each =
+      let joined : (seen ++ i ∷ []) ++ ids ≡ seen ++ i ∷ ids = append_assoc seen (i ∷ []) ids in
+      let fresh : Contains s.atoms (lit i) → ⊥ = λ c.
+      let was = from_map lit seen (lit i) (subst (λ (ls : List Literal). Contains ls (lit i)) same c) in
+      let inside = All-contains (IsAtomAt ns all) seen was.0 (All-from_recursion (IsAtomAt ns all) seen before) was.1 in
+      let number : was.0 ≡ i = one_atom i was.0 within.0 inside was.2 in
+      let place = place_of seen was.0 was.1 in
+      let first : slice_get (seen ++ i ∷ ids) place.0 ≡ Some i = slice_get_kept seen (i ∷ ids) place.0 was.0 place.1 ∙ ap Some number in
+      let second : slice_get (seen ++ i ∷ ids) (length seen) ≡ Some i = in_second seen (i ∷ ids) (length seen) 0 (omega arith) in
+      let meet : place.0 ≡ length seen = once place.0 (length seen) i first second in
+      let below = slice_get_within seen place.0 was.0 place.1 in
+      omega (arith, meet, below) in
+      let other : Contains s.atoms (negation_of (lit i)) → ⊥ = λ c.
+      let was = from_map lit seen (negation_of (lit i)) (subst (λ (ls : List Literal). Contains ls (negation_of (lit i))) same c) in
+      let inside = All-contains (IsAtomAt ns all) seen was.0 (All-from_recursion (IsAtomAt ns all) seen before) was.1 in
+      negated (lit i) (positive i within.0) (subst IsPositive was.2 (positive was.0 inside)) in
+      let may : MayName q s (lit i) = record { atom = each.0; fresh = fresh; negation_fresh = other } in
+      let rest : Lead q (after_line s (NoteLine (atom_note (lit i)))) no_point (map (noted_line ns) (atom_lines all ids)) no_point =
+      lead_names q (seen ++ i ∷ []) ids (record s { atoms = s.atoms ++ lit i ∷ [] })
+      (ap (λ (ls : List Literal). ls ++ lit i ∷ []) same ∙ sym (map-append lit seen (i ∷ [])))
+      (subst StandOnce (sym joined) once)
+      (AllByRecursion-append (IsAtomAt ns all) seen (i ∷ []) before (within.0, tt)) within.1 each.1 in
+      subst (λ (line : WorkLine spec.Note). (mid : Point) × MayFollow q s no_point line mid × Lead q (after_line s line) mid (map (noted_line ns) (atom_lines all ids)) no_point)
+      (sym (line_says i within.0)) (no_point, (may, refl), rest)
+
+  -- where the search stands then
+  after_names : (ids : List ℕ) (s : Search) → AllByRecursion (IsAtomAt ns all) ids → after_lines s (map (noted_line ns) (atom_lines all ids)) ≡ record s { atoms = s.atoms ++ map lit ids }
+  after_names [] s within = ap (λ (ls : List Literal). record s { atoms = ls }) (sym (append-nil s.atoms))
+  after_names (i ∷ ids) s within =
+      ap (λ (line : WorkLine spec.Note). after_lines (after_line s line) (map (noted_line ns) (atom_lines all ids))) (line_says i within.0)
+      ∙ after_names ids (record s { atoms = s.atoms ++ lit i ∷ [] }) within.1
+      ∙ ap (λ (ls : List Literal). record s { atoms = ls }) (append_assoc s.atoms (lit i ∷ []) (map lit ids))
+
+  module _ (q : Task) (ids : List ℕ) (may : MayBegin ns q all ids) (work : WorkList Note) where
+    each_within : AllByRecursion (IsAtomAt ns all) ids
+    each_within = recursion_from_All (IsAtomAt ns all) ids may.within
+
+    stood : work.lines ≡ atom_lines all ids → search_after ns work ≡ record at_first { atoms = map lit ids }
+    stood lines = ap (λ (ls : List (WorkLine Note)). after_lines at_first (map (noted_line ns) ls)) lines ∙ after_names ids at_first each_within
+
+    -- the theory of no sum stands there
+    pub stands_first : work.lines ≡ atom_lines all ids → Stands (IsAt empty_theory ns) ns q work
+    stands_first lines =
+        record {
+          point = no_point;
+          legal = subst (λ (ls : List (WorkLine Note)). Lead q at_first no_point (map (noted_line ns) ls) no_point) (sym lines)
+              (lead_names q [] ids at_first refl may.once tt each_within (recursion_from_All (λ i. IsAtom q (lit i)) ids may.nameable));
+          at = subst (λ (s : Search). IsAt empty_theory ns s.forms (told_literals s) no_point) (sym (stood lines))
+              (record {
+                over = record { table = table; units = tt };
+                forms = refl;
+                literals = refl;
+                point = refl;
+                bounds = record { lower = refl; upper = refl };
+                marks = λ r told at. cc;
+              });
+        }
+
+    -- and the list knows each atom by its place
+    pub numbered_first : work.lines ≡ atom_lines all ids → AreNumbered ns all ids work
+    numbered_first lines k i at =
+        let atoms_are : (search_after ns work).atoms ≡ map lit ids = ap (λ (s : Search). s.atoms) (stood lines) in
+        let inside = slice_get_within ids k i at in
+        let long = length-map ids lit in
+        record {
+          named = subst (λ (ls : List Literal). k < length ls) (sym atoms_are) (omega (arith, inside, long));
+          says = ap (λ (ls : List Literal). slice_index_or ls k (holds (apply falsum no_terms))) atoms_are ∙ get_or_from_slice_get (map lit ids) k (lit i) (holds (apply falsum no_terms)) (mapped ids k at);
+        }
+      where
+        mapped : (xs : List ℕ) (j : ℕ) → slice_get xs j ≡ Some i → slice_get (map lit xs) j ≡ Some (lit i)
+        mapped [] j e = cc
+        mapped (x ∷ xs) zero e = ap (option_map lit) e
+        mapped (x ∷ xs) (suc j) e = mapped xs j e
+
+    -- a front of the notes is legal
+    pub legal_first : (n : ℕ) → work.lines ≡ atom_lines all (take n ids) → AreLegal q (noted_list ns work).lines
+    legal_first n lines = (
+      no_point,
+      subst (λ (ls : List (WorkLine Note)). Lead q at_first no_point (map (noted_line ns) ls) no_point) (sym lines)
+          (lead_names q [] (take n ids) at_first refl (once_front n ids may.once) tt
+          (recursion_from_All (IsAtomAt ns all) (take n ids) (All-take (IsAtomAt ns all) n ids may.within))
+          (recursion_from_All (λ i. IsAtom q (lit i)) (take n ids) (All-take (λ i. IsAtom q (lit i)) n ids may.nameable))),
     )
+      where
+        in_front : (k n : ℕ) (xs : List ℕ) (x : ℕ) → slice_get (take n xs) k ≡ Some x → slice_get xs k ≡ Some x
+        in_front k zero xs x e = cc
+        in_front k (suc n) [] x e = cc
+        in_front zero (suc n) (y ∷ xs) x e = e
+        in_front (suc k) (suc n) (y ∷ xs) x e = in_front k n xs x e
 
--- the front of a legal list is legal
-legal_front : (q : Task) (s : Search) (n : ℕ) (lines : List (WorkLine reply.Note)) → AreLegal q s lines → AreLegal q s (take n lines)
-legal_front q s zero lines h = tt
-legal_front q s (suc n) [] h = tt
-legal_front q s (suc n) (line ∷ lines) h = (h.0, legal_front q (after_line s line) n lines h.1)
+        once_front : (n : ℕ) (xs : List ℕ) → StandOnce xs → StandOnce (take n xs)
+        once_front n xs h i j x a b = h i j x (in_front i n xs x a) (in_front j n xs x b)
 
--- ---- Lines
+-- ---- What lines note
 
 -- what is noted is of the table where each atom is
-within_by_atoms : (ns : List Node) (lines : List (WorkLine Note)) → All (λ t. t < length ns) (noted_atoms lines) → AreNotedWithin ns lines
+pub within_by_atoms : (ns : List Node) (lines : List (WorkLine Note)) → AllByRecursion (IsAtomIn ns) (noted_atoms lines) → AreNotedWithin ns lines
 within_by_atoms ns [] h = tt
-within_by_atoms ns (NoteLine (Atom t) ∷ lines) h =
-    (All-head (λ u. u < length ns) t (noted_atoms lines) h, within_by_atoms ns lines (All-tail (λ u. u < length ns) t (noted_atoms lines) h))
+within_by_atoms ns (NoteLine (Atom t) ∷ lines) h = (h.0, within_by_atoms ns lines h.1)
+within_by_atoms ns (NoteLine (Bound b) ∷ lines) h = (h.0, within_by_atoms ns lines h.1)
+within_by_atoms ns (NoteLine (Form k) ∷ lines) h = (tt, within_by_atoms ns lines h)
+within_by_atoms ns (NoteLine (Told k sign) ∷ lines) h = (tt, within_by_atoms ns lines h)
 within_by_atoms ns (UnitLine entry ∷ lines) h = within_by_atoms ns lines h
 
-pub atoms_noted : (ids : List ℕ) → noted_atoms (notes_of ids) ≡ ids
-atoms_noted [] = refl
-atoms_noted (i ∷ ids) = ap (λ is. i ∷ is) (atoms_noted ids)
+forms_noted : (ks : List ℕ) → noted_atoms (form_lines ks) ≡ []
+forms_noted [] = refl
+forms_noted (k ∷ ks) = forms_noted ks
 
-pub no_units : (ids : List ℕ) → unit_count (notes_of ids) ≡ 0
-no_units [] = refl
-no_units (i ∷ ids) = no_units ids
+named_by : (a : log.Atom) (lines : List (WorkLine Note)) → noted_atoms (NoteLine (note_of a) ∷ lines) ≡ a ∷ noted_atoms lines
+named_by (atoms.Term t) lines = refl
+named_by (atoms.AtMost b) lines = refl
 
-pub lines_noted : (ids : List ℕ) (old new : WorkList Note) → old.lines ≡ [] → new ≡ with_atoms old ids → new.lines ≡ notes_of ids
-lines_noted ids old new none e = ap (λ w. w.lines) e ∙ ap (λ ls. ls ++ notes_of ids) none
+begun_noted : (all : List log.Atom) (ids ks : List ℕ) → noted_atoms (atom_lines all ids ++ form_lines ks) ≡ map (atom_at all) ids
+begun_noted all [] ks = forms_noted ks
+begun_noted all (i ∷ ids) ks = named_by (atom_at all i) (atom_lines all ids ++ form_lines ks) ∙ ap (λ (xs : List log.Atom). atom_at all i ∷ xs) (begun_noted all ids ks)
 
--- a front of the notes
-pub works_first : (q : Task) (ns : List Node) (ids : List ℕ) (old new : WorkList Note) → HasOneNumberEach ns → old.lines ≡ [] → StandOnce ids
-    → All (λ t. t < length ns) ids → All (λ t. IsNameable q (term_in ns t)) ids → NotesFirst ids old new → Works ns q old new
-works_first q ns ids old new one none once within each n =
-    let front : List ℕ = take n.count ids in
-    let lines : new.lines ≡ notes_of front = lines_noted front old new none n.noted in
-    let legal : AreLegal q at_first (map (noted_line ns) (notes_of ids)) =
-    legal_names q ns one [] ids at_first refl once tt (recursion_from_All (λ t. t < length ns) ids within) (recursion_from_All (λ t. IsNameable q (term_in ns t)) ids each) in
-    let some : take n.count (map (noted_line ns) (notes_of ids)) ≡ map (noted_line ns) (notes_of front) =
-    take-map (noted_line ns) n.count (notes_of ids) ∙ ap (map (noted_line ns)) (take-map (λ (t : ℕ). NoteLine (Atom t)) n.count ids) in
+-- atoms of a table
+atoms_there : (ns : List Node) (all : List log.Atom) (ids : List ℕ) → AllByRecursion (IsAtomAt ns all) ids → AllByRecursion (IsAtomIn ns) (map (atom_at all) ids)
+atoms_there ns all [] h = tt
+atoms_there ns all (i ∷ ids) h =
+    (subst (IsAtomIn ns) (sym (get_or_from_slice_get all i h.0.atom (atoms.Term 0) h.0.at)) h.0.within, atoms_there ns all ids h.1)
+
+pub begun_within : (ns : List Node) (all : List log.Atom) (ids : List ℕ) (old new : WorkList Note) → All (IsAtomAt ns all) ids → HasBegun all ids old new
+    → AllByRecursion (IsAtomIn ns) (noted_atoms new.lines)
+begun_within ns all ids old new within h =
+    subst (AllByRecursion (IsAtomIn ns)) (sym (ap noted_atoms h.lines ∙ begun_noted all (take h.count ids) h.forms))
+    (atoms_there ns all (take h.count ids) (recursion_from_All (IsAtomAt ns all) (take h.count ids) (All-take (IsAtomAt ns all) h.count ids within)))
+
+-- no unit is among them
+note_no_unit : (all : List log.Atom) (ids ks : List ℕ) → unit_count (atom_lines all ids ++ form_lines ks) ≡ 0
+note_no_unit all [] [] = refl
+note_no_unit all [] (k ∷ ks) = note_no_unit all [] ks
+note_no_unit all (i ∷ ids) ks = note_no_unit all ids ks
+
+pub begun_units : (all : List log.Atom) (ids : List ℕ) (old new : WorkList Note) → HasBegun all ids old new → unit_count new.lines ≡ 0
+begun_units all ids old new h = ap unit_count h.lines ∙ note_no_unit all (take h.count ids) h.forms
+
+-- they are beginnings
+beginning : (a : log.Atom) → IsBeginning (NoteLine (note_of a))
+beginning (atoms.Term t) = tt
+beginning (atoms.AtMost b) = tt
+
+beginnings : (all : List log.Atom) (ids ks : List ℕ) → AreBeginnings (atom_lines all ids ++ form_lines ks)
+beginnings all [] [] = tt
+beginnings all [] (k ∷ ks) = (tt, beginnings all [] ks)
+beginnings all (i ∷ ids) ks = (beginning (atom_at all i), beginnings all ids ks)
+
+there_all : (all : List log.Atom) (ids : List ℕ) → AllByRecursion (λ i. i < length all) ids → map (slice_get all) ids ≡ map Some (map (atom_at all) ids)
+there_all all [] h = refl
+there_all all (i ∷ ids) h =
+    let first : slice_get all i ≡ Some (atom_at all i) = slice_get-get_or all i (atoms.Term 0) h.0 in
+    let rest = there_all all ids h.1 in
+    λ k. first k ∷ rest k
+
+pub notes_all : (all : List log.Atom) (ids ks : List ℕ) (work : WorkList Note) → All (λ i. i < length all) ids → work.lines ≡ atom_lines all ids ++ form_lines ks → NotesAll all ids work
+notes_all all ids ks work within lines =
     record {
-      legal = subst (λ ls. AreLegal q at_first (map (noted_line ns) ls)) (sym lines) (subst (AreLegal q at_first) some (legal_front q at_first n.count (map (noted_line ns) (notes_of ids)) legal));
-      named = subst (AreNotedWithin ns) (sym lines) (within_by_atoms ns (notes_of front) (subst (All (λ t. t < length ns)) (sym (atoms_noted front)) (All-take (λ t. t < length ns) n.count ids within)));
-      limit = ap (λ w. w.limit) n.noted;
+      noted = there_all all ids (recursion_from_All (λ i. i < length all) ids within) ∙ ap (map Some) (sym (ap noted_atoms lines ∙ begun_noted all ids ks));
+      beginnings = subst AreBeginnings (sym lines) (beginnings all ids ks);
     }
 
--- nothing is noted yet
-pub works_none : (q : Task) (ns : List Node) (old new : WorkList Note) → old.lines ≡ [] → new ≡ old → Works ns q old new
-works_none q ns old new none e =
-    let lines : new.lines ≡ [] = ap (λ w. w.lines) e ∙ none in
+-- ---- Lines of a search that begins
+
+pub noted_lines : (all : List log.Atom) (ids : List ℕ) (old new : WorkList Note) → old.lines ≡ [] → new ≡ record old { lines = old.lines ++ atom_lines all ids } → new.lines ≡ atom_lines all ids
+noted_lines all ids old new none e = ap (λ (w : WorkList Note). w.lines) e ∙ ap (λ ls. ls ++ atom_lines all ids) none
+
+-- one atom more is noted
+pub notes_more : (all : List log.Atom) (ids : List ℕ) (n d : ℕ) (old work new : WorkList Note) (note : Note) → n < length ids
+    → work ≡ record old { lines = old.lines ++ atom_lines all (take n ids) } → note ≡ note_of (atom_at all (get_or ids n d)) → new ≡ with_line work (NoteLine note)
+    → new ≡ record old { lines = old.lines ++ atom_lines all (take (n + 1) ids) }
+notes_more all ids n d old work new note below before is step =
+    let line = λ (i : ℕ). NoteLine (note_of (atom_at all i)) in
+    step ∙ ap (λ (w : WorkList Note). with_line w (NoteLine note)) before
+    ∙ ap (λ (ls : List (WorkLine Note)). record old { lines = ls })
+    (append_assoc old.lines (atom_lines all (take n ids)) (NoteLine note ∷ [])
+    ∙ ap (λ (ls : List (WorkLine Note)). old.lines ++ ls)
+    (ap (λ (m : Note). atom_lines all (take n ids) ++ NoteLine m ∷ []) is ∙ sym (map-append line (take n ids) (get_or ids n d ∷ [])) ∙ ap (atom_lines all) (sym (take_more ids n d below))))
+
+-- the first so many atoms
+pub begun_first : (all : List log.Atom) (ids : List ℕ) (old new : WorkList Note) → old.lines ≡ [] → NotesFirst all ids old new → HasBegun all ids old new
+begun_first all ids old new none h =
     record {
-      legal = subst (λ ls. AreLegal q at_first (map (noted_line ns) ls)) (sym lines) tt;
-      named = subst (AreNotedWithin ns) (sym lines) tt;
-      limit = ap (λ w. w.limit) e;
+      count = h.count;
+      forms = [];
+      lines = noted_lines all (take h.count ids) old new none h.noted ∙ sym (append-nil (atom_lines all (take h.count ids)));
+      limit = ap (λ (w : WorkList Note). w.limit) h.noted;
     }
 
--- what a search did behind notes of atoms
-pub works_solved : (q : Task) (ns : List Node) (atoms : List ℕ) (old mid new : WorkList Note) → Works ns q old mid → mid.lines ≡ notes_of atoms → All (λ t. t < length ns) atoms
-    → (AreLegal q at_first (noted_list ns mid).lines → AreLegal q at_first (noted_list ns new).lines) → noted_atoms new.lines ≡ noted_atoms mid.lines → new.limit ≡ mid.limit
-    → Works ns q old new
-works_solved q ns atoms old mid new works lines within legal notes limit =
-    let same : noted_atoms new.lines ≡ atoms = notes ∙ ap noted_atoms lines ∙ atoms_noted atoms in
+-- all atoms, and then forms
+pub begun_more : (all : List log.Atom) (ids : List ℕ) (old mid new : WorkList Note) → mid.lines ≡ atom_lines all ids → mid.limit ≡ old.limit → NotesForms mid new → HasBegun all ids old new
+begun_more all ids old mid new lines limit h =
     record {
-      legal = legal works.legal;
-      named = within_by_atoms ns new.lines (subst (All (λ t. t < length ns)) (sym same) within);
-      limit = limit ∙ works.limit;
+      count = length ids;
+      forms = h.forms;
+      lines = ap (λ (w : WorkList Note). w.lines) h.noted ∙ ap (λ ls. ls ++ form_lines h.forms) (lines ∙ ap (atom_lines all) (sym (take_all (length ids) ids (omega arith))));
+      limit = ap (λ (w : WorkList Note). w.limit) h.noted ∙ limit;
     }
+
+-- ---- Stops
+
+pub ends_stopped : (A : Type 0) (IsThere : Standing) (ns : List Node) (q : Task) (work : WorkList Note) (e : Stop) → Ends {A = A} IsThere ns q work (Err e) → EndsWith ns q work e
+ends_stopped A IsThere ns q work (Wide place) h = h
+ends_stopped A IsThere ns q work Spent h = h
+ends_stopped A IsThere ns q work Memory h = h
+
+stopped_ends : (A : Type 0) (IsThere : Standing) (ns : List Node) (q : Task) (work : WorkList Note) (e : Stop) → EndsWith ns q work e → Ends {A = A} IsThere ns q work (Err e)
+stopped_ends A IsThere ns q work (Wide place) h = h
+stopped_ends A IsThere ns q work Spent h = h
+stopped_ends A IsThere ns q work Memory h = h
+
+pub err_ends : (A : Type 0) (IsThere : Standing) (ns : List Node) (q : Task) (work : WorkList Note) (e : Stop) (r : Result A Stop) → Err e ≡ r → EndsWith ns q work e → Ends {A = A} IsThere ns q work r
+err_ends A IsThere ns q work e r same h = subst (Ends {A = A} IsThere ns q work) same (stopped_ends A IsThere ns q work e h)
+
+-- whatever comes of a call, the lines are legal
+pub ends_legal : {A : Type 0} (IsThere : Standing) (ns : List Node) (q : Task) (work : WorkList Note) (r : Result A Stop) → Ends IsThere ns q work r → AreLegal q (noted_list ns work).lines
+ends_legal IsThere ns q work (Ok x) h = (h.point, h.legal)
+ends_legal IsThere ns q work (Err (Wide place)) h = (h.point, h.legal)
+ends_legal IsThere ns q work (Err Spent) h = h
+ends_legal IsThere ns q work (Err Memory) h = h
 
 -- ---- None is noted twice
 
@@ -175,26 +399,7 @@ named_terms : (ns : List Node) (ls : List TermLit) → map (term_in ns) (terms_n
 named_terms ns [] = refl
 named_terms ns (l ∷ ls) = ap (λ ts. term_in ns l.term ∷ ts) (named_terms ns ls)
 
-both : {X : Type 0} (P Q : X → Type 0) (xs : List X) → AllByRecursion P xs → AllByRecursion Q xs → AllByRecursion (λ x. P x × Q x) xs
-both P Q [] h k = tt
-both P Q (x ∷ xs) h k = ((h.0, k.0), both P Q xs h.1 k.1)
-
--- so each of them may be named
-pub nameable : (ns : List Node) (levels : List (List ℕ)) (assumed : List TermLit) → ArePlain ns (asserted_numbers levels ++ terms_named assumed)
-    → AllByRecursion (IsNameable (task_in ns levels assumed)) (flat_map post_order (map (term_in ns) (asserted_numbers levels ++ terms_named assumed)))
-nameable ns levels assumed plain =
-    let roots = asserted_numbers levels ++ terms_named assumed in
-    let ts = map (term_in ns) roots in
-    let all = flat_map post_order ts in
-    let q = task_in ns levels assumed in
-    let same : ts ≡ asserted_terms ns levels ++ map (λ (l : TermLit). term_in ns l.term) assumed =
-    map-append (term_in ns) (asserted_numbers levels) (terms_named assumed) ∙ ap (λ us. asserted_terms ns levels ++ us) (named_terms ns assumed) in
-    let listed : (u : Term) → Contains all u → Contains q.listed u = λ u c. subst (λ us. Contains (flat_map listing_order us) u) same (each_listed ts u c) in
-    let contains : AllByRecursion (Contains q.listed) all = recursion_from_All (Contains q.listed) all (All-weaker (Contains all) (Contains q.listed) listed all (All-contains_itself all)) in
-    let numberless : AllByRecursion HasNoNumber ts = recursion_from_All HasNoNumber ts (All-map HasNoNumber (term_in ns) roots plain) in
-    both (Contains q.listed) (λ t. is_boolean_term t ≡ true) all contains (parts_boolean ts numberless)
-
--- what one of the roots is made of may be named
+-- what one of the roots is made of is listed
 each_root : (f : ℕ → Term) (rs : List ℕ) → AllByRecursion (λ r. (u : Term) → Contains (post_order (f r)) u → Contains (flat_map post_order (map f rs)) u) rs
 each_root f [] = tt
 each_root f (r ∷ rs) =
@@ -204,7 +409,17 @@ each_root f (r ∷ rs) =
           (λ s h u c. Contains-append_right (post_order (f r)) rest u (h u c)) rs (each_root f rs),
     )
 
-pub part_of_roots : (f : ℕ → Term) (rs : List ℕ) (r : ℕ) → Contains rs r → (u : Term) → Contains (post_order (f r)) u → Contains (flat_map post_order (map f rs)) u
+part_of_roots : (f : ℕ → Term) (rs : List ℕ) (r : ℕ) → Contains rs r → (u : Term) → Contains (post_order (f r)) u → Contains (flat_map post_order (map f rs)) u
 part_of_roots f rs r has =
     let P : ℕ → Type 0 = λ s. (u : Term) → Contains (post_order (f s)) u → Contains (flat_map post_order (map f rs)) u in
     All-contains P rs r (All-from_recursion P rs (each_root f rs)) has
+
+-- what a root is made of is listed in what is asked
+pub listed_part : (ns : List Node) (levels : List (List ℕ)) (assumed : List TermLit) (r : ℕ) → Contains (asserted_numbers levels ++ terms_named assumed) r → (u : Term)
+    → Contains (post_order (term_in ns r)) u → Contains (task_in ns levels assumed).listed u
+listed_part ns levels assumed r has u part =
+    let roots = asserted_numbers levels ++ terms_named assumed in
+    let same : map (term_in ns) roots ≡ asserted_terms ns levels ++ map (λ (l : TermLit). term_in ns l.term) assumed =
+    map-append (term_in ns) (asserted_numbers levels) (terms_named assumed) ∙ ap (λ us. asserted_terms ns levels ++ us) (named_terms ns assumed) in
+    subst (λ (us : List Term). Contains (flat_map listing_order us) u) same
+    (each_listed (map (term_in ns) roots) u (part_of_roots (term_in ns) roots r has u part))

@@ -95,13 +95,6 @@ module _ (levels : List (List ℕ)) (place n left : ℕ) (below : n < length lev
         behind = omega (arith, behind);
       }
 
-  -- or behind it
-  pub placed_behind : length (get_or levels n []) ≤ left → (rest : ℕ) → rest + length (get_or levels n []) ≡ left → count_in levels (suc n) + rest ≡ place
-  placed_behind past rest e =
-      let more = ap length (next_level levels n below) in
-      let both = length-append (asserted_numbers (take n levels)) (get_or levels n []) in
-      omega (arith, more, both, behind, e)
-
 module _ (levels : List (List ℕ)) (k t n : ℕ) (placed : IsPlaced levels k t n) where
   pub placed_count : k < count_in levels (suc n)
   placed_count = slice_get_within (live_at levels n) k t placed.live

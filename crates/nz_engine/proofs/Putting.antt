@@ -1,43 +1,39 @@
 -- What is prepared stays so when a term is covered, when an assertion is given, and when a search has learned.
-use Rattle.std.proofs.Common.{◌≡◌, ℕ, suc, ◌<◌, ◌≤◌, inl, inr, true, false, max, List, [], ◌∷◌, ◌++◌, length, get_or, map, Option, Some, None, refl, sym, ap, subst, ◌∙◌, arith}
+use Rattle.std.proofs.Common.{◌≡◌, ℕ, suc, ◌<◌, ◌≤◌, inl, inr, Bool, true, false, max, List, [], ◌∷◌, ◌++◌, length, get_or, map, Option, Some, None, refl, sym, ap, subst, ◌∙◌, arith}
 use Rattle.std.specs.Prelude.{All, Contains, IsSome, IsSomeAnd, slice_get, slice_index_or, unwrap_or, option_map}
 use Rattle.std.specs.List.{AllByRecursion}
 use Rattle.std.proofs.lemmas.Bool.Decides.{eqb_tells}
-use Rattle.std.proofs.lemmas.List.{append-nil, length-map}
-use Rattle.std.proofs.lemmas.List.Elements.{All-append, All-contains, All-contains_itself, All-from_recursion, All-map, All-nil, All-weaker, Contains-append_left, Contains-append_right, Contains-push, recursion_from_All}
+use Rattle.std.proofs.lemmas.List.{append-nil}
+use Rattle.std.proofs.lemmas.List.Elements.{All-append, All-contains, All-contains_itself, All-from_recursion, All-map, All-weaker, Contains-append_left, Contains-append_right, Contains-push}
 use Rattle.std.proofs.lemmas.Option.{slice_get_within}
-use Rattle.nz_lists.proofs.Elements.{AllByRecursion-map, AllByRecursion-weaker}
+use Rattle.nz_lists.proofs.Elements.{AllByRecursion-weaker}
 use Rattle.nz_spec.specs.Table.{Node, IsTable, term_in}
-use Rattle.nz_spec.specs.Term.{holds_number}
 use Rattle.nz_spec.specs.Decide.{asserted_numbers}
-use Rattle.nz_spec.specs.Literal.{clause_of}
-use Rattle.nz_spec.specs.Gates.{gate_clauses}
+use Rattle.nz_spec.specs.Gates.{is_boolean_term}
+use Rattle.nz_spec.specs.Literal.{term_literal}
+use Rattle.nz_spec.specs.Taken.{IsTaken, TakenTermsAreInOrder}
 use Rattle.nz_log.specs.declared.atoms.Atom.{Atom}
-use Rattle.nz_log.specs.declared.atoms.Atom.TheVariants.{Term}
+use Rattle.nz_log.specs.declared.atoms.Atom.TheVariants.{Term, AtMost}
 use Rattle.nz_log.specs.declared.lits.Lit.{Lit}
 use Rattle.nz_log.specs.declared.term_lits.TermLit.{TermLit}
-use Rattle.nz_log.specs.Atoms.{AreAtoms, AtomsOfTerms, HasTerm, clause_in, lit_of, lits_of, terms_at, terms_of}
+use Rattle.nz_log.specs.Atoms.{AreAtoms, AtomsOfTerms, HasTerm, atom_in, literal_in, lit_of, lits_of, term_place, terms_at, terms_of, with_sign}
 use Rattle.nz_log.specs.Leveled.{IsToldWithin, IsLeveled, LogsStayLeveled, Names}
-use Rattle.nz_log.specs.Logs.{Origin, assertion_of, axiom_of, gate_of, chain_of, Entry, JoinsAtoms, LogState, entry_at, IsLive, literals_at, level_at, level_of_terms, told_of, told_level, Puts, given_entry}
-use Rattle.nz_log.specs.Sound.{IsLog, IsMade, live_at, GatesAreNamed, LogsStay}
-use Rattle.nz_log.specs.TermLits.{clause_of_terms, gates_at, yes}
+use Rattle.nz_log.specs.Logs.{Origin, assertion_of, row_term, Entry, JoinsAtoms, LogState, entry_at, IsLive, literals_at, level_at, level_of_terms, told_level, Puts, given_entry}
+use Rattle.nz_log.specs.Sound.{IsLog, live_at, LogsStay}
+use Rattle.nz_log.specs.TermLits.{yes}
 use Rattle.nz_log.specs.Theories as theories
-use Rattle.nz_cform.specs.Covering.{Covers, HasGate, Keeps, gate_clause, gate_terms, kids_at, origin_at}
+use Rattle.nz_cform.specs.Covering.{Covers, IsRowAt, Keeps, origin_at}
 use Rattle.nz_cform.specs.Forms.{FormState, IsCoveredWithin, covered_at}
-use Rattle.nz_cform.specs.Laws.{CoversStay}
+use Rattle.nz_cform.specs.Listings.{listed_at}
+use Rattle.nz_cform.specs.Laws.{CoversStay, RowsNameCovered}
 use Rattle.nz_sat.specs.declared.clauses.Held.{Held}
 use Rattle.nz_sat.specs.Sats.{AreHeld, HoldsMore, held_of}
 use Rattle.nz_engine.specs.Levels.{IsPlaced, count_in}
-use Rattle.nz_engine.specs.Preparing.{PreparedState, AreOnTerms, CoversAlso, HoldsUnit, IsMadeOf, IsOnTerm, IsPrepared, unit_of}
-use Rattle.nz_engine.proofs.GateNames.{gate_named, once_from}
-use Rattle.nz_engine.proofs.Going.{none_or_some}
+use Rattle.nz_engine.specs.Preparing.{PreparedState, AreSearched, CoversAlso, HoldsUnit, IsMadeOf, IsOfForm, IsPrepared, IsSearched, unit_of}
+use Rattle.nz_engine.proofs.Going.{none_or_some, some_of, some_within, still_searched}
 use Rattle.nz_engine.proofs.Placing.{count_more, placed_in_all}
-
-pub contains_map : {X Y : Type 0} (f : X → Y) (xs : List X) (x : X) → Contains xs x → Contains (map f xs) (f x)
-contains_map f xs x c =
-    All-contains (λ y. Contains (map f xs) (f y)) xs x
-    (All-from_recursion (λ y. Contains (map f xs) (f y)) xs
-    (AllByRecursion-map (Contains (map f xs)) f xs (recursion_from_All (Contains (map f xs)) (map f xs) (All-contains_itself (map f xs))))) c
+use Rattle.nz_engine.specs.SearchLaws.{RowLaws}
+use Rattle.nz_engine.proofs.RowFacts.{IsRowLiteral, contains_map, of_row}
 
 -- ---- Logs in which each clause stays
 
@@ -75,13 +71,20 @@ module _ (old new : LogState) (kept : Keeps old new) where
         behind = u.behind;
       }
 
-  -- literals on terms among clauses that are held
-  still_on_terms : (hs : List Held) → AreHeld old hs → AreOnTerms old hs → AreOnTerms new hs
-  still_on_terms hs held on k d inside =
+  -- what is searched for among clauses that are held
+  still_all : (ns : List Node) (p q : PreparedState) → p.log ≡ old → q.log ≡ new → ((i : ℕ) (a : Atom) → IsOfForm ns p.form i a → IsOfForm ns q.form i a) → (hs : List Held) → AreHeld old hs
+      → AreSearched ns p.log p.form hs → AreSearched ns q.log q.form hs
+  still_all ns p q was is of hs held on k d inside =
       let x = get_or hs k d in
       let own = held k d inside in
-      All-weaker (IsOnTerm old.atoms) (IsOnTerm new.atoms) (λ l t. (t.0, kept.atoms l.atom (Term t.0) t.1)) (literals_at new x.id)
-      (subst (All (IsOnTerm old.atoms)) (sym (literals_kept x.id own.0)) (on k d inside))
+      let same : literals_at q.log x.id ≡ literals_at p.log x.id = ap (λ (s : LogState). literals_at s x.id) is ∙ literals_kept x.id own.0 ∙ ap (λ (s : LogState). literals_at s x.id) (sym was) in
+      subst (All (λ (l : Lit). IsSearched ns q.log q.form l.atom)) (sym same)
+      (All-weaker (λ (l : Lit). IsSearched ns p.log p.form l.atom) (λ (l : Lit). IsSearched ns q.log q.form l.atom)
+      (λ l s.
+      still_searched ns ns p q l.atom
+      (λ a at. ap (λ (t : LogState). slice_get t.atoms l.atom) is ∙ kept.atoms l.atom a (ap (λ (t : LogState). slice_get t.atoms l.atom) (sym was) ∙ at))
+      (λ a at f. of l.atom a f) s)
+      (literals_at p.log x.id) (on k d inside))
 
   -- what a literal names is told within a level still
   still_names : (n : ℕ) (l : Lit) → ((t : ℕ) → IsToldWithin old n t → IsToldWithin new n t) → Names (IsToldWithin old n) old.atoms l → Names (IsToldWithin new n) new.atoms l
@@ -102,26 +105,6 @@ lives s i o at = of_some (entry_at s i) at
 
 -- ---- A term is covered
 
--- a gate of a log in order is one of the table
-gate_inside : GatesAreNamed → (ns : List Node) → IsTable ns → (levels : List (List ℕ)) (s : LogState) (i : ℕ) (e : Entry) (t j : ℕ) (o : Origin) → o ≡ gate_of t j
-    → IsMade ns levels s i e o → j < length (gates_at ns t)
-gate_inside named ns table levels s i e t j (assertion_of k) same made = absurd cc
-gate_inside named ns table levels s i e t j (chain_of first ks) same made = absurd cc
-gate_inside named ns table levels s i e t j (axiom_of a) same made = absurd cc
-gate_inside named ns table levels s i e t j (gate_of u k) same made =
-    let term : u ≡ t = cc in
-    let number : k ≡ j = cc in
-    let some = is_there clause_of (slice_get (gate_clauses (term_in ns u)) k) (Some (clause_in ns s.atoms e.literals)) made.2 refl in
-    let inside = slice_get_within (gate_clauses (term_in ns u)) k some.0 some.1 in
-    let long = ap length (named ns table u made.0) in
-    let also = length-map (gates_at ns u) (clause_of_terms ns) in
-    let below : k < length (gates_at ns u) = omega (arith, inside, long, also) in
-    subst (λ n. n < length (gates_at ns t)) number (subst (λ v. k < length (gates_at ns v)) term below)
-  where
-    is_there : {X Y : Type 0} (f : X → Y) (x : Option X) (o : Option Y) → option_map f x ≡ o → IsSome o → (z : X) × (x ≡ Some z)
-    is_there f None o e some = absurd (let none : IsSome (option_map f None) = subst (λ y. IsSome y) (sym e) some in cc)
-    is_there f (Some z) o e some = (z, refl)
-
 -- a literal of a mapped list is of one of its elements
 pub from_lits : (atoms : List Atom) (c : List TermLit) (l : Lit) → Contains (lits_of atoms c) l → (m : TermLit) × Contains c m × (lit_of atoms m ≡ l)
 from_lits atoms c l has =
@@ -129,58 +112,65 @@ from_lits atoms c l has =
     All-contains P (lits_of atoms c) l
     (All-map P (lit_of atoms) c (All-weaker (Contains c) (λ m. P (lit_of atoms m)) (λ m there is. (m, there, is)) c (All-contains_itself c))) has refl
 
--- A literal is on a term that is covered up to a level.
-record IsOfCovered (atoms : List Atom) (f : FormState) (level : ℕ) (l : Lit) : Type 0 where
-  term : ℕ
-  at : slice_get atoms l.atom ≡ Some (Term term)
-  within : IsCoveredWithin f level term
+-- a literal on a term, with a sign, is on a Boolean one where a row has it
+sign_boolean : (ns : List Node) (u : ℕ) (sign : Bool) → IsRowLiteral (with_sign sign (term_literal (term_in ns u) true)) → is_boolean_term (term_in ns u) ≡ true
+sign_boolean ns u true h = h
+sign_boolean ns u false h = h
 
--- each gate names what is covered up to its level
-gate_covered : GatesAreNamed → (ns : List Node) → IsTable ns → (levels : List (List ℕ)) (s : LogState) (f : FormState) → IsLog ns levels s → Covers ns s f
-    → (i : ℕ) (e : Entry) (t j : ℕ) → entry_at s i ≡ Some e → e.origin ≡ gate_of t j → (l : Lit) → Contains e.literals l → IsOfCovered s.atoms f e.level l
-gate_covered named ns table levels s f order covers i e t j at origin l has =
-    let is : origin_at s i ≡ Some (gate_of t j) = ap (option_map (λ (x : Entry). x.origin)) at ∙ ap Some origin in
-    let level : level_at s i ≡ e.level = ap (λ (o : Option Entry). elim o [ None ↦ 0 | Some x ↦ x.level ]) at in
-    let covered : covered_at f t ≡ Some e.level = covers.gates.of_covered i t j is ∙ ap Some level in
-    let inside = gate_inside named ns table levels s i e t j e.origin origin (order.clauses i e at).made in
-    let gate : HasGate ns s t j e.level = covers.gates.gates t e.level j covered inside in
-    let same : gate.0 ≡ i = covers.gates.once gate.0 i t j (ap (option_map (λ (x : Entry). x.origin)) gate.1) is in
-    let both : Some (gate_clause ns s.atoms t j e.level) ≡ Some e = sym gate.1 ∙ ap (entry_at s) same ∙ at in
-    let one : gate_clause ns s.atoms t j e.level ≡ e = cc in
-    let Q : ℕ → Type 0 = λ u. IsCoveredWithin f e.level u in
-    let own : Q t = subst (λ o. IsSomeAnd o (λ n. n ≤ e.level)) (sym covered) (let fine : e.level ≤ e.level = omega arith in fine) in
-    let names = gate_named Q ns t j own (recursion_from_All Q (kids_at ns t) (covers.arguments t e.level covered)) in
-    let lits = lits_of s.atoms (gate_terms ns t j) in
-    let from = from_lits s.atoms (gate_terms ns t j) l (once_from lits l (subst (λ (x : Entry). Contains x.literals l) (sym one) has)) in
-    let there = All-contains (λ (m : TermLit). HasTerm s.atoms m.term) (gate_terms ns t j) from.0 gate.2 from.1 in
-    record {
-      term = from.0.term;
-      at = ap (λ (x : Lit). slice_get s.atoms x.atom) (sym from.2) ∙ there;
-      within = All-contains (λ (m : TermLit). Q m.term) (gate_terms ns t j) from.0 (All-from_recursion (λ (m : TermLit). Q m.term) (gate_terms ns t j) names) from.1;
-    }
+-- what a literal on an atom says
+pub literal_at_atom : (ns : List Node) (atoms : List Atom) (l : Lit) (a : Atom) → slice_get atoms l.atom ≡ Some a → literal_in ns atoms l ≡ with_sign l.sign (atom_in ns a)
+literal_at_atom ns atoms l a at =
+    ap (λ (o : Option Atom). elim o [ None ↦ term_literal (term_in ns 0) l.sign | Some x ↦ with_sign l.sign (atom_in ns x) ]) at
+
+-- each literal of a row is on the atom of a covered Boolean term or on a bound that is listed
+row_searched : RowsNameCovered → RowLaws → (ns : List Node) → IsTable ns → (levels : List (List ℕ)) (s : LogState) (f : FormState) → IsLog ns levels s → Covers ns s f
+    → (i t : ℕ) → IsRowAt s i t → IsTaken (term_in ns t) → (l : Lit) → Contains (literals_at s i) l → IsSearched ns s f l.atom
+row_searched named laws ns table levels s f order covers i t row taken l has =
+    let names = named ns levels s f table order covers i t row taken l has in
+    let fact = of_row laws ns table levels s order i t row taken l has in
+    record { atom = names.atom; at = names.at; of = by_atom names.atom names.at names.terms (subst IsRowLiteral (literal_at_atom ns s.atoms l names.atom names.at) fact.literal) }
+  where
+    by_atom : (a : Atom) → slice_get s.atoms l.atom ≡ Some a → AllByRecursion (IsCoveredWithin f (level_at s i)) (terms_of a) → IsRowLiteral (with_sign l.sign (atom_in ns a)) → IsOfForm ns f l.atom a
+    by_atom (Term u) at terms fact = (some_within (covered_at f u) (level_at s i) terms.0, sign_boolean ns u l.sign fact)
+    by_atom (AtMost b) at terms fact =
+        some_within (listed_at f.bounds l.atom) (level_at s i)
+        (covers.bounds.listed i l.atom (record { term = t; row = row; literal = l; has = has; on = refl; bound = b; is_bound = at }))
 
 module _ (ns : List Node) (levels roots : List (List ℕ)) (p q : PreparedState) (t level : ℕ) (c : CoversAlso ns p t level q) (h : IsPrepared ns levels roots p) where
   told_stays : (n u : ℕ) → IsToldWithin p.log n u → IsToldWithin q.log n u
   told_stays n u told =
       elim (none_or_some (covered_at p.form u)) [
-        | inl none ↦ absurd (subst (λ o. IsSomeAnd o (λ k. k ≤ n)) (h.covers.gates.told u ∙ none) told)
+        | inl none ↦ absurd (subst (λ o. IsSomeAnd o (λ k. k ≤ n)) (h.covers.rows.told u ∙ none) told)
         | inr some ↦
-            subst (λ o. IsSomeAnd o (λ k. k ≤ n)) (h.covers.gates.told u ∙ some.1 ∙ sym (c.grown.stays u some.0 some.1) ∙ sym (c.covers.gates.told u)) told
+            subst (λ o. IsSomeAnd o (λ k. k ≤ n)) (h.covers.rows.told u ∙ some.1 ∙ sym (c.grown.terms.stays u some.0 some.1) ∙ sym (c.covers.rows.told u)) told
       ]
 
-  cover_leveled : GatesAreNamed → IsTable ns → IsLog ns levels q.log → IsLeveled q.log
-  cover_leveled named table order i e at l has =
+  cover_taken : TakenTermsAreInOrder → IsTaken (term_in ns t) → (u : ℕ) → IsSome (covered_at q.form u) → IsTaken (term_in ns u)
+  cover_taken parts own u some =
+      elim (none_or_some (covered_at p.form u)) [
+        | inl none ↦ parts.parts (term_in ns t) (term_in ns u) own (c.made u none some)
+        | inr was ↦ h.taken u (subst (λ (o : Option ℕ). IsSome o) (sym was.1) refl)
+      ]
+
+  -- the term of a row is taken
+  row_taken : TakenTermsAreInOrder → IsTaken (term_in ns t) → (i u : ℕ) → IsRowAt q.log i u → IsTaken (term_in ns u)
+  row_taken parts own i u row = cover_taken parts own u (subst (λ (o : Option ℕ). IsSome o) (sym (c.covers.rows.of_covered i u row)) refl)
+
+  cover_leveled : RowsNameCovered → TakenTermsAreInOrder → IsTable ns → IsTaken (term_in ns t) → IsLog ns levels q.log → IsLeveled q.log
+  cover_leveled named parts table own order i e at l has =
       elim ((c.added.live i).0 (subst (λ o. IsSome o) (sym at) refl)) [
         | inl live ↦ still_names p.log q.log c.kept e.level l (told_stays e.level) (h.leveled i e (sym (c.kept.clauses i live) ∙ at) l has)
         | inr new ↦
-            let gate = All-contains (λ k. (u : ℕ) × (j : ℕ) × (origin_at q.log k ≡ Some (gate_of u j))) c.ids i c.added.gates new in
-            let both : Some e.origin ≡ Some (gate_of gate.0 gate.1) = ap (option_map (λ (x : Entry). x.origin)) (sym at) ∙ gate.2 in
-            let origin : e.origin ≡ gate_of gate.0 gate.1 = cc in
-            let of = gate_covered named ns table levels q.log q.form order c.covers i e gate.0 gate.1 at origin l has in
+            let row = All-contains (λ k. (u : ℕ) × IsRowAt q.log k u) c.ids i c.added.rows new in
+            let own_level : level_at q.log i ≡ e.level = ap (λ (o : Option Entry). elim o [ None ↦ 0 | Some x ↦ x.level ]) at in
+            let there : Contains (literals_at q.log i) l = subst (λ (o : Option Entry). Contains (elim o [ None ↦ [] | Some x ↦ x.literals ]) l) (sym at) has in
+            let names = named ns levels q.log q.form table order c.covers i row.0 row.1 (row_taken parts own i row.0 row.1) l there in
             record {
-              atom = Term of.term;
-              at = of.at;
-              terms = (subst (λ o. IsSomeAnd o (λ n. n ≤ e.level)) (sym (c.covers.gates.told of.term)) of.within, tt);
+              atom = names.atom;
+              at = names.at;
+              terms = AllByRecursion-weaker (IsCoveredWithin q.form (level_at q.log i)) (IsToldWithin q.log e.level)
+                  (λ u within. subst (λ o. IsSomeAnd o (λ n. n ≤ e.level)) (sym (c.covers.rows.told u)) (subst (λ (k : ℕ). IsCoveredWithin q.form k u) own_level within))
+                  (terms_of names.atom) names.terms;
             }
       ]
 
@@ -192,30 +182,31 @@ module _ (ns : List Node) (levels roots : List (List ℕ)) (p q : PreparedState)
       (All-map P (held_of q.log) c.ids
       (All-weaker (Contains c.ids) (λ i. P (held_of q.log i)) (λ i has. ((c.added.live i).1 (inr has), refl)) c.ids (All-contains_itself c.ids))))
 
-  cover_on_terms : GatesAreNamed → IsTable ns → IsLog ns levels q.log → AreOnTerms q.log q.sat.clauses
-  cover_on_terms named table order =
-      let P = λ (x : Held). All (IsOnTerm q.log.atoms) (literals_at q.log x.id) in
-      subst (AreOnTerms q.log) (sym c.joined)
-      (All-append P p.sat.clauses (map (held_of q.log) c.ids) (still_on_terms p.log q.log c.kept p.sat.clauses h.held h.on_terms)
-      (All-map P (held_of q.log) c.ids
-      (All-weaker (λ i. (u : ℕ) × (j : ℕ) × (origin_at q.log i ≡ Some (gate_of u j))) (λ i. P (held_of q.log i))
-      (λ i gate. gate_on_terms named table order i gate.0 gate.1 gate.2 (entry_at q.log i) refl) c.ids c.added.gates))) where
-        gate_on_terms : GatesAreNamed → IsTable ns → IsLog ns levels q.log → (i u j : ℕ) → origin_at q.log i ≡ Some (gate_of u j) → (o : Option Entry) → entry_at q.log i ≡ o
-            → All (IsOnTerm q.log.atoms) (elim o [ None ↦ [] | Some e ↦ e.literals ])
-        gate_on_terms named table order i u j origin None at = All-nil (IsOnTerm q.log.atoms)
-        gate_on_terms named table order i u j origin (Some e) at =
-            let both : Some e.origin ≡ Some (gate_of u j) = ap (option_map (λ (x : Entry). x.origin)) (sym at) ∙ origin in
-            let is : e.origin ≡ gate_of u j = cc in
-            All-weaker (Contains e.literals) (IsOnTerm q.log.atoms)
-            (λ l has. let of = gate_covered named ns table levels q.log q.form order c.covers i e u j at is l has in (of.term, of.at)) e.literals (All-contains_itself e.literals)
+  -- what was of the form is so still
+  cover_of : (i : ℕ) (a : Atom) → IsOfForm ns p.form i a → IsOfForm ns q.form i a
+  cover_of i (Term u) of = (let n = some_of (covered_at p.form u) of.0 in subst (λ (o : Option ℕ). IsSome o) (sym (c.grown.terms.stays u n.0 n.1)) refl, of.1)
+  cover_of i (AtMost b) of = let n = some_of (listed_at p.form.bounds i) of in subst (λ (o : Option ℕ). IsSome o) (sym (c.grown.bounds.stays i n.0 n.1)) refl
 
-  cover_gates : (i u j : ℕ) → origin_at q.log i ≡ Some (gate_of u j) → Contains q.sat.clauses (held_of q.log i)
-  cover_gates i u j at =
+  cover_searched : RowsNameCovered → TakenTermsAreInOrder → RowLaws → IsTable ns → IsTaken (term_in ns t) → IsLog ns levels q.log → AreSearched ns q.log q.form q.sat.clauses
+  cover_searched named parts laws table own order =
+      let P = λ (x : Held). All (λ (l : Lit). IsSearched ns q.log q.form l.atom) (literals_at q.log x.id) in
+      subst (AreSearched ns q.log q.form) (sym c.joined)
+      (All-append P p.sat.clauses (map (held_of q.log) c.ids) (still_all p.log q.log c.kept ns p q refl refl cover_of p.sat.clauses h.held h.searched)
+      (All-map P (held_of q.log) c.ids
+      (All-weaker (λ i. (u : ℕ) × IsRowAt q.log i u) (λ i. P (held_of q.log i))
+      (λ i row.
+      All-weaker (Contains (literals_at q.log i)) (λ (l : Lit). IsSearched ns q.log q.form l.atom)
+      (λ l has. row_searched named laws ns table levels q.log q.form order c.covers i row.0 row.1 (row_taken parts own i row.0 row.1) l has)
+      (literals_at q.log i) (All-contains_itself (literals_at q.log i)))
+      c.ids c.added.rows)))
+
+  cover_rows : (i u : ℕ) → IsRowAt q.log i u → Contains q.sat.clauses (held_of q.log i)
+  cover_rows i u row =
       subst (λ hs. Contains hs (held_of q.log i)) (sym c.joined)
-      (elim ((c.added.live i).0 (lives q.log i (gate_of u j) at)) [
+      (elim ((c.added.live i).0 (lives q.log i row.0 row.1)) [
         | inl live ↦
             Contains-append_left p.sat.clauses (map (held_of q.log) c.ids) (held_of q.log i)
-            (subst (Contains p.sat.clauses) (sym (held_kept p.log q.log c.kept i live)) (h.gates i u j (sym (origin_kept p.log q.log c.kept i live) ∙ at)))
+            (subst (Contains p.sat.clauses) (sym (held_kept p.log q.log c.kept i live)) (h.rows i u (row.0, sym (origin_kept p.log q.log c.kept i live) ∙ row.1, row.2)))
         | inr new ↦ Contains-append_right p.sat.clauses (map (held_of q.log) c.ids) (held_of q.log i) (contains_map (held_of q.log) c.ids i new)
       ])
 
@@ -223,7 +214,7 @@ module _ (ns : List Node) (levels roots : List (List ℕ)) (p q : PreparedState)
   cover_made within has u n at =
       elim (none_or_some (covered_at p.form u)) [
         | inl none ↦
-            let same : level ≡ n = sym (c.grown.added u n none at) in
+            let same : level ≡ n = sym (c.grown.terms.added u n none at) in
             record {
               root = t;
               has = subst (λ k. Contains (live_at roots k) t) same has;
@@ -231,7 +222,7 @@ module _ (ns : List Node) (levels roots : List (List ℕ)) (p q : PreparedState)
               part = c.made u none (subst (λ o. IsSome o) (sym at) refl);
             }
         | inr some ↦
-            let both : Some some.0 ≡ Some n = sym (c.grown.stays u some.0 some.1) ∙ at in
+            let both : Some some.0 ≡ Some n = sym (c.grown.terms.stays u some.0 some.1) ∙ at in
             let same : some.0 ≡ n = cc in
             h.made u n (some.1 ∙ ap Some same)
       ]
@@ -239,27 +230,28 @@ module _ (ns : List Node) (levels roots : List (List ℕ)) (p q : PreparedState)
   cover_below : level < length roots → (u n : ℕ) → covered_at q.form u ≡ Some n → n < length roots
   cover_below low u n at =
       elim (none_or_some (covered_at p.form u)) [
-        | inl none ↦ subst (λ k. k < length roots) (sym (c.grown.added u n none at)) low
+        | inl none ↦ subst (λ k. k < length roots) (sym (c.grown.terms.added u n none at)) low
         | inr some ↦
-            let both : Some some.0 ≡ Some n = sym (c.grown.stays u some.0 some.1) ∙ at in
+            let both : Some some.0 ≡ Some n = sym (c.grown.terms.stays u some.0 some.1) ∙ at in
             let same : some.0 ≡ n = cc in
             h.below u n (some.1 ∙ ap Some same)
       ]
 
-  pub covered : AtomsOfTerms → GatesAreNamed → IsTable ns → t < length ns → holds_number (term_in ns t) ≡ false → Contains (live_at roots level) t → level < length roots
+  pub covered : AtomsOfTerms → RowsNameCovered → TakenTermsAreInOrder → RowLaws → IsTable ns → t < length ns → IsTaken (term_in ns t) → Contains (live_at roots level) t → level < length roots
       → count_in levels level ≤ p.given → IsPrepared ns levels roots q
-  covered atoms named table within plain has low few =
-      let order = c.sound levels plain h.order in
+  covered atoms named parts laws table within own has low few =
+      let order = c.sound levels h.order in
       let given = c.given in
       record {
         order = order;
         covers = c.covers;
         below = cover_below low;
         made = cover_made within has;
-        leveled = cover_leveled named table order;
+        taken = cover_taken parts own;
+        leveled = cover_leveled named parts table own order;
         held = cover_held;
-        on_terms = cover_on_terms named table order;
-        gates = cover_gates;
+        searched = cover_searched named parts laws table own order;
+        rows = cover_rows;
         units = λ k u below at. still_units p.log q.log c.kept atoms levels p q (map (held_of q.log) c.ids) refl refl h.held c.joined k u (h.units k u (omega (arith, below, given)) at);
         within = let was = h.within in omega (arith, was, given);
         lower = λ u.
@@ -280,17 +272,19 @@ module _ (ns : List Node) (levels roots : List (List ℕ)) (p q : PreparedState)
         atoms = puts.atoms;
       }
 
-  given_gates : (i u j : ℕ) → origin_at q.log i ≡ Some (gate_of u j) → Contains q.sat.clauses (held_of q.log i)
-  given_gates i u j at =
+  given_rows : (i u : ℕ) → IsRowAt q.log i u → Contains q.sat.clauses (held_of q.log i)
+  given_rows i u row =
       elim (eqb_tells i id) [
         | inl same ↦
-            let both : Some (assertion_of p.given) ≡ Some (gate_of u j) = ap (option_map (λ (e : Entry). e.origin)) (sym puts.made ∙ ap (entry_at q.log) (sym same.1)) ∙ at in
+            let both : Some (assertion_of p.given) ≡ Some row.0 = ap (option_map (λ (e : Entry). e.origin)) (sym puts.made ∙ ap (entry_at q.log) (sym same.1)) ∙ row.1 in
+            let origin : assertion_of p.given ≡ row.0 = cc in
+            let none : None ≡ Some u = ap row_term origin ∙ row.2 in
             absurd cc
         | inr other ↦
-            let was : origin_at p.log i ≡ Some (gate_of u j) = ap (option_map (λ (e : Entry). e.origin)) (sym (puts.kept i other.1)) ∙ at in
+            let was : origin_at p.log i ≡ Some row.0 = ap (option_map (λ (e : Entry). e.origin)) (sym (puts.kept i other.1)) ∙ row.1 in
             subst (λ hs. Contains hs (held_of q.log i)) (sym joined)
             (Contains-append_left p.sat.clauses (held_of q.log id ∷ []) (held_of q.log i)
-            (subst (Contains p.sat.clauses) (sym (held_kept p.log q.log put_kept i (lives p.log i (gate_of u j) was))) (h.gates i u j was)))
+            (subst (Contains p.sat.clauses) (sym (held_kept p.log q.log put_kept i (lives p.log i row.0 was))) (h.rows i u (row.0, was, row.2))))
       ]
 
   given_unit : HoldsUnit levels q p.given t
@@ -328,27 +322,32 @@ module _ (ns : List Node) (levels roots : List (List ℕ)) (p q : PreparedState)
       (All-append P p.sat.clauses (held_of q.log id ∷ []) (still_held p.log q.log put_kept p.sat.clauses h.held)
       (All-from_recursion P (held_of q.log id ∷ []) ((puts.live, refl), tt)))
 
-  given_on_terms : AreOnTerms q.log q.sat.clauses
-  given_on_terms =
-      let P = λ (x : Held). All (IsOnTerm q.log.atoms) (literals_at q.log x.id) in
+  given_searched : IsSome (covered_at p.form t) → is_boolean_term (term_in ns t) ≡ true → AreSearched ns q.log q.form q.sat.clauses
+  given_searched some boolean =
+      let S = λ (l : Lit). IsSearched ns q.log q.form l.atom in
+      let P = λ (x : Held). All S (literals_at q.log x.id) in
       let literals : literals_at q.log id ≡ unit_of q.log t = ap (λ (o : Option Entry). elim o [ None ↦ [] | Some x ↦ x.literals ]) puts.made in
-      let own : P (held_of q.log id) = subst (All (IsOnTerm q.log.atoms)) (sym literals) (All-from_recursion (IsOnTerm q.log.atoms) (unit_of q.log t) ((t, there), tt)) in
-      subst (AreOnTerms q.log) (sym joined)
-      (All-append P p.sat.clauses (held_of q.log id ∷ []) (still_on_terms p.log q.log put_kept p.sat.clauses h.held h.on_terms)
+      let here : IsSearched ns q.log q.form (term_place q.log.atoms t) =
+      record { atom = Term t; at = there; of = (subst (λ (f : FormState). IsSome (covered_at f t)) (sym form) some, boolean) } in
+      let own : P (held_of q.log id) = subst (All S) (sym literals) (All-from_recursion S (unit_of q.log t) (here, tt)) in
+      subst (AreSearched ns q.log q.form) (sym joined)
+      (All-append P p.sat.clauses (held_of q.log id ∷ [])
+      (still_all p.log q.log put_kept ns p q refl refl (λ i a of. subst (λ (f : FormState). IsOfForm ns f i a) (sym form) of) p.sat.clauses h.held h.searched)
       (All-from_recursion P (held_of q.log id ∷ []) (own, tt)))
 
-  pub assertion_given : AtomsOfTerms → CoversStay → LogsStayLeveled → IsSome (told_of p.log t) → IsLog ns levels q.log → IsPrepared ns levels roots q
-  assertion_given atoms covers leveled some order =
+  pub assertion_given : AtomsOfTerms → CoversStay → LogsStayLeveled → IsSome (covered_at p.form t) → is_boolean_term (term_in ns t) ≡ true → IsLog ns levels q.log → IsPrepared ns levels roots q
+  assertion_given atoms covers leveled some boolean order =
       record {
         order = order;
         covers = subst (Covers ns q.log) (sym form)
-            (covers.put ns p.log q.log p.form id (given_entry q.log p.given t n) puts (λ u j same. cc) h.covers);
+            (covers.put ns p.log q.log p.form id (given_entry q.log p.given t n) puts refl h.covers);
         below = λ u m at. h.below u m (ap (λ f. covered_at f u) (sym form) ∙ at);
         made = λ u m at. h.made u m (ap (λ f. covered_at f u) (sym form) ∙ at);
-        leveled = leveled.given p.log q.log id p.given t n puts there some h.leveled;
+        taken = λ u has. h.taken u (subst (λ (f : FormState). IsSome (covered_at f u)) form has);
+        leveled = leveled.given p.log q.log id p.given t n puts there (subst (λ (o : Option ℕ). IsSome o) (sym (h.covers.rows.told t)) some) h.leveled;
         held = given_held;
-        on_terms = given_on_terms;
-        gates = given_gates;
+        searched = given_searched some boolean;
+        rows = given_rows;
         units = given_units atoms;
         within = let inside = slice_get_within (asserted_numbers levels) p.given t (placed_in_all levels p.given t n placed) in omega (arith, inside, given);
         lower = λ u.
@@ -365,32 +364,35 @@ module _ (ns : List Node) (levels roots : List (List ℕ)) (p q : PreparedState)
   learned_kept : Keeps p.log q.log
   learned_kept = record { clauses = grows.kept; atoms = grows.atoms }
 
-  -- a gate was there
-  gate_was : (i t j : ℕ) → origin_at q.log i ≡ Some (gate_of t j) → IsLive p.log i
-  gate_was i t j at = of_entry (entry_at q.log i) refl at
+  -- a row was there
+  row_was : (i t : ℕ) → IsRowAt q.log i t → IsLive p.log i
+  row_was i t row = of_entry (entry_at q.log i) refl row.1
     where
-      of_entry : (o : Option Entry) → entry_at q.log i ≡ o → option_map (λ (e : Entry). e.origin) o ≡ Some (gate_of t j) → IsLive p.log i
+      of_entry : (o : Option Entry) → entry_at q.log i ≡ o → option_map (λ (e : Entry). e.origin) o ≡ Some row.0 → IsLive p.log i
       of_entry None is e = cc
-      of_entry (Some x) is e = let same : x.origin ≡ gate_of t j = cc in grows.gates i x t j is same
+      of_entry (Some x) is e =
+          let same : x.origin ≡ row.0 = cc in
+          grows.rows i x is (subst (λ (o : Option ℕ). IsSome o) (sym (ap row_term same ∙ row.2)) refl)
 
-  learned_gates : (i t j : ℕ) → origin_at q.log i ≡ Some (gate_of t j) → Contains q.sat.clauses (held_of q.log i)
-  learned_gates i t j at =
-      let live = gate_was i t j at in
+  learned_rows : (i t : ℕ) → IsRowAt q.log i t → Contains q.sat.clauses (held_of q.log i)
+  learned_rows i t row =
+      let live = row_was i t row in
       subst (λ hs. Contains hs (held_of q.log i)) (sym more.joined)
       (Contains-append_left p.sat.clauses more.learned (held_of q.log i)
-      (subst (Contains p.sat.clauses) (sym (held_kept p.log q.log learned_kept i live)) (h.gates i t j (sym (origin_kept p.log q.log learned_kept i live) ∙ at))))
+      (subst (Contains p.sat.clauses) (sym (held_kept p.log q.log learned_kept i live)) (h.rows i t (row.0, sym (origin_kept p.log q.log learned_kept i live) ∙ row.1, row.2))))
 
-  pub learned : AtomsOfTerms → CoversStay → AreOnTerms q.log q.sat.clauses → IsLog ns levels q.log → IsPrepared ns levels roots q
-  learned atoms covers on_terms order =
+  pub learned : AtomsOfTerms → CoversStay → AreSearched ns q.log q.form q.sat.clauses → IsLog ns levels q.log → IsPrepared ns levels roots q
+  learned atoms covers searched order =
       record {
         order = order;
         covers = subst (Covers ns q.log) (sym form) (covers.learned ns p.log q.log p.form grows h.covers);
         below = λ u m at. h.below u m (ap (λ f. covered_at f u) (sym form) ∙ at);
         made = λ u m at. h.made u m (ap (λ f. covered_at f u) (sym form) ∙ at);
+        taken = λ u has. h.taken u (subst (λ (f : FormState). IsSome (covered_at f u)) form has);
         leveled = grows.leveled h.leveled;
         held = more.held;
-        on_terms = on_terms;
-        gates = learned_gates;
+        searched = searched;
+        rows = learned_rows;
         units = λ k u below at.
             still_units p.log q.log learned_kept atoms levels p q more.learned refl refl h.held more.joined k u (h.units k u (omega (arith, below, given)) at);
         within = let was = h.within in omega (arith, was, given);
@@ -411,7 +413,7 @@ joins_grow leveled old new joins =
       kept = λ i live. same i;
       told = joins.told;
       atoms = joins.atoms;
-      gates = λ i e t j at origin. subst (λ o. IsSome o) (sym at ∙ same i) refl;
+      rows = λ i e at some. subst (λ o. IsSome o) (sym at ∙ same i) refl;
       leveled = leveled.joined old new joins;
     }
 
@@ -423,4 +425,5 @@ joined_prepared atoms stay leveled covers ns levels roots p q joins all form giv
     let kept : Keeps p.log q.log = record { clauses = grows.kept; atoms = grows.atoms } in
     let held : AreHeld q.log q.sat.clauses = subst (AreHeld q.log) (sym clauses) (still_held p.log q.log kept p.sat.clauses h.held) in
     learned ns levels roots p q grows form given (record { learned = []; joined = clauses ∙ sym (append-nil p.sat.clauses); held = held }) h atoms covers
-    (subst (AreOnTerms q.log) (sym clauses) (still_on_terms p.log q.log kept p.sat.clauses h.held h.on_terms)) (stay.joined ns levels p.log q.log joins all h.order)
+    (subst (AreSearched ns q.log q.form) (sym clauses)
+    (still_all p.log q.log kept ns p q refl refl (λ i a of. subst (λ (f : FormState). IsOfForm ns f i a) (sym form) of) p.sat.clauses h.held h.searched)) (stay.joined ns levels p.log q.log joins all h.order)

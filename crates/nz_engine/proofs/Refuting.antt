@@ -10,8 +10,8 @@ use Rattle.std.proofs.lemmas.List.Elements.{All-contains, All-contains_itself, A
 use Rattle.nz_lists.proofs.Elements.{AllByRecursion-map}
 use Rattle.nz_spec.specs.Term.{Assignment, IsTrueUnder, is_true, value_of}
 use Rattle.nz_spec.specs.Term as Term
-use Rattle.nz_spec.specs.Table.{Node, IsTable, term_in}
-use Rattle.nz_spec.specs.Decide.{asserted_numbers, asserted_terms}
+use Rattle.nz_spec.specs.Table.{Node, IsTable, assignment_by, term_in}
+use Rattle.nz_spec.specs.Decide.{AreModelValues, asserted_numbers, asserted_terms}
 use Rattle.nz_spec.specs.Literal.{Clause, term_literal, are_same_sign, is_literal_true, is_clause_true, AreTrueLiterals}
 use Rattle.nz_spec.specs.Legal.{IsDeadEnd, at_first}
 use Rattle.nz_spec.specs.Steps.{Step, IsDerivation, DerivationsGrow, Derives}
@@ -28,7 +28,7 @@ use Rattle.nz_log.specs.Logs.{LogState, Entry, entry_at, IsLive, level_at, liter
 use Rattle.nz_log.specs.Spelling.{AreStepsOf, steps_of}
 use Rattle.nz_log.specs.Sound.{IsLog, live_terms, ClausesAreTrue}
 use Rattle.nz_log.specs.TermLits.{AreNegations, clause_of_terms, literal_of, turned}
-use Rattle.nz_log.specs.Verdicts.{OnUnsat, task_in}
+use Rattle.nz_log.specs.Verdicts.{IfSat, IfUnsat, OnUnsat, task_in}
 use Rattle.nz_sat.specs.Conflicts.{Refutes}
 use Rattle.nz_engine.specs.Engines.{literals_in, on_term, on_terms}
 use Rattle.nz_engine.specs.Checking.{IsAnswer}
@@ -199,3 +199,19 @@ pub unsat_of : (ns : List Node) (levels : List (List ℕ)) (assumed : List TermL
     → OnUnsat v (IsDeadEnd (task_in ns levels assumed) at_first)
 unsat_of ns levels assumed log (Sat ps) h = tt
 unsat_of ns levels assumed log (Unsat id) h = h.0
+
+-- what the values make true, and what a clause without values says
+pub sat_of : (ns : List Node) (levels : List (List ℕ)) (assumed : List TermLit) (log : LogState) (v : Verdict) → IsAnswer ns levels assumed log v
+    → IfSat v (AreModelValues ns (asserted_terms ns levels) [])
+sat_of ns levels assumed log (Sat ps) h = h.0
+sat_of ns levels assumed log (Unsat id) h = tt
+
+pub assumed_of : (ns : List Node) (levels : List (List ℕ)) (assumed : List TermLit) (log : LogState) (v : Verdict) → IsAnswer ns levels assumed log v
+    → IfSat v (λ ps. AreTrueLiterals (assignment_by ns ps) (map (literal_of ns) assumed))
+assumed_of ns levels assumed log (Sat ps) h = h.1
+assumed_of ns levels assumed log (Unsat id) h = tt
+
+pub negations_told : (ns : List Node) (levels : List (List ℕ)) (assumed : List TermLit) (log : LogState) (v : Verdict) → IsAnswer ns levels assumed log v
+    → IfUnsat v (λ id. AreNegations assumed (literals_in log id))
+negations_told ns levels assumed log (Sat ps) h = tt
+negations_told ns levels assumed log (Unsat id) h = h.1

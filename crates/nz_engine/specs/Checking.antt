@@ -1,53 +1,73 @@
--- A check: its atoms, its answer and its work.
-use Rattle.std.specs.Prelude.{◌≡◌, ℕ, ◌<◌, ◌++◌, Bool, List, [], ◌∷◌, length, All, Option, Some, None, IsSome, if◌then◌else◌, map, option_map, slice_get, take}
+-- A check: its atoms, its answer, its work, and where it stopped.
+use Rattle.std.specs.Prelude.{◌≡◌, ℕ, ◌<◌, ◌≤◌, ◌++◌, Bool, List, [], ◌∷◌, length, All, Contains, Option, Some, None, IsSome, if◌then◌else◌, map, option_map, slice_get, slice_index_or, take, ⊤}
+use Rattle.nz_spec.specs.Term as spec_term
 use Rattle.nz_spec.specs.Term.{Head, constant, Value, is_bool, truth}
 use Rattle.nz_spec.specs.Table.{Node, IsTable, term_in, assignment_by}
+use Rattle.nz_spec.specs.Bland.{Point}
 use Rattle.nz_spec.specs.Decide.{asserted_numbers, asserted_terms, AreModelValues}
-use Rattle.nz_spec.specs.Gates.{IsGated}
-use Rattle.nz_spec.specs.Literal.{AreTrueLiterals}
-use Rattle.nz_spec.specs.Legal.{Task, at_first, IsDeadEnd, AreLegal}
-use Rattle.nz_spec.specs.Work.{NoteLine, WorkList}
+use Rattle.nz_spec.specs.Form as form
+use Rattle.nz_spec.specs.Literal as spec
+use Rattle.nz_spec.specs.Literal.{AreTrueLiterals, StandOnce}
+use Rattle.nz_spec.specs.Legal.{Task, at_first, IsAtom, IsDeadEnd, AreLegal}
+use Rattle.nz_spec.specs.Places.{IsStoppedLegally}
+use Rattle.nz_spec.specs.Taken.{IsTakenBoolean}
+use Rattle.nz_spec.specs.Work.{WorkLine, NoteLine, WorkList, unit_count}
 use Rattle.nz_log.specs.declared.decide.Verdict.{Verdict}
 use Rattle.nz_log.specs.declared.decide.Verdict.TheVariants.{Sat, Unsat}
-use Rattle.nz_log.specs.declared.atoms.Atom.{Atom}
+use Rattle.nz_log.specs.declared.atoms.Atom as log
+use Rattle.nz_log.specs.declared.atoms.Atom.TheVariants.{Term, AtMost}
 use Rattle.nz_log.specs.declared.lits.Lit.{Lit}
+use Rattle.nz_log.specs.declared.place.Place.{Place}
+use Rattle.nz_log.specs.declared.place.Site.TheVariants as sites
+use Rattle.nz_log.specs.declared.stop.Stop.{Stop}
+use Rattle.nz_log.specs.declared.stop.Stop.TheVariants.{Wide, Spent, Memory}
 use Rattle.nz_log.specs.declared.term_lits.TermLit.{TermLit}
-use Rattle.nz_log.specs.Atoms.{HasTerm, lits_of, term_place}
+use Rattle.nz_log.specs.Atoms.{AreAtoms, HasTerm, lits_of, term_place}
 use Rattle.nz_log.specs.Logs.{LogState}
+use Rattle.nz_log.specs.Places.{IsPlaceIn, IsSiteWithin, place_of}
+use Rattle.nz_log.specs.Standing.{IsStoppedAt}
 use Rattle.nz_log.specs.TermLits.{literal_of, AreNegations}
 use Rattle.nz_log.specs.Verdicts.{task_in}
 use Rattle.nz_log.specs.declared.note.Note.{Note}
 use Rattle.nz_log.specs.declared.note.Note.TheVariants as notes
 use Rattle.nz_log.specs.Notes.{noted_list, AreNotedWithin}
-use Rattle.nz_cform.specs.Forms.{IsListed, covered_at}
-use Rattle.nz_sat.specs.Sats.{truth_of}
+use Rattle.nz_cform.specs.Forms.{covered_at}
+use Rattle.nz_cform.specs.Listings.{IsListing}
+use Rattle.nz_cform.specs.Stops.{IsStopIn}
+use Rattle.nz_reals.specs.Joins.{IsNumberIn}
+use Rattle.nz_reals.specs.Stands.{HasTold, IsAt, IsFeasible, IsOf}
+use Rattle.nz_reals.specs.State.{Theory}
+use Rattle.nz_reals.specs.Sums.{AreNonzero}
+use Rattle.nz_sat.specs.Numbers.{AreBeginnings, AreNotedIn, IsAtomAt, atom_literal}
+use Rattle.nz_sat.specs.Sats.{IsSatisfied, IsTheoryMet, truth_of}
 use Rattle.nz_engine.specs.Engines.{literals_in}
 use Rattle.nz_engine.specs.Levels.{count_of}
-use Rattle.nz_engine.specs.Preparing.{PreparedState, IsStanding, atoms_of}
+use Rattle.nz_engine.specs.Preparing.{PreparedState, IsStanding, atoms_of, boolean_terms}
 
 -- the terms that the literals name
 abbrev pub terms_named : List TermLit → List ℕ
 terms_named ls = map (λ (l : TermLit). l.term) ls
 
--- the terms of these numbers are of the gate table
-abbrev pub AreGatedAt : List Node → List ℕ → Type 0
-AreGatedAt ns ts = All (λ t. IsGated (term_in ns t)) ts
+-- checks take the terms of these numbers, which are Boolean
+abbrev pub AreTakenAt : List Node → List ℕ → Type 0
+AreTakenAt ns ts = All (λ t. IsTakenBoolean (term_in ns t)) ts
 
 -- the terms that the literals name are covered
 abbrev pub AreCovered : PreparedState → List TermLit → Type 0
 AreCovered p ls = All (λ (l : TermLit). IsSome (covered_at p.form l.term)) ls
 
--- The covered terms have their atoms, and so have those that the literals name.
-pub record HaveAtoms (p : PreparedState) (ls : List TermLit) : Type 0 where
-  pub covered : All (HasTerm p.log.atoms) p.form.terms
+-- The covered Boolean terms have their atoms, and so have the terms that the literals name.
+pub record HaveAtoms (ns : List Node) (p : PreparedState) (ls : List TermLit) : Type 0 where
+  pub covered : All (HasTerm p.log.atoms) (boolean_terms ns p.form.terms.ids)
   pub named : All (λ (l : TermLit). HasTerm p.log.atoms l.term) ls
 
--- What a search is handed: the atoms of the covered terms, each once, and the literals on atoms.
-pub record AreHanded (p : PreparedState) (ls : List TermLit) (atoms : List ℕ) (literals : List Lit) : Type 0 where
-  pub listed : IsListed p.form
-  pub terms : atoms ≡ atoms_of p
+-- What a search is handed: the atoms of the covered Boolean terms and the bounds, each once, and the literals on atoms.
+pub record AreHanded (ns : List Node) (p : PreparedState) (ls : List TermLit) (atoms : List ℕ) (literals : List Lit) : Type 0 where
+  pub terms : IsListing p.form.terms
+  pub bounds : IsListing p.form.bounds
+  pub numbers : atoms ≡ atoms_of ns p
   pub on_atoms : literals ≡ lits_of p.log.atoms ls
-  pub there : HaveAtoms p ls
+  pub there : HaveAtoms ns p ls
 
 -- A search may begin: each assertion has its clause, and the terms of the assumed literals are covered.
 pub record IsPosed (ns : List Node) (levels : List (List ℕ)) (assumed : List TermLit) (p : PreparedState) : Type 0 where
@@ -55,9 +75,121 @@ pub record IsPosed (ns : List Node) (levels : List (List ℕ)) (assumed : List T
   pub standing : IsStanding ns levels (terms_named assumed) p
   pub all_given : count_of levels ≡ p.given
   pub assumed_covered : AreCovered p assumed
-  pub gated : AreGatedAt ns (asserted_numbers levels)
-  pub assumed_gated : AreGatedAt ns (terms_named assumed)
+  pub taken : AreTakenAt ns (asserted_numbers levels)
+  pub assumed_taken : AreTakenAt ns (terms_named assumed)
   pub assumed_within : All (λ t. t < length ns) (terms_named assumed)
+
+-- Where atoms were named in a log, a search over these and these literals may begin, over the levels over which it might have before.
+pub record IsReady (ns : List Node) (assumed : List TermLit) (old p : PreparedState) (ids : List ℕ) (lits : List Lit) : Type 0 where
+  pub handed : AreHanded ns p assumed ids lits
+  pub posed : (levels : List (List ℕ)) → IsPosed ns levels assumed old → IsPosed ns levels assumed p
+  pub some : (levels : List (List ℕ)) × IsPosed ns levels assumed p
+
+-- ---- Notes
+
+-- the note of an atom
+abbrev pub note_of : log.Atom → Note
+note_of (Term t) = notes.Atom t
+note_of (AtMost b) = notes.Bound b
+
+-- the atom of a number; a number past the end stands for the first term
+abbrev pub atom_at : List log.Atom → ℕ → log.Atom
+atom_at all i = slice_index_or all i (Term 0)
+
+abbrev pub atom_lines : List log.Atom → List ℕ → List (WorkLine Note)
+atom_lines all ids = map (λ (i : ℕ). NoteLine (note_of (atom_at all i))) ids
+
+abbrev pub form_lines : List ℕ → List (WorkLine Note)
+form_lines ks = map (λ (k : ℕ). NoteLine (notes.Form k)) ks
+
+-- the list with notes of the first so many of these atoms more
+pub record NotesFirst (all : List log.Atom) (ids : List ℕ) (old new : WorkList Note) : Type 0 where
+  pub count : ℕ
+  pub noted : new ≡ record old { lines = old.lines ++ atom_lines all (take count ids) }
+
+-- the list with notes of forms more
+pub record NotesForms (old new : WorkList Note) : Type 0 where
+  pub forms : List ℕ
+  pub noted : new ≡ record old { lines = old.lines ++ form_lines forms }
+
+-- A list that had no line notes the first so many of these atoms, and then forms.
+pub record HasBegun (all : List log.Atom) (ids : List ℕ) (old new : WorkList Note) : Type 0 where
+  pub count : ℕ
+  pub forms : List ℕ
+  pub lines : new.lines ≡ atom_lines all (take count ids) ++ form_lines forms
+  pub limit : new.limit ≡ old.limit
+
+-- The list names these atoms, in this order, and then notes forms alone.
+pub record NotesAll (all : List log.Atom) (ids : List ℕ) (work : WorkList Note) : Type 0 where
+  pub noted : AreNotedIn all work.lines ids
+  pub beginnings : AreBeginnings work.lines
+
+-- the list knows each of these atoms by its place
+abbrev pub AreNumbered : List Node → List log.Atom → List ℕ → WorkList Note → Type 0
+AreNumbered ns all ids work = (k i : ℕ) → slice_get ids k ≡ Some i → IsNumberIn ns all i k work
+
+-- ---- The theory of a search
+
+-- a sum that is bounded has no coefficient 0
+abbrev pub IsNonzero : log.Atom → Type 0
+IsNonzero (Term t) = ⊤
+IsNonzero (AtMost b) = AreNonzero b.sides.parts
+
+-- The atom of a number is there, over the table, and a theory may learn of it.
+pub record IsLearnable (ns : List Node) (all : List log.Atom) (i : ℕ) : Type 0 where
+  pub within : IsAtomAt ns all i
+  pub nonzero : IsNonzero (atom_at all i)
+
+-- some table has what these atoms name
+pub record AreLearnable (all : List log.Atom) (ids : List ℕ) : Type 0 where
+  pub table : List Node
+  pub is_table : IsTable table
+  pub each : All (IsLearnable table all) ids
+
+-- A search is asked over these atoms, which it may name, each once, in the table.
+pub record MayBegin (ns : List Node) (q : Task) (all : List log.Atom) (ids : List ℕ) : Type 0 where
+  pub table : IsTable ns
+  pub within : All (IsAtomAt ns all) ids
+  pub nameable : All (λ i. IsAtom q (atom_literal ns all i)) ids
+  pub once : StandOnce ids
+  pub atoms : AreAtoms all
+
+-- what is known of a list where a stop came
+abbrev pub EndsWith : List Node → Task → WorkList Note → Stop → Type 0
+EndsWith ns q work (Wide place) = IsStoppedAt ns q work place
+EndsWith ns q work Spent = AreLegal q (noted_list ns work).lines
+EndsWith ns q work Memory = AreLegal q (noted_list ns work).lines
+
+-- an operation of a term that this one is made of left the numbers
+pub record IsTermPlace (ns : List Node) (root : spec_term.Term) (place : Place) : Type 0 where
+  pub term : ℕ
+  pub site : place.site ≡ sites.Term term
+  pub stop : IsStopIn ns root place.wide term
+
+-- why the clauses of a term weren't put: that, or want of memory
+abbrev pub IsTermStop : List Node → spec_term.Term → Stop → Type 0
+IsTermStop ns root (Wide place) = IsTermPlace ns root place
+IsTermStop ns root Spent = ⊥
+IsTermStop ns root Memory = ⊤
+
+-- why those of some terms weren't
+abbrev pub IsRootStop : List Node → List ℕ → Stop → Type 0
+IsRootStop ns roots (Wide place) = (root : ℕ) × Contains roots root × IsTermPlace ns (term_in ns root) place
+IsRootStop ns roots Spent = ⊥
+IsRootStop ns roots Memory = ⊤
+
+-- ---- What was found
+
+-- There are truths under which each clause and each assumed literal is true, and a theory that was told the bounds that are true is feasible.
+pub record HasFound (ns : List Node) (assumed : List TermLit) (p : PreparedState) : Type 0 where
+  pub handed : AreHanded ns p assumed (atoms_of ns p) (lits_of p.log.atoms assumed)
+  pub truths : IsSatisfied p.log p.sat (lits_of p.log.atoms assumed) (atoms_of ns p)
+  pub bounds : IsTheoryMet p.log (HasTold p.sat.theory) (IsFeasible p.sat.theory) p.sat (atoms_of ns p)
+  pub of : IsOf p.sat.theory p.log.atoms (atoms_of ns p)
+  pub forms : List (List form.Part)
+  pub told : List spec.Literal
+  pub point : Point
+  pub at : IsAt p.sat.theory ns forms told point
 
 -- ---- Truths
 
@@ -75,20 +207,20 @@ value_at ns p t = value_as t (option_map (λ (n : Node). n.head) (slice_get ns t
 
 -- ---- Work
 
--- the list with notes of these atoms more
-abbrev pub with_atoms : WorkList Note → List ℕ → WorkList Note
-with_atoms work ids = record work { lines = work.lines ++ map (λ (t : ℕ). NoteLine (notes.Atom t)) ids }
-
--- the list with notes of the first so many of these more
-pub record NotesFirst (atoms : List ℕ) (old new : WorkList Note) : Type 0 where
-  pub count : ℕ
-  pub noted : new ≡ with_atoms old (take count atoms)
-
--- The list is legal for a task, and names terms of the table alone; its limit is as before.
-pub record Works (ns : List Node) (q : Task) (old new : WorkList Note) : Type 0 where
-  pub legal : AreLegal q at_first (noted_list ns new).lines
+-- What the list names is in the table, its limit is as before, and it has no more units.
+pub record Works (ns : List Node) (old new : WorkList Note) : Type 0 where
   pub named : AreNotedWithin ns new.lines
   pub limit : new.limit ≡ old.limit
+  pub within : unit_count new.lines ≤ new.limit
+
+-- An operation left the numbers where a search of these lines may stop, in the table.
+pub record IsStop (ns : List Node) (q : Task) (work : WorkList Note) (place : Place) : Type 0 where
+  pub within : IsSiteWithin ns place.site
+  pub legally : IsStoppedLegally q (noted_list ns work) (place_of ns place)
+
+-- an operation of the theory left the numbers, wherever it stands
+abbrev pub IsStopOf : List Node → Theory → Place → Type 0
+IsStopOf ns t place = (fs : List (List form.Part)) (ls : List spec.Literal) (x : Point) → IsAt t ns fs ls x → IsPlaceIn ns fs ls x place
 
 -- ---- Answers
 

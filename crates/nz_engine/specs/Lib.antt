@@ -2,3 +2,4 @@ pub mod Checking
 pub mod Engines
 pub mod Levels
 pub mod Preparing
+pub mod SearchLaws

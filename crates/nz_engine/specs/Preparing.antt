@@ -1,20 +1,23 @@
 -- What an engine keeps from check to check: clauses in a log, each held by a search.
-use Rattle.std.specs.Prelude.{◌≡◌, ℕ, ◌<◌, ◌≤◌, ◌++◌, Bool, false, List, [], ◌∷◌, length, map, min, take, suc, All, Contains, Some, None, IsSome, slice_get}
+use Rattle.std.specs.Prelude.{◌≡◌, ℕ, ◌<◌, ◌≤◌, ◌++◌, Bool, true, false, List, [], ◌∷◌, length, map, flat_map, min, take, suc, All, Contains, Some, None, IsSome, if◌then◌else◌, slice_get}
+use Rattle.nz_spec.specs.Gates.{is_boolean_term}
 use Rattle.nz_spec.specs.Table.{Node, term_in}
-use Rattle.nz_spec.specs.Term.{holds_number}
+use Rattle.nz_spec.specs.Taken.{IsTaken}
 use Rattle.nz_spec.specs.Order.{post_order}
 use Rattle.nz_spec.specs.Decide.{asserted_numbers}
 use Rattle.nz_log.specs.declared.atoms.Atom.{Atom}
-use Rattle.nz_log.specs.declared.atoms.Atom.TheVariants.{Term}
+use Rattle.nz_log.specs.declared.atoms.Atom.TheVariants.{Term, AtMost}
 use Rattle.nz_log.specs.declared.lits.Lit.{Lit}
 use Rattle.nz_log.specs.Leveled.{IsLeveled}
 use Rattle.nz_log.specs.Atoms.{HasTerm, lit_of, term_place}
-use Rattle.nz_log.specs.Logs.{LogState, gate_of, empty_log, literals_at, told_level, Drops}
+use Rattle.nz_log.specs.Logs.{LogState, empty_log, literals_at, told_level, Drops}
 use Rattle.nz_log.specs.Sound.{IsLog, live_at}
 use Rattle.nz_log.specs.TermLits.{yes}
-use Rattle.nz_log.specs.declared.theory.NoNumbers.{NoNumbers}
-use Rattle.nz_cform.specs.Covering.{AreAdded, Covers, Keeps, origin_at}
+use Rattle.nz_cform.specs.Covering.{AreAdded, Covers, IsRowAt, Keeps}
 use Rattle.nz_cform.specs.Forms.{FormState, Cuts, Grows, covered_at, empty_form}
+use Rattle.nz_cform.specs.Listings.{listed_at}
+use Rattle.nz_reals.specs.Exclusions.{AddsOn, IsExclusion}
+use Rattle.nz_reals.specs.State.{Theory, empty_theory}
 use Rattle.nz_sat.specs.declared.clauses.Held.{Held}
 use Rattle.nz_sat.specs.Sats.{SatState, AreHeld, held_of, held_up_to}
 use Rattle.nz_engine.specs.Levels.{count_in, count_of}
@@ -24,7 +27,7 @@ use Rattle.nz_engine.specs.Levels.{count_in, count_of}
 pub record PreparedState : Type 0 where
   pub log : LogState
   pub form : FormState
-  pub sat : SatState NoNumbers
+  pub sat : SatState Theory
   pub given : ℕ
   pub above : Bool
 
@@ -32,26 +35,44 @@ abbrev pub nothing_prepared : PreparedState
 nothing_prepared = record {
   log = empty_log;
   form = empty_form;
-  sat = record { clauses = []; truths = []; theory = record { told = 0 } };
+  sat = record { clauses = []; truths = []; theory = empty_theory };
   given = 0;
   above = false;
 }
-
--- the numbers of the atoms of the covered terms
-abbrev pub atoms_of : PreparedState → List ℕ
-atoms_of p = map (term_place p.log.atoms) p.form.terms
 
 -- the clause that a term is true
 abbrev pub unit_of : LogState → ℕ → List Lit
 unit_of log t = lit_of log.atoms (yes t) ∷ []
 
--- a literal is on a term
-abbrev pub IsOnTerm : List Atom → Lit → Type 0
-IsOnTerm atoms l = (t : ℕ) × (slice_get atoms l.atom ≡ Some (Term t))
+-- ---- Atoms of a search
 
--- each literal of these clauses is
-abbrev pub AreOnTerms : LogState → List Held → Type 0
-AreOnTerms log held = All (λ (h : Held). All (IsOnTerm log.atoms) (literals_at log h.id)) held
+-- a term, where it is Boolean
+abbrev pub boolean_term : List Node → ℕ → List ℕ
+boolean_term ns t = if is_boolean_term (term_in ns t) then t ∷ [] else []
+
+abbrev pub boolean_terms : List Node → List ℕ → List ℕ
+boolean_terms ns ts = flat_map (boolean_term ns) ts
+
+-- the numbers of the atoms: those of the covered Boolean terms, and then the bounds that are listed
+abbrev pub atoms_of : List Node → PreparedState → List ℕ
+atoms_of ns p = map (term_place p.log.atoms) (boolean_terms ns p.form.terms.ids) ++ p.form.bounds.ids
+
+-- an atom is that of a covered Boolean term, or a bound that is listed
+abbrev pub IsOfForm : List Node → FormState → ℕ → Atom → Type 0
+IsOfForm ns s i (Term t) = IsSome (covered_at s t) × (is_boolean_term (term_in ns t) ≡ true)
+IsOfForm ns s i (AtMost b) = IsSome (listed_at s.bounds i)
+
+-- The atom of a number is so.
+pub record IsSearched (ns : List Node) (log : LogState) (s : FormState) (i : ℕ) : Type 0 where
+  pub atom : Atom
+  pub at : slice_get log.atoms i ≡ Some atom
+  pub of : IsOfForm ns s i atom
+
+-- each literal of these clauses is on such an atom
+abbrev pub AreSearched : List Node → LogState → FormState → List Held → Type 0
+AreSearched ns log s held = All (λ (h : Held). All (λ (l : Lit). IsSearched ns log s l.atom) (literals_at log h.id)) held
+
+-- ---- What is prepared
 
 -- The term is among what one of these terms is made of.
 pub record IsMadeOf (ns : List Node) (roots : List ℕ) (t : ℕ) : Type 0 where
@@ -68,18 +89,19 @@ pub record HoldsUnit (levels : List (List ℕ)) (p : PreparedState) (k t : ℕ) 
   pub literals : literals_at p.log held.id ≡ unit_of p.log t
   pub behind : count_in levels held.level ≤ k
 
--- The clauses are in order over the levels of assertions. What is covered is made of roots by level: of the assertions, and in a level above them of what
--- is assumed. The search holds each gate, and of so many assertions that each is true; where a term is covered, all assertions in lower levels are among
--- them. Each clause that is held is on terms alone.
+-- The clauses are in order over the levels of assertions. What is covered is taken, and made of roots by level: of the assertions, and in a level above them
+-- of what is assumed. The search holds each clause of a table, and of so many assertions that each is true; where a term is covered, all assertions in lower
+-- levels are among them. Each clause that is held is on the atoms of covered Boolean terms and on listed bounds.
 pub record IsPrepared (ns : List Node) (levels roots : List (List ℕ)) (p : PreparedState) : Type 0 where
   pub order : IsLog ns levels p.log
   pub covers : Covers ns p.log p.form
   pub below : (t n : ℕ) → covered_at p.form t ≡ Some n → n < length roots
   pub made : (t n : ℕ) → covered_at p.form t ≡ Some n → IsMadeOf ns (live_at roots n) t
+  pub taken : (t : ℕ) → IsSome (covered_at p.form t) → IsTaken (term_in ns t)
   pub leveled : IsLeveled p.log
   pub held : AreHeld p.log p.sat.clauses
-  pub on_terms : AreOnTerms p.log p.sat.clauses
-  pub gates : (i t j : ℕ) → origin_at p.log i ≡ Some (gate_of t j) → Contains p.sat.clauses (held_of p.log i)
+  pub searched : AreSearched ns p.log p.form p.sat.clauses
+  pub rows : (i t : ℕ) → IsRowAt p.log i t → Contains p.sat.clauses (held_of p.log i)
   pub units : (k t : ℕ) → k < p.given → slice_get (asserted_numbers levels) k ≡ Some t → HoldsUnit levels p k t
   pub within : p.given ≤ count_of levels
   pub lower : (t : ℕ) → count_in levels (told_level p.log t) ≤ p.given
@@ -93,7 +115,7 @@ pub record IsStanding (ns : List Node) (levels : List (List ℕ)) (more : List �
 pub record IsAssumable (ns : List Node) (levels : List (List ℕ)) (more : List ℕ) (t level : ℕ) (p : PreparedState) : Type 0 where
   pub last : length levels ≡ level
   pub named : Contains more t
-  pub plain : holds_number (term_in ns t) ≡ false
+  pub taken : IsTaken (term_in ns t)
   pub all_given : count_of levels ≡ p.given
   pub standing : IsStanding ns levels more p
 
@@ -110,8 +132,16 @@ pub record CoversAlso (ns : List Node) (old : PreparedState) (t level : ℕ) (ne
   pub added : AreAdded old.log ids new.log
   pub joined : new.sat.clauses ≡ old.sat.clauses ++ map (held_of new.log) ids
   pub told : (u : ℕ) → told_level new.log u ≤ level
-  pub sound : (levels : List (List ℕ)) → holds_number (term_in ns t) ≡ false → IsLog ns levels old.log → IsLog ns levels new.log
+  pub sound : (levels : List (List ℕ)) → IsLog ns levels old.log → IsLog ns levels new.log
   pub given : new.given ≡ old.given
+
+-- Clauses that bounds on these atoms exclude each other are put and held.
+pub record Excludes (old : PreparedState) (atoms : List ℕ) (new : PreparedState) : Type 0 where
+  pub rest : new ≡ record old { log = new.log; sat = new.sat }
+  pub adds : AddsOn atoms old.log new.log
+  pub ids : List ℕ
+  pub exclusions : All (IsExclusion new.log atoms) ids
+  pub joined : new.sat.clauses ≡ old.sat.clauses ++ map (held_of new.log) ids
 
 -- What is above a level is taken back, and the count is no more than what stands up to it.
 pub record CutsTo (old : PreparedState) (level count : ℕ) (new : PreparedState) : Type 0 where
@@ -121,3 +151,7 @@ pub record CutsTo (old : PreparedState) (level count : ℕ) (new : PreparedState
   pub clauses : new.sat.clauses ≡ held_up_to level old.sat.clauses
   pub given : new.given ≡ min old.given count
   pub above : new.above ≡ false
+
+-- each bound is listed still
+abbrev pub KeepsBounds : FormState → FormState → Type 0
+KeepsBounds old new = (i : ℕ) → IsSome (listed_at old.bounds i) → IsSome (listed_at new.bounds i)

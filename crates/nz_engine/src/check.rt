@@ -1,29 +1,32 @@
 //! A check, over what is kept from the one before.
-ghost use Rattle.std.specs.Prelude.{◌≡◌, ℕ, [], All, List, length, map, take, IfErr, IfOk};
+ghost use Rattle.std.specs.Prelude.{◌≡◌, ◌++◌, ℕ, [], All, List, length, map, take, IfErr, IfOk};
 ghost use Rattle.nz_spec.specs.Decide.{AreInTable, AreModelValues, IsFrontOfTable, asserted_numbers, asserted_terms};
-ghost use Rattle.nz_spec.specs.Gates.{IsGated};
+ghost use Rattle.nz_spec.specs.Legal.{AreLegal};
 ghost use Rattle.nz_spec.specs.Literal.{AreTrueLiterals};
+ghost use Rattle.nz_spec.specs.Order.{HasCompanions};
 ghost use Rattle.nz_spec.specs.Table.{Node, assignment_by, term_in};
+ghost use Rattle.nz_spec.specs.Taken.{IsTakenBoolean};
 ghost use Rattle.nz_spec.specs.Work.{IsSpent};
 ghost use Rattle.nz_log.specs.declared.term_lits.TermLit.{TermLit};
-ghost use Rattle.nz_log.specs.Atoms.{HasTerm, lits_of};
+ghost use Rattle.nz_log.specs.declared.stop.Stop.TheVariants as stop;
+ghost use Rattle.nz_log.specs.Notes.{noted_list};
+ghost use Rattle.nz_log.specs.Places.{OnWide};
 ghost use Rattle.nz_log.specs.TermLits.{AreConsistent, AreOfTerms, literal_of};
 ghost use Rattle.nz_log.specs.Verdicts.{OnSpent, task_in};
 ghost use Rattle.nz_cform.specs.Covering.{Covers};
-ghost use Rattle.nz_sat.specs.Sats.{IsSatisfied};
-ghost use Rattle.nz_engine.specs.Checking.{IsAnswer, IsPosed, Works};
+ghost use Rattle.nz_engine.specs.Checking.{HasFound, IsAnswer, IsPosed, IsRootStop, IsStop, IsStopOf, Works, terms_named};
 ghost use Rattle.nz_engine.specs.Engines.{IsKept, IsLow, IsReadied};
-ghost use Rattle.nz_engine.specs.Preparing.{IsPrepared, atoms_of};
+ghost use Rattle.nz_engine.specs.Preparing.{IsPrepared};
 
 use crate::levels::Levels;
 use crate::prepared::Prepared;
 use nz_base::{Memory, Work};
-use nz_cform::laws::covers_stay;
-use nz_log::laws::{
-    atoms_of_terms, clauses_are_true, gates_are_named, logs_stay, logs_stay_leveled,
-};
+use nz_cform::laws::{covers_stay, rows_meet_tables};
+use nz_log::laws::{atoms_of_terms, clauses_are_true, logs_stay, logs_stay_leveled};
 use nz_log::{Note, Stop, TermLit, Verdict};
-use nz_spec::derivation::gates_decide;
+use nz_spec::deciding::{chosen_fractions_keep_bounds, tables_decide, told_bounds_are_met};
+use nz_spec::derivation::tells_literals;
+use nz_spec::form::term_has_its_number;
 use nz_spec::table::{assigns_by_number, one_number, term_of_node, term_stays};
 use nz_term::{Assign, Terms, known_table};
 use std::alloc::Global;
@@ -43,8 +46,12 @@ fn cut_to(mut prepared: Prepared, levels: &Levels) -> Option<Prepared>
     logs_stay_leveled();
     match levels.len().checked_sub(1) {
         Some(last) => {
-            prepared.cut(last, levels);
-            Some(prepared)
+            // What was learned may have bounds that are listed no more: then all is made anew.
+            if prepared.cut(last, levels) {
+                Some(prepared)
+            } else {
+                None
+            }
         }
         None => None,
     }
@@ -97,13 +104,15 @@ fn posed(
     levels: &Levels,
     terms: &Terms,
     assumed: &[TermLit],
-) -> Result<Prepared, Memory>
+) -> Result<Prepared, Stop>
     requires known { AreInTable terms.now levels.now }
     requires within { AreOfTerms terms.now assumed.now }
-    requires gated { All (λ i. IsGated (term_in terms.now i)) (asserted_numbers levels.now) }
-    requires assumed_gated { All (λ l. IsGated (term_in terms.now l.term)) assumed.now }
+    requires taken { All (λ i. IsTakenBoolean (term_in terms.now i)) (asserted_numbers levels.now) }
+    requires assumed_taken { All (λ l. IsTakenBoolean (term_in terms.now l.term)) assumed.now }
+    requires companions { HasCompanions terms.now }
     requires kept { (front : List Node) × IsFrontOfTable front terms.now × IsKept front levels.now kept }
     ensures posed { IfOk result (λ p. IsPosed terms.now levels.now assumed.now p) }
+    ensures stop { IfErr result (IsRootStop terms.now (asserted_numbers levels.now ++ terms_named assumed.now)) }
 {
     known_table(terms);
     let mut prepared = begun(alloc, kept, levels)?;
@@ -112,17 +121,25 @@ fn posed(
     Ok(prepared)
 }
 
-/// Values of constants under which what is asserted and the assumed literals are true: the truths that the search found.
-fn model(alloc: Global, terms: &Terms, prepared: &Prepared) -> Result<Assign, Memory>
+/// Values of constants under which what is asserted and the assumed literals are true: the truths and the numbers that the search found.
+fn model(alloc: Global, terms: &Terms, prepared: &Prepared) -> Result<Assign, Stop>
     requires covers { Covers terms.now prepared.now.log prepared.now.form }
-    ensures model { IfOk result (λ ps. (levels : List (List ℕ)) (assumed : List TermLit) → IsPosed terms.now levels assumed prepared.now → All (λ l. HasTerm prepared.now.log.atoms l.term) assumed → IsSatisfied prepared.now.log prepared.now.sat (lits_of prepared.now.log.atoms assumed) (atoms_of prepared.now) → AreModelValues terms.now (asserted_terms terms.now levels) [] ps × AreTrueLiterals (assignment_by terms.now ps) (map (literal_of terms.now) assumed)) }
+    requires found { (assumed : List TermLit) × HasFound terms.now assumed prepared.now }
+    ensures model { IfOk result (λ ps. (levels : List (List ℕ)) (assumed : List TermLit) → IsPosed terms.now levels assumed prepared.now → HasFound terms.now assumed prepared.now → AreModelValues terms.now (asserted_terms terms.now levels) [] ps × AreTrueLiterals (assignment_by terms.now ps) (map (literal_of terms.now) assumed)) }
+    ensures place { IfErr result (λ e. OnWide e (IsStopOf terms.now prepared.now.sat.theory)) }
+    ensures unspent { IfErr result (λ e. e ≡ stop.Spent → ⊥) }
 {
     one_number();
     term_of_node();
     assigns_by_number();
-    gates_are_named();
-    gates_decide();
+    term_has_its_number();
+    tells_literals();
+    rows_meet_tables();
+    tables_decide();
+    told_bounds_are_met();
+    chosen_fractions_keep_bounds();
     atoms_of_terms();
+    prepared.known();
     prepared.values(alloc, terms)
 }
 
@@ -130,7 +147,8 @@ fn model(alloc: Global, terms: &Terms, prepared: &Prepared) -> Result<Assign, Me
 ///
 /// # Errors
 ///
-/// `Spent` where one more unit was wanted than the work list has, and `Memory`. Then what was prepared is dropped.
+/// `Spent` where one more unit was wanted than the work list has, `Wide` where an operation leaves the numbers, and `Memory`. Then what was prepared is
+/// dropped.
 pub fn decide(
     alloc: Global,
     kept: Option<Prepared>,
@@ -142,29 +160,32 @@ pub fn decide(
     requires known { AreInTable terms.now levels.now }
     requires within { AreOfTerms terms.now assumed.now }
     requires no_steps { work.old.lines ≡ [] }
-    requires gated { All (λ i. IsGated (term_in terms.now i)) (asserted_numbers levels.now) }
-    requires assumed_gated { All (λ l. IsGated (term_in terms.now l.term)) assumed.now }
+    requires taken { All (λ i. IsTakenBoolean (term_in terms.now i)) (asserted_numbers levels.now) }
+    requires assumed_taken { All (λ l. IsTakenBoolean (term_in terms.now l.term)) assumed.now }
+    requires companions { HasCompanions terms.now }
     requires consistent { AreConsistent assumed.now }
     requires kept { (front : List Node) × IsFrontOfTable front terms.now × IsKept front levels.now kept }
     ensures answer { IfOk result (λ f. IsAnswer terms.now levels.now assumed.now f.prepared.log f.verdict) }
     ensures readied { IfOk result (λ f. IsReadied terms.now levels.now f.prepared) }
-    ensures works { Works terms.now (task_in terms.now levels.now assumed.now) work.old work.new }
+    ensures legal { AreLegal (task_in terms.now levels.now assumed.now) (noted_list terms.now work.new).lines }
+    ensures works { Works terms.now work.old work.new }
     ensures spent { IfErr result (λ s. OnSpent s (IsSpent work.new)) }
+    ensures stopped { IfErr result (λ s. OnWide s (IsStop terms.now (task_in terms.now levels.now assumed.now) work.new)) }
 {
     clauses_are_true();
     let mut prepared = posed(alloc, kept, levels, terms, assumed)?;
-    let refuted = prepared.solve(assumed, work)?;
+    let refuted = prepared.solve(terms, assumed, work)?;
     match refuted {
         Some(clause) => Ok(Found {
             verdict: Verdict::Unsat(clause),
             prepared,
         }),
-        None => {
-            let values = model(alloc, terms, &prepared)?;
-            Ok(Found {
+        None => match model(alloc, terms, &prepared) {
+            Ok(values) => Ok(Found {
                 verdict: Verdict::Sat(values),
                 prepared,
-            })
-        }
+            }),
+            Err(stop) => Err(stop),
+        },
     }
 }

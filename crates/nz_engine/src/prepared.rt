@@ -1,32 +1,50 @@
 //! What an engine keeps from check to check.
-ghost use Rattle.std.specs.Prelude.{◌≡◌, ◌<◌, ℕ, ◌≤◌, suc, ◌∷◌, ◌++◌, [], All, List, false, flat_map, length, map, None, IfErr, IfOk, IfSome, IsSome, OnOk};
+ghost use Rattle.std.specs.Prelude.{◌≡◌, ◌<◌, ℕ, ◌≤◌, suc, ◌++◌, [], All, List, false, flat_map, length, map, None, IfErr, IfOk, IfSome, IsSome, OnOk, true};
 ghost use Rattle.nz_spec.specs.Decide.{asserted_numbers};
-ghost use Rattle.nz_spec.specs.Table.{Node, term_in};
-ghost use Rattle.nz_spec.specs.Term.{holds_number};
+ghost use Rattle.nz_spec.specs.Gates.{is_boolean_term};
+ghost use Rattle.nz_spec.specs.Legal.{Task};
+ghost use Rattle.nz_spec.specs.Order.{HasCompanions};
+ghost use Rattle.nz_spec.specs.Table.{IsTable, Node, term_in};
+ghost use Rattle.nz_spec.specs.Taken.{IsTaken, IsTakenBoolean};
+ghost use Rattle.nz_spec.specs.Term as spec;
 ghost use Rattle.nz_spec.specs.Work.{IsSpent};
 ghost use Rattle.nz_log.specs.declared.term_lits.TermLit.{TermLit};
-ghost use Rattle.nz_log.specs.Atoms.{AreAtoms, lits_of};
+ghost use Rattle.nz_log.specs.declared.stop.Stop.TheVariants as stop;
+ghost use Rattle.nz_log.specs.Atoms.{AreAtoms};
 ghost use Rattle.nz_log.specs.Logs.{IsLive, JoinsAtoms, told_level};
+ghost use Rattle.nz_log.specs.Places.{OnWide};
 ghost use Rattle.nz_log.specs.Spelling.{AreStepsOf};
+ghost use Rattle.nz_log.specs.Standing.{Ends, Stands};
 ghost use Rattle.nz_log.specs.TermLits.{AreConsistent, AreNegations};
 ghost use Rattle.nz_log.specs.Verdicts.{OnSpent, task_in};
 ghost use Rattle.nz_cform.specs.Covering.{Covers};
-ghost use Rattle.nz_cform.specs.Forms.{IsListed, covered_at};
-ghost use Rattle.nz_sat.specs.Sats.{IsSatisfied, held_of, truth_of};
-ghost use Rattle.nz_engine.specs.Checking.{AreCovered, AreGatedAt, AreHanded, HaveAtoms, IsPosed, NotesFirst, Works, terms_named, truth_in, value_at, with_atoms};
+ghost use Rattle.nz_cform.specs.Forms.{covered_at};
+ghost use Rattle.nz_cform.specs.Stops as form;
+ghost use Rattle.nz_reals.specs.Chosen.{AddsValues};
+ghost use Rattle.nz_reals.specs.Stands.{HasTold, IsAt, IsFeasible, IsOf, IsOver};
+ghost use Rattle.nz_reals.specs.State.{empty_theory};
+ghost use Rattle.nz_reals.specs.Stored.{AreForms};
+ghost use Rattle.nz_sat.specs.Numbers.{IsAtomAt};
+ghost use Rattle.nz_sat.specs.Sats.{held_of};
+ghost use Rattle.nz_simplex.specs.State.{IsSound, position_over};
+ghost use Rattle.nz_engine.specs.Checking.{AreCovered, AreHanded, AreLearnable, AreNumbered, AreTakenAt, EndsWith, HasBegun, HasFound, IsPosed, IsReady, IsRootStop, IsStopOf, IsTermStop, MayBegin, NotesAll, NotesFirst, NotesForms, Works, atom_lines, note_of, terms_named, truth_in, value_at};
 ghost use Rattle.nz_engine.specs.Engines.{literals_in};
 ghost use Rattle.nz_engine.specs.Levels.{IsPlaced, count_of};
-ghost use Rattle.nz_engine.specs.Preparing.{CoversAlso, CutsTo, IsAssumable, IsPrepared, IsStanding, atoms_of, nothing_prepared};
+ghost use Rattle.nz_engine.specs.SearchLaws.{SearchLaws};
+ghost use Rattle.nz_engine.specs.Preparing.{CoversAlso, CutsTo, Excludes, IsAssumable, IsPrepared, IsStanding, KeepsBounds, boolean_term, boolean_terms, nothing_prepared};
 
 use crate::levels::Levels;
 use nz_base::{Memory, Work};
-use nz_cform::ClauseForm;
-use nz_cform::laws::covers_stay;
-use nz_log::laws::{atoms_of_terms, gates_are_named, logs_stay, logs_stay_leveled};
-use nz_log::{AtomId, ClauseId, Lit, Log, NoNumbers, Note, Step, Stop, TermLit};
+use nz_cform::laws::{covers_stay, rows_name_covered};
+use nz_cform::{ClauseForm, FormStop};
+use nz_log::laws::{atoms_of_terms, logs_stay, logs_stay_leveled, tells_lits};
+use nz_log::{Atom, AtomId, ClauseId, Lit, Log, Note, Place, Site, Step, Stop, TermLit};
+use nz_reals::{Reals, stored};
 use nz_sat::Sat;
-use nz_spec::derivation::gates_decide;
-use nz_spec::table::one_number;
+use nz_spec::deciding::taken_terms_are_in_order;
+use nz_spec::derivation::tells_literals;
+use nz_spec::form::forms_are_sums;
+use nz_spec::term::operands_are_sorted;
 use nz_term::{Assign, Head, Sort, TermId, Terms, Value, known_table};
 use std::alloc::Global;
 use std::marker::Model;
@@ -35,13 +53,16 @@ use std::marker::Model;
 /// assumed may be covered above all levels, for one check.
 #[derive(Debug, Drop)]
 pub struct Prepared {
+    alloc: Global,
     log: Log,
     form: ClauseForm,
-    sat: Sat<NoNumbers>,
+    sat: Sat<Reals>,
     // How many assertions have their clause, in the order of the levels.
     given: usize,
     // Whether terms are covered for assumed literals alone.
     above: bool,
+    // Neighbouring bounds with lower numbers have their clauses.
+    excluded: AtomId,
 }
 
 /// The atoms of a search, and the literals that it assumes.
@@ -65,11 +86,13 @@ impl Prepared {
         ensures empty { IfOk result (λ p. p ≡ nothing_prepared) }
     {
         Ok(Prepared {
+            alloc,
             log: Log::new(alloc)?,
             form: ClauseForm::new(alloc),
-            sat: Sat::new(alloc, NoNumbers::new()),
+            sat: Sat::new(alloc, Reals::new(alloc)),
             given: 0,
             above: false,
+            excluded: 0,
         })
     }
 
@@ -81,32 +104,46 @@ impl Prepared {
     }
 
     /// Adds the clauses of a term, and of all that it is made of, at a level.
-    fn cover(&mut self, terms: &Terms, term: TermId, level: usize) -> Result<(), Memory>
+    fn cover(&mut self, terms: &Terms, term: TermId, level: usize) -> Result<(), Stop>
         requires within { term < length terms.now }
+        requires taken { IsTaken (term_in terms.now term) }
+        requires companions { HasCompanions terms.now }
         requires told { (t : ℕ) → told_level self.old.log t ≤ level }
         requires covers { Covers terms.now self.old.log self.old.form }
         ensures covered { OnOk result (CoversAlso terms.now self.old term level self.new) }
         ensures above { self.new.above ≡ self.old.above }
+        ensures stop { IfErr result (IsTermStop terms.now (term_in terms.now term)) }
     {
-        let clauses = self.form.add_term(&mut self.log, terms, term, level)?;
-        hold(&mut self.sat, &self.log, &clauses)
+        let alloc = self.alloc;
+        let clauses = match self.form.add_term(alloc, &mut self.log, terms, term, level) {
+            Ok(clauses) => clauses,
+            Err(stop) => return Err(stop_of(stop)),
+        };
+        hold(&mut self.sat, &self.log, &clauses)?;
+        Ok(())
     }
 
     /// Adds that an assertion is true, which is the next one.
-    fn add_assertion(&mut self, terms: &Terms, term: TermId, level: usize) -> Result<(), Memory>
+    fn add_assertion(&mut self, terms: &Terms, term: TermId, level: usize) -> Result<(), Stop>
         requires within { term < length terms.now }
+        requires taken { IsTakenBoolean (term_in terms.now term) }
+        requires companions { HasCompanions terms.now }
         requires told { (t : ℕ) → told_level self.old.log t ≤ level }
         requires covers { Covers terms.now self.old.log self.old.form }
-        ensures stands { OnOk result ((levels : List (List ℕ)) → IsPlaced levels self.old.given term level → holds_number (term_in terms.now term) ≡ false → IsPrepared terms.now levels levels self.old → IsPrepared terms.now levels levels self.new) }
+        ensures stands { OnOk result ((levels : List (List ℕ)) → IsPlaced levels self.old.given term level → IsPrepared terms.now levels levels self.old → IsPrepared terms.now levels levels self.new) }
         ensures given { OnOk result (self.new.given ≡ suc self.old.given) }
+        ensures stop { IfErr result (IsTermStop terms.now (term_in terms.now term)) }
     {
         known_table(terms);
         covers_stay();
         logs_stay_leveled();
-        gates_are_named();
+        rows_name_covered();
+        taken_terms_are_in_order();
+        forms_are_sums();
+        operands_are_sorted();
         atoms_of_terms();
         let Some(given) = self.given.checked_add(1) else {
-            return Err(Memory);
+            return Err(Stop::Memory);
         };
         self.cover(terms, term, level)?;
         let clause = self.log.given(self.given, term, level)?;
@@ -119,15 +156,16 @@ impl Prepared {
     ///
     /// # Errors
     ///
-    /// `Memory`.
-    pub fn add_assertions(&mut self, terms: &Terms, levels: &Levels) -> Result<(), Memory>
+    /// `Wide` with an operation of one of these terms that leaves the numbers, and `Memory`.
+    pub fn add_assertions(&mut self, terms: &Terms, levels: &Levels) -> Result<(), Stop>
         requires within { All (λ t. t < length terms.now) (asserted_numbers levels.now) }
-        requires gated { AreGatedAt terms.now (asserted_numbers levels.now) }
+        requires taken { AreTakenAt terms.now (asserted_numbers levels.now) }
+        requires companions { HasCompanions terms.now }
         requires stands { IsPrepared terms.now levels.now levels.now self.old }
         ensures stands { OnOk result (IsPrepared terms.now levels.now levels.now self.new) }
         ensures all_given { OnOk result (count_of levels.now ≡ self.new.given) }
+        ensures stop { IfErr result (IsRootStop terms.now (asserted_numbers levels.now)) }
     {
-        gates_decide();
         while let Some(next) = levels.at(self.given) {
             self.add_assertion(terms, next.term, next.level)?;
         }
@@ -135,17 +173,23 @@ impl Prepared {
     }
 
     /// Covers the term of an assumed literal above all levels, of which there are so many, unless it is covered.
-    fn assume_term(&mut self, terms: &Terms, term: TermId, level: usize) -> Result<(), Memory>
+    fn assume_term(&mut self, terms: &Terms, term: TermId, level: usize) -> Result<(), Stop>
         requires within { term < length terms.now }
+        requires taken { IsTaken (term_in terms.now term) }
+        requires companions { HasCompanions terms.now }
         requires told { (t : ℕ) → told_level self.old.log t ≤ level }
         requires covers { Covers terms.now self.old.log self.old.form }
         ensures stands { OnOk result ((levels : List (List ℕ)) (more : List ℕ) → IsAssumable terms.now levels more term level self.old → IsStanding terms.now levels more self.new) }
         ensures covered { OnOk result (IsSome (covered_at self.new.form term)) }
         ensures stays { OnOk result ((t : ℕ) → IsSome (covered_at self.old.form t) → IsSome (covered_at self.new.form t)) }
         ensures given { OnOk result (self.new.given ≡ self.old.given) }
+        ensures stop { IfErr result (IsTermStop terms.now (term_in terms.now term)) }
     {
         known_table(terms);
-        gates_are_named();
+        rows_name_covered();
+        taken_terms_are_in_order();
+        forms_are_sums();
+        operands_are_sorted();
         atoms_of_terms();
         if self.form.is_covered(term) {
             return Ok(());
@@ -158,22 +202,23 @@ impl Prepared {
     ///
     /// # Errors
     ///
-    /// `Memory`.
+    /// `Wide` with an operation of one of these terms that leaves the numbers, and `Memory`.
     pub fn assume(
         &mut self,
         terms: &Terms,
         levels: &Levels,
         assumed: &[TermLit],
-    ) -> Result<(), Memory>
+    ) -> Result<(), Stop>
         requires within { All (λ t. t < length terms.now) (terms_named assumed.now) }
-        requires gated { AreGatedAt terms.now (terms_named assumed.now) }
+        requires taken { AreTakenAt terms.now (terms_named assumed.now) }
+        requires companions { HasCompanions terms.now }
         requires stands { IsPrepared terms.now levels.now levels.now self.old }
         requires all_given { count_of levels.now ≡ self.old.given }
         ensures stands { OnOk result (IsStanding terms.now levels.now (terms_named assumed.now) self.new) }
         ensures covered { OnOk result (AreCovered self.new assumed.now) }
         ensures given { OnOk result (self.new.given ≡ self.old.given) }
+        ensures stop { IfErr result (IsRootStop terms.now (terms_named assumed.now)) }
     {
-        gates_decide();
         let level = levels.len();
         for literal in assumed {
             self.assume_term(terms, literal.term, level)?;
@@ -181,72 +226,112 @@ impl Prepared {
         Ok(())
     }
 
-    /// Searches for truths of the covered terms, which it notes as atoms, under which each clause and each assumed literal is true. Answers `None` where
-    /// it found them, and otherwise a clause whose literals are negations of assumed ones.
+    /// Searches for truths of the covered Boolean terms and of the bounds, which it notes as atoms, under which each clause and each assumed literal is
+    /// true, and for values that meet the bounds. Answers `None` where it found them, and otherwise a clause whose literals are negations of assumed ones.
     ///
     /// # Errors
     ///
-    /// `Spent` where one more unit was wanted than the work list has, and `Memory`.
+    /// `Spent` where one more unit was wanted than the work list has, `Wide` where an operation leaves the numbers, and `Memory`.
     pub fn solve(
         &mut self,
+        terms: &Terms,
         assumed: &[TermLit],
         work: &mut Work<Note>,
     ) -> Result<Option<ClauseId>, Stop>
-        requires posed { (ns : List Node) × (levels : List (List ℕ)) × IsPosed ns levels assumed.now self.old }
+        requires posed { (levels : List (List ℕ)) × IsPosed terms.now levels assumed.now self.old }
         requires consistent { AreConsistent assumed.now }
         requires no_steps { work.old.lines ≡ [] }
-        ensures posed { OnOk result ((ns : List Node) (levels : List (List ℕ)) → IsPosed ns levels assumed.now self.old → IsPosed ns levels assumed.now self.new) }
-        ensures satisfied { IfOk result (λ r. r ≡ None → IsSatisfied self.new.log self.new.sat (lits_of self.new.log.atoms assumed.now) (atoms_of self.new)) }
-        ensures there { OnOk result (HaveAtoms self.new assumed.now) }
+        ensures posed { OnOk result ((levels : List (List ℕ)) → IsPosed terms.now levels assumed.now self.old → IsPosed terms.now levels assumed.now self.new) }
+        ensures found { IfOk result (λ r. r ≡ None → HasFound terms.now assumed.now self.new) }
         ensures refuted { IfOk result (λ r. IfSome r (λ id. AreNegations assumed.now (literals_in self.new.log id))) }
-        ensures works { (ns : List Node) (levels : List (List ℕ)) → IsPosed ns levels assumed.now self.old → Works ns (task_in ns levels assumed.now) work.old work.new }
+        ensures ends { (levels : List (List ℕ)) → IsPosed terms.now levels assumed.now self.old → Ends (IsAt self.new.sat.theory terms.now) terms.now (task_in terms.now levels assumed.now) work.new result }
+        ensures works { Works terms.now work.old work.new }
         ensures spent { IfErr result (λ s. OnSpent s (IsSpent work.new)) }
     {
-        gates_decide();
-        one_number();
-        covers_stay();
-        logs_stay();
-        logs_stay_leveled();
-        atoms_of_terms();
-        note_atoms(self.form.terms(), work)?;
-        let named = self.named(assumed)?;
-        self.sat
-            .solve(&mut self.log, &named.atoms, &named.literals, work)
+        search_laws();
+        let named = self.ready(terms, assumed)?;
+        let atoms: &[AtomId] = &named.atoms;
+        let literals: &[Lit] = &named.literals;
+        let theory = begun(self.alloc, &self.log, atoms, work)?;
+        self.exclude(&theory, atoms)?;
+        self.sat.theory = theory;
+        self.sat.solve(&mut self.log, atoms, literals, work)
     }
 
-    /// The atoms of the covered terms, and the assumed literals on them. Atoms join the log's where they aren't there.
-    fn named(&mut self, assumed: &[TermLit]) -> Result<Named, Memory>
+    /// Adds the clauses for neighbouring bounds among these atoms, which a theory has learned of, and holds them. Two that had theirs get none.
+    fn exclude(&mut self, theory: &Reals, atoms: &[AtomId]) -> Result<(), Memory>
+        requires of { IsOf theory.now self.old.log.atoms atoms.now }
+        ensures excludes { OnOk result (Excludes self.old atoms.now self.new) }
+    {
+        let clauses = theory.exclusions(&mut self.log, atoms, self.excluded)?;
+        hold(&mut self.sat, &self.log, &clauses)?;
+        self.excluded = self.log.atom_count();
+        Ok(())
+    }
+
+    /// Names what a search is handed, which may begin then.
+    fn ready(&mut self, terms: &Terms, assumed: &[TermLit]) -> Result<Named, Memory>
+        requires posed { (levels : List (List ℕ)) × IsPosed terms.now levels assumed.now self.old }
+        ensures ready { IfOk result (λ n. IsReady terms.now assumed.now self.old self.new n.atoms.items n.literals.items) }
+    {
+        search_laws();
+        logs_stay();
+        logs_stay_leveled();
+        self.named(terms, assumed)
+    }
+
+    /// The atoms of the covered Boolean terms and the bounds, and the assumed literals on atoms. Atoms join the log's where they aren't there.
+    fn named(&mut self, terms: &Terms, assumed: &[TermLit]) -> Result<Named, Memory>
+        requires covers { Covers terms.now self.old.log self.old.form }
         ensures rest { self.new ≡ record self.old { log = self.new.log } }
         ensures joins { JoinsAtoms self.old.log self.new.log }
         ensures all { AreAtoms self.new.log.atoms }
-        ensures handed { IfOk result (λ n. AreHanded self.new assumed.now n.atoms.items n.literals.items) }
+        ensures handed { IfOk result (λ n. AreHanded terms.now self.new assumed.now n.atoms.items n.literals.items) }
     {
         atoms_of_terms();
-        let atoms = self.log.term_atoms(self.form.terms())?;
+        self.log.atom_count();
+        let booleans = booleans_of(self.alloc, terms, self.form.terms())?;
+        let mut atoms = self.log.term_atoms(&booleans)?;
+        atoms.extend_from_slice(self.form.bounds())?;
         let literals = self.log.lits_of(assumed)?;
         Ok(Named { atoms, literals })
     }
 
-    /// Takes back what stands above a level, up to which these levels go. Takes no memory.
-    pub fn cut(&mut self, level: usize, levels: &Levels)
+    /// Takes back what stands above a level, up to which these levels go. Answers whether each bound is listed still: a clause that was learned may
+    /// have bounds that only clauses of higher levels have besides. Takes no memory.
+    pub fn cut(&mut self, level: usize, levels: &Levels) -> bool
         ensures cuts { CutsTo self.old level (count_of levels.now) self.new }
+        ensures keeps { result ≡ true → KeepsBounds self.old.form self.new.form }
     {
+        let count = self.form.bounds().len();
         self.log.drop_above(level);
         self.form.cut(level);
         self.sat.cut(level);
         self.given = levels.count_up_to(self.given);
         self.above = false;
+        self.form.bounds().len() == count
     }
 
-    /// The truths of the constants that the last search found.
+    /// Says what holds of the theory of each search.
+    pub fn known(&self)
+        ensures forms { AreForms self.now.sat.theory.simplex }
+        ensures sound { IsSound self.now.sat.theory.simplex }
+    {
+        stored(&self.sat.theory);
+    }
+
+    /// The truths of the constants that the last search found, and the numbers of those in bounds.
     ///
     /// # Errors
     ///
-    /// `Memory`.
-    pub fn values(&self, alloc: Global, terms: &Terms) -> Result<Assign, Memory>
+    /// `Wide` where an operation leaves the numbers, and `Memory`.
+    pub fn values(&self, alloc: Global, terms: &Terms) -> Result<Assign, Stop>
         requires covers { Covers terms.now self.now.log self.now.form }
-        ensures values { IfOk result (λ ps. ps ≡ flat_map (value_at terms.now self.now) self.now.form.terms) }
-        ensures listed { IsListed self.now.form }
+        requires over { IsOver self.now.sat.theory terms.now }
+        requires feasible { IsFeasible self.now.sat.theory }
+        ensures values { IfOk result (λ ps. AddsValues self.now.sat.theory terms.now (position_over terms.now self.now.sat.theory.simplex) (flat_map (value_at terms.now self.now) self.now.form.terms.ids) ps) }
+        ensures place { IfErr result (λ e. OnWide e (IsStopOf terms.now self.now.sat.theory)) }
+        ensures unspent { IfErr result (λ e. e ≡ stop.Spent → ⊥) }
     {
         values_of(alloc, self, terms, self.form.terms())
     }
@@ -264,8 +349,18 @@ impl Prepared {
     }
 }
 
+/// Says what a search over what is prepared rests on.
+fn search_laws()
+    ensures laws { SearchLaws }
+{
+    atoms_of_terms();
+    covers_stay();
+    forms_are_sums();
+    operands_are_sorted();
+}
+
 /// Holds these clauses too.
-fn hold(sat: &mut Sat<NoNumbers>, log: &Log, clauses: &[ClauseId]) -> Result<(), Memory>
+fn hold(sat: &mut Sat<Reals>, log: &Log, clauses: &[ClauseId]) -> Result<(), Memory>
     requires live { All (λ id. IsLive log.now id) clauses.now }
     ensures held { OnOk result (sat.new.clauses ≡ sat.old.clauses ++ map (held_of log.now) clauses.now) }
 {
@@ -275,15 +370,123 @@ fn hold(sat: &mut Sat<NoNumbers>, log: &Log, clauses: &[ClauseId]) -> Result<(),
     Ok(())
 }
 
-/// Notes each of these terms as an atom.
-fn note_atoms(atoms: &[TermId], work: &mut Work<Note>) -> Result<(), Memory>
-    ensures all { OnOk result (work.new ≡ with_atoms work.old atoms.now) }
-    ensures first { NotesFirst atoms.now work.old work.new }
+/// What stops the clauses of a term.
+fn stop_of(stop: FormStop) -> Stop
+    ensures stop { (ns : List Node) (root : spec.Term) → form.OnWide stop (form.IsStopIn ns root) → IsTermStop ns root result }
 {
-    for term in atoms {
-        work.note(Note::Atom(*term))?;
+    match stop {
+        FormStop::Wide(wide, term) => Stop::Wide(Place {
+            wide,
+            site: Site::Term(term),
+        }),
+        FormStop::Memory => Stop::Memory,
+    }
+}
+
+/// Those of these terms that are Boolean.
+fn booleans_of(alloc: Global, terms: &Terms, covered: &[TermId]) -> Result<Vec<TermId>, Memory>
+    requires within { All (λ t. t < length terms.now) covered.now }
+    ensures booleans { IfOk result (λ ts. ts.items ≡ boolean_terms terms.now covered.now) }
+{
+    let mut booleans = Vec::new(alloc);
+    for term in covered {
+        add_boolean(terms, *term, &mut booleans)?;
+    }
+    Ok(booleans)
+}
+
+/// Adds a term, where it is Boolean.
+fn add_boolean(terms: &Terms, term: TermId, booleans: &mut Vec<TermId>) -> Result<(), Memory>
+    requires within { term < length terms.now }
+    ensures added { OnOk result (booleans.new.items ≡ booleans.old.items ++ boolean_term terms.now term) }
+{
+    if is_boolean(terms, term) {
+        booleans.push(term)?;
     }
     Ok(())
+}
+
+/// Whether a term is Boolean.
+fn is_boolean(terms: &Terms, term: TermId) -> bool
+    requires within { term < length terms.now }
+    ensures boolean { result ≡ is_boolean_term (term_in terms.now term) }
+{
+    match terms.node(term).head.sort() {
+        Sort::Bool => true,
+        Sort::Int => false,
+        Sort::Real => false,
+    }
+}
+
+/// The note of an atom.
+fn noted(alloc: Global, atom: &Atom) -> Result<Note, Memory>
+    ensures note { IfOk result (λ n. n ≡ note_of atom.now) }
+{
+    match atom {
+        Atom::Term(term) => Ok(Note::Atom(*term)),
+        Atom::AtMost(bound) => Ok(Note::Bound(bound.copied(alloc)?)),
+    }
+}
+
+/// Notes each of these atoms.
+fn note_atoms(
+    alloc: Global,
+    log: &Log,
+    atoms: &[AtomId],
+    work: &mut Work<Note>,
+) -> Result<(), Memory>
+    requires within { All (λ i. i < length log.now.atoms) atoms.now }
+    ensures all { OnOk result (work.new ≡ record work.old { lines = work.old.lines ++ atom_lines log.now.atoms atoms.now }) }
+    ensures first { NotesFirst log.now.atoms atoms.now work.old work.new }
+{
+    for id in atoms {
+        let line = noted(alloc, log.atom(*id))?;
+        work.note(line)?;
+    }
+    Ok(())
+}
+
+/// The theory over the sums that these atoms bound, which are noted.
+fn reals_of(
+    alloc: Global,
+    log: &Log,
+    atoms: &[AtomId],
+    work: &mut Work<Note>,
+) -> Result<Reals, Stop>
+    requires learnable { AreLearnable log.now.atoms atoms.now }
+    ensures untold { IfOk result (λ r. HasTold r []) }
+    ensures of { IfOk result (λ r. IsOf r log.now.atoms atoms.now) }
+    ensures over { IfOk result (λ r. (ns : List Node) → IsTable ns → All (IsAtomAt ns log.now.atoms) atoms.now → IsOver r ns) }
+    ensures forms { NotesForms work.old work.new }
+    // Where the list knows each of the atoms by its place, and the theory of no sum stands where it leads, so does this one, where it leads then.
+    ensures stands { IfOk result (λ r. (ns : List Node) (q : Task) → IsTable ns → All (IsAtomAt ns log.now.atoms) atoms.now → AreNumbered ns log.now.atoms atoms.now work.old → Stands (IsAt empty_theory ns) ns q work.old → Stands (IsAt r ns) ns q work.new) }
+    ensures stopped { IfErr result (λ e. (ns : List Node) (q : Task) → IsTable ns → All (IsAtomAt ns log.now.atoms) atoms.now → AreNumbered ns log.now.atoms atoms.now work.old → Stands (IsAt empty_theory ns) ns q work.old → EndsWith ns q work.new e) }
+    ensures unspent { IfErr result (λ e. e ≡ stop.Spent → ⊥) }
+{
+    let mut reals = Reals::new(alloc);
+    for number in 0..atoms.len() {
+        reals.add_atom(log, atoms[number], number, work)?;
+    }
+    Ok(reals)
+}
+
+/// Notes these atoms, and makes the theory over the sums that they bound.
+fn begun(alloc: Global, log: &Log, atoms: &[AtomId], work: &mut Work<Note>) -> Result<Reals, Stop>
+    requires learnable { AreLearnable log.now.atoms atoms.now }
+    requires no_steps { work.old.lines ≡ [] }
+    ensures untold { IfOk result (λ r. HasTold r []) }
+    ensures of { IfOk result (λ r. IsOf r log.now.atoms atoms.now) }
+    ensures over { IfOk result (λ r. (ns : List Node) → IsTable ns → All (IsAtomAt ns log.now.atoms) atoms.now → IsOver r ns) }
+    ensures begun { HasBegun log.now.atoms atoms.now work.old work.new }
+    ensures all { OnOk result (NotesAll log.now.atoms atoms.now work.new) }
+    ensures stands { IfOk result (λ r. (ns : List Node) (q : Task) → MayBegin ns q log.now.atoms atoms.now → Stands (IsAt r ns) ns q work.new) }
+    ensures stopped { IfErr result (λ e. (ns : List Node) (q : Task) → MayBegin ns q log.now.atoms atoms.now → EndsWith ns q work.new e) }
+    ensures unspent { IfErr result (λ e. e ≡ stop.Spent → ⊥) }
+{
+    tells_lits();
+    tells_literals();
+    note_atoms(alloc, log, atoms, work)?;
+    reals_of(alloc, log, atoms, work)
 }
 
 /// The truth of a term, where it has one.
@@ -315,19 +518,24 @@ fn add_value(
     Ok(())
 }
 
-/// The truths of the constants among these terms.
+/// The truths of the constants among these terms, and the numbers that the theory gives.
 fn values_of(
     alloc: Global,
     prepared: &Prepared,
     terms: &Terms,
     covered: &[TermId],
-) -> Result<Assign, Memory>
+) -> Result<Assign, Stop>
     requires within { All (λ t. t < length terms.now) covered.now }
-    ensures values { IfOk result (λ ps. ps ≡ flat_map (value_at terms.now prepared.now) covered.now) }
+    requires over { IsOver prepared.now.sat.theory terms.now }
+    requires feasible { IsFeasible prepared.now.sat.theory }
+    ensures values { IfOk result (λ ps. AddsValues prepared.now.sat.theory terms.now (position_over terms.now prepared.now.sat.theory.simplex) (flat_map (value_at terms.now prepared.now) covered.now) ps) }
+    ensures place { IfErr result (λ e. OnWide e (IsStopOf terms.now prepared.now.sat.theory)) }
+    ensures unspent { IfErr result (λ e. e ≡ stop.Spent → ⊥) }
 {
     let mut values = Assign::new(alloc)?;
     for term in covered {
         add_value(prepared, terms, *term, &mut values)?;
     }
+    prepared.sat.theory.add_values(terms, &mut values)?;
     Ok(values)
 }

@@ -8,7 +8,7 @@ use Rattle.std.proofs.Math.Seq.{take-append_seam}
 use Rattle.nz_spec.specs.Table.{Node}
 use Rattle.nz_spec.specs.Decide.{IsFrontOfTable, asserted_numbers, with_number}
 use Rattle.nz_engine.specs.Engines.{EngineState}
-use Rattle.nz_engine_tests.specs.Benches.{IsGatedAt, IsInOrder}
+use Rattle.nz_engine_tests.specs.Benches.{IsFormula, IsInOrder}
 
 numbers_added : (levels : List (List ℕ)) (i : ℕ) → 0 < length levels → asserted_numbers (with_number levels i) ≡ asserted_numbers levels ++ i ∷ []
 numbers_added [] i l = absurd (omega arith)
@@ -36,24 +36,22 @@ popped ns old new depth h l levels table =
     let size : length new.levels ≡ length old.levels - 1 = ap length levels ∙ length-take-le (length old.levels - 1) old.levels (omega arith) in
     record {
       ready = record {
-        asserted = subst (λ ls. All (IsGatedAt ns) (asserted_numbers ls)) (sym levels) (front_numbers (IsGatedAt ns) (length old.levels - 1) old.levels h.ready.asserted);
+        asserted = subst (λ ls. All (IsFormula ns) (asserted_numbers ls)) (sym levels) (front_numbers (IsFormula ns) (length old.levels - 1) old.levels h.ready.asserted);
         front = subst (λ t. IsFrontOfTable t ns) (sym table) h.ready.front;
       };
       deep = omega arith;
-      gated = h.gated;
     }
 
 -- a term of the table is asserted
-pub added : (ns : List Node) (old new : EngineState) (depth i : ℕ) → IsInOrder ns old depth → i < length ns → new.levels ≡ with_number old.levels i → new.table ≡ old.table → IsInOrder ns new depth
-added ns old new depth i h within levels table =
+pub added : (ns : List Node) (old new : EngineState) (depth i : ℕ) → IsInOrder ns old depth → IsFormula ns i → new.levels ≡ with_number old.levels i → new.table ≡ old.table → IsInOrder ns new depth
+added ns old new depth i h formula levels table =
     let deep : depth < length old.levels = h.deep in
     let numbers : asserted_numbers new.levels ≡ asserted_numbers old.levels ++ i ∷ [] = ap asserted_numbers levels ∙ numbers_added old.levels i (omega arith) in
     let size : length new.levels ≡ length old.levels = ap length levels ∙ length_added old.levels i in
     record {
       ready = record {
-        asserted = subst (All (IsGatedAt ns)) (sym numbers) (All-push (IsGatedAt ns) (asserted_numbers old.levels) i h.ready.asserted (h.gated i within));
+        asserted = subst (All (IsFormula ns)) (sym numbers) (All-push (IsFormula ns) (asserted_numbers old.levels) i h.ready.asserted formula);
         front = subst (λ t. IsFrontOfTable t ns) (sym table) h.ready.front;
       };
       deep = omega arith;
-      gated = h.gated;
     }

@@ -1,20 +1,15 @@
 -- What an engine may be asked about, over a table that grows.
-use Rattle.std.specs.Prelude.{◌≡◌, ℕ, ◌<◌, ◌++◌, List, length, All}
-use Rattle.nz_spec.specs.Gates.{IsGated, IsRow}
-use Rattle.nz_spec.specs.Term.{Head}
-use Rattle.nz_spec.specs.Table.{Node, term_in, terms_at}
+use Rattle.std.specs.Prelude.{◌≡◌, ℕ, ◌<◌, ◌++◌, true, List, length, All}
 use Rattle.nz_spec.specs.Decide.{asserted_numbers, IsFrontOfTable}
+use Rattle.nz_spec.specs.Gates.{is_boolean_term}
+use Rattle.nz_spec.specs.Table.{Node, term_in}
 use Rattle.nz_log.specs.declared.term_lits.TermLit.{TermLit}
 use Rattle.nz_engine.specs.Engines.{EngineState}
 
--- The number is one of the table, and its term is of the gate table.
-pub record IsGatedAt (ns : List Node) (i : ℕ) : Type 0 where
+-- The number is one of the table, and its term is of sort Bool.
+pub record IsFormula (ns : List Node) (i : ℕ) : Type 0 where
   pub within : i < length ns
-  pub gated : IsGated (term_in ns i)
-
--- a head of the gate table, over as many arguments as it has there
-abbrev pub IsRowAt : List Node → Head → List ℕ → Type 0
-IsRowAt ns h kids = IsRow h (terms_at (term_in ns) kids)
+  pub boolean : is_boolean_term (term_in ns i) ≡ true
 
 -- The table goes on, and each number stands for the term that it stood for.
 pub record Extends (old new : List Node) : Type 0 where
@@ -22,22 +17,21 @@ pub record Extends (old new : List Node) : Type 0 where
   pub all : new ≡ old ++ more
   pub stays : (i : ℕ) → i < length old → term_in new i ≡ term_in old i
 
--- The terms that an engine was told are of the gate table, and the table of its last check is a front of this one.
+-- The terms that an engine was told are formulas, and the table of its last check is a front of this one.
 pub record IsReady (ns : List Node) (engine : EngineState) : Type 0 where
-  pub asserted : All (IsGatedAt ns) (asserted_numbers engine.levels)
+  pub asserted : All (IsFormula ns) (asserted_numbers engine.levels)
   pub front : IsFrontOfTable engine.table ns
 
--- the literals name terms of the gate table
-abbrev pub AreGatedLits : List Node → List TermLit → Type 0
-AreGatedLits ns ls = All (λ (l : TermLit). IsGatedAt ns l.term) ls
+-- the literals name formulas
+abbrev pub AreFormulaLits : List Node → List TermLit → Type 0
+AreFormulaLits ns ls = All (λ (l : TermLit). IsFormula ns l.term) ls
 
 -- what a bench holds
 pub record BenchState : Type 0 where
   pub terms : List Node
   pub engine : EngineState
 
--- The engine is ready, and has more levels than are counted. All terms are of the gate table.
+-- The engine is ready, and has more levels than are counted.
 pub record IsInOrder (ns : List Node) (engine : EngineState) (depth : ℕ) : Type 0 where
   pub ready : IsReady ns engine
   pub deep : depth < length engine.levels
-  pub gated : (i : ℕ) → i < length ns → IsGatedAt ns i

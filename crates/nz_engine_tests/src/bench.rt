@@ -1,18 +1,23 @@
 //! An engine with its table. What a call asks of its arguments is tested here, so that the tests have nothing to prove: the bench's invariant
 //! is known to no other file.
-ghost use Rattle.std.specs.Prelude.{◌≡◌, ◌<◌, All, IsTrue};
+ghost use Rattle.std.specs.Prelude.{◌≡◌, All, IsTrue, OnOk, length};
 ghost use Rattle.std.specs.Bool.{OnTrue};
 ghost use Rattle.nz_spec.specs.Decide.{IsFrontOfTable};
+ghost use Rattle.nz_spec.specs.Order.{HasCompanions};
 ghost use Rattle.nz_spec.specs.Table.{HasItsArguments};
 ghost use Rattle.nz_spec.specs.Term.{head_fits};
 ghost use Rattle.nz_term.specs.Heads.{head_of};
 ghost use Rattle.nz_log.specs.TermLits.{AreConsistent};
-ghost use Rattle.nz_engine_tests.specs.Benches.{AreGatedLits, IsReady, IsRowAt};
+ghost use Rattle.nz_taken_samples.specs.Sorted.{AreTaken};
+ghost use Rattle.nz_engine_tests.specs.Benches.{AreFormulaLits, IsFormula, IsReady};
 
 use nz_base::{Memory, Text, Work};
 use nz_engine::Engine;
 use nz_log::{Decide, Stop, TermLit, Verdict};
-use nz_term::{Constant, Head, Operator, Sort, TermId, Terms};
+use nz_taken_samples::need_taken;
+use nz_term::{
+    Constant, Head, Operator, Sort, TermId, Terms, add_companions, operators_are_no_leaves,
+};
 use nz_term_samples::are_below;
 use std::alloc::Global;
 use std::marker::Model;
@@ -44,7 +49,9 @@ pub enum Answer {
     /// By so many steps, of a clause whose literals are negations of assumed ones.
     Unsat(usize),
     Spent,
-    /// The engine can't be asked: what is assumed is of no term, or one literal of it is the negation of another.
+    /// An operation left the numbers.
+    Wide,
+    /// The engine can't be asked: what is assumed is of no formula, or one literal of it is the negation of another.
     Unasked,
 }
 
@@ -66,9 +73,8 @@ impl Bench {
         &self.terms
     }
 
-    /// The term of a head of the gate table over these terms. There is none where one of them isn't of the table of terms.
+    /// The term of a head over these terms. There is none where one of them isn't of the table of terms.
     fn put(&mut self, head: Head<'_>, kids: &[TermId]) -> Result<Option<TermId>, Memory>
-        requires row { IsRowAt self.old.terms (head_of head) kids.now }
         requires fits { IsTrue (head_fits (head_of head)) }
         requires leaves { HasItsArguments (head_of head) kids.now }
     {
@@ -78,27 +84,29 @@ impl Bench {
         self.terms.make(head, kids).map(Some)
     }
 
-    /// The constant of a number.
-    pub fn constant(&mut self, number: usize) -> Result<Option<TermId>, Memory> {
-        let name = format!(in self.alloc; "p{number}")?;
+    /// The constant of a number and a sort.
+    pub fn constant(&mut self, number: usize, sort: Sort) -> Result<Option<TermId>, Memory> {
+        let name = format!(in self.alloc; "c{number}")?;
         let constant = Constant {
             name: Text::from_slice(self.alloc, name.as_bytes())?,
-            sort: Sort::Bool,
+            sort,
         };
         self.put(Head::Constant(&constant), &[])
     }
 
-    /// The term of an operator over these terms, where that is of the gate table.
-    pub fn make(&mut self, operator: Operator, kids: &[TermId]) -> Result<Option<TermId>, Memory> {
-        let head = Head::Operator(operator);
-        match (operator, kids) {
-            (Operator::True | Operator::False, []) => self.put(head, &[]),
-            (Operator::And | Operator::Or, _) => self.put(head, kids),
-            (Operator::Not, [a]) => self.put(head, &[*a]),
-            (Operator::Xor | Operator::Equal, [a, b]) => self.put(head, &[*a, *b]),
-            (Operator::Ite(Sort::Bool), [c, a, b]) => self.put(head, &[*c, *a, *b]),
-            _ => Ok(None),
+    /// The decimal of so many tenths.
+    pub fn tenths(&mut self, tenths: u128) -> Result<Option<TermId>, Memory> {
+        let head = Head::Decimal(tenths, 1);
+        if !head.fits() {
+            return Ok(None);
         }
+        self.put(head, &[])
+    }
+
+    /// The term of an operator over these terms.
+    pub fn make(&mut self, operator: Operator, kids: &[TermId]) -> Result<Option<TermId>, Memory> {
+        operators_are_no_leaves();
+        self.put(Head::Operator(operator), kids)
     }
 
     /// Begins a level.
@@ -116,30 +124,54 @@ impl Bench {
         }
     }
 
-    /// Asserts a term. Answers whether it is of the table of terms.
+    /// Asserts a term. Answers whether it is a formula of the table.
     pub fn assert(&mut self, term: TermId) -> Result<bool, Memory> {
-        if self.terms.len() <= term {
+        if !is_formula(&self.terms, term) {
             return Ok(false);
         }
         self.engine.add(term)?;
         Ok(true)
     }
 
-    /// Asks whether what is asserted and these literals can all be true, with so many units.
+    /// Makes the companions of all terms.
+    fn complete(&mut self) -> Result<(), Memory>
+        ensures companions { OnOk result (HasCompanions self.new.terms) }
+    {
+        add_companions(self.alloc, &mut self.terms, 0)
+    }
+
+    /// Asks whether what is asserted and these literals can all be true, with so many units. All terms of the table are to be such that checks take
+    /// them.
     pub fn check(&mut self, assumed: &[TermLit], units: u64) -> Result<Answer, Memory> {
-        if !name_below(assumed, self.terms.len()) {
+        self.complete()?;
+        need_taken(&self.terms)?;
+        if !name_formulas(&self.terms, assumed) {
             return Ok(Answer::Unasked);
         }
         ask(self.alloc, &self.terms, &mut self.engine, assumed, units)
     }
 }
 
-/// Whether these literals name terms below this number.
-fn name_below(literals: &[TermLit], count: usize) -> bool
-    ensures below { OnTrue result (All (λ l. l.term < count) literals.now) }
+/// Whether a number is of a term of sort `Bool`.
+fn is_formula(terms: &Terms, term: TermId) -> bool
+    ensures formula { OnTrue result (IsFormula terms.now term) }
+{
+    if terms.len() <= term {
+        return false;
+    }
+    match terms.node(term).head.sort() {
+        Sort::Bool => true,
+        Sort::Int => false,
+        Sort::Real => false,
+    }
+}
+
+/// Whether these literals name formulas.
+fn name_formulas(terms: &Terms, literals: &[TermLit]) -> bool
+    ensures formulas { OnTrue result (AreFormulaLits terms.now literals.now) }
 {
     for i in 0..literals.len() {
-        if count <= literals[i].term {
+        if !is_formula(terms, literals[i].term) {
             return false;
         }
     }
@@ -167,7 +199,9 @@ fn ask(
     units: u64,
 ) -> Result<Answer, Memory>
     requires ready { IsReady terms.now engine.old }
-    requires gated { AreGatedLits terms.now assumed.now }
+    requires companions { HasCompanions terms.now }
+    requires taken { AreTaken terms.now (length terms.now) }
+    requires formulas { AreFormulaLits terms.now assumed.now }
     ensures levels { engine.new.levels ≡ engine.old.levels }
     ensures front { IsFrontOfTable engine.new.table terms.now }
 {
@@ -180,6 +214,7 @@ fn ask(
         Ok(Verdict::Sat(_)) => Ok(Answer::Sat),
         Ok(Verdict::Unsat(clause)) => Ok(Answer::Unsat(engine.steps(clause)?.len())),
         Err(Stop::Spent) => Ok(Answer::Spent),
+        Err(Stop::Wide(_)) => Ok(Answer::Wide),
         Err(Stop::Memory) => Err(Memory),
     }
 }

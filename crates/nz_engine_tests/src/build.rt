@@ -1,27 +1,29 @@
-//! The terms of formulas, which are of the gate table.
+//! The terms of formulas.
 
 use crate::bench::Bench;
 use crate::formula::Part;
 use nz_base::Memory;
 use nz_log::TermLit;
-use nz_term::{Operator, Sort, TermId};
+use nz_term::{NumberSort, Operator, Sort, TermId};
 use std::alloc::Global;
 
 /// How many arguments a part has.
 fn arity(part: Part) -> usize {
     match part {
-        Part::Atom(_) | Part::True | Part::False => 0,
+        Part::Atom(_) | Part::Real(_) | Part::Tenths(_) | Part::True | Part::False => 0,
         Part::Not => 1,
-        Part::And(count) | Part::Or(count) => count,
-        Part::Xor | Part::Equal => 2,
-        Part::Ite => 3,
+        Part::And(count) | Part::Or(count) | Part::Sum(count) => count,
+        Part::Xor | Part::Equal | Part::Less | Part::AtMost => 2,
+        Part::Ite | Part::Choose => 3,
     }
 }
 
 /// The term of a part over these arguments, if it has as many.
 fn term_over(bench: &mut Bench, part: Part, kids: &[TermId]) -> Result<Option<TermId>, Memory> {
     let operator = match part {
-        Part::Atom(number) => return bench.constant(number),
+        Part::Atom(number) => return bench.constant(number, Sort::Bool),
+        Part::Real(number) => return bench.constant(number, Sort::Real),
+        Part::Tenths(tenths) => return bench.tenths(tenths),
         Part::True => Operator::True,
         Part::False => Operator::False,
         Part::Not => Operator::Not,
@@ -30,6 +32,10 @@ fn term_over(bench: &mut Bench, part: Part, kids: &[TermId]) -> Result<Option<Te
         Part::Xor => Operator::Xor,
         Part::Equal => Operator::Equal,
         Part::Ite => Operator::Ite(Sort::Bool),
+        Part::Choose => Operator::Ite(Sort::Real),
+        Part::Sum(_) => Operator::Sum(NumberSort::Real),
+        Part::Less => Operator::Less,
+        Part::AtMost => Operator::AtMost,
     };
     bench.make(operator, kids)
 }

@@ -3,8 +3,12 @@
 /// A part of a formula, which is a list of parts: each operator stands behind its arguments.
 #[derive(Clone, Copy, Debug, PartialEq, Eq)]
 pub enum Part {
-    /// The constant of this number.
+    /// The constant of this number, of sort Bool.
     Atom(usize),
+    /// The constant of this number, of sort Real.
+    Real(usize),
+    /// A number, by its tenths.
+    Tenths(u128),
     True,
     False,
     Not,
@@ -16,4 +20,10 @@ pub enum Part {
     Equal,
     /// Of a condition, and a formula for each answer.
     Ite,
+    /// Of a condition, and a number for each answer.
+    Choose,
+    /// Of so many numbers.
+    Sum(usize),
+    Less,
+    AtMost,
 }

@@ -1,6 +1,6 @@
 //! Checks one after another: what is asserted comes and goes, and so does what is assumed.
 
-use crate::formula::Part::{self, And, Atom, Equal, Ite, Not, Or, Xor};
+use crate::formula::Part::{self, AtMost, Atom, Equal, Ite, Less, Not, Or, Real, Sum, Tenths, Xor};
 use crate::trial::{Trial, Tried};
 use std::alloc::Global;
 use std::test::Fail;
@@ -20,19 +20,30 @@ const NOT_P: &[Part] = &[Atom(0), Not];
 
 const NOT_Q: &[Part] = &[Atom(1), Not];
 
+/// Does one of these, at its place.
+fn perform(trial: &mut Trial, place: usize, act: &Act) -> Result<(), Fail> {
+    match act {
+        Act::Push => trial.push()?,
+        Act::Pop => trial.pop(),
+        Act::Assert(formula) => trial.assert(formula)?,
+        Act::Ask(assumed, wanted) => trial.expect(place, assumed, 100, *wanted)?,
+        Act::AskAtOnce(assumed, wanted) => trial.expect(place, assumed, 0, *wanted)?,
+    }
+    Ok(())
+}
+
+/// Does these one after another.
+fn perform_all(trial: &mut Trial, acts: &'static [Act]) -> Result<(), Fail> {
+    for (place, act) in acts.iter().enumerate() {
+        perform(trial, place, act)?;
+    }
+    Ok(())
+}
+
 /// Does these one after another, over three constants.
 fn run(alloc: Global, acts: &'static [Act]) -> Result<(), Fail> {
     let mut trial = Trial::new(alloc, 3)?;
-    for (place, act) in acts.iter().enumerate() {
-        match act {
-            Act::Push => trial.push()?,
-            Act::Pop => trial.pop(),
-            Act::Assert(formula) => trial.assert(formula)?,
-            Act::Ask(assumed, wanted) => trial.expect(place, assumed, 100, *wanted)?,
-            Act::AskAtOnce(assumed, wanted) => trial.expect(place, assumed, 0, *wanted)?,
-        }
-    }
-    Ok(())
+    perform_all(&mut trial, acts)
 }
 
 const LEVELS: &[Act] = &[
@@ -74,6 +85,29 @@ const SPENT: &[Act] = &[
 #[test]
 fn a_spent_check_leaves_the_engine_as_it_was(rt: HostRuntime) -> Result<(), Fail> {
     run(rt.alloc(), SPENT)
+}
+
+// A bound that a popped level alone had comes again; what was learned of it is no longer known.
+const BOUNDS: &[Act] = &[
+    Act::Assert(&[Real(0), Real(1), Less]),
+    Act::Ask(&[], Tried::Sat),
+    Act::Push,
+    Act::Assert(&[Real(1), Real(2), Less]),
+    Act::Ask(&[&[Real(2), Real(0), Less]], Tried::Unsat),
+    Act::Ask(&[&[Real(0), Real(2), Less]], Tried::Sat),
+    Act::Pop,
+    Act::Ask(&[&[Real(2), Real(0), Less]], Tried::Sat),
+    Act::Push,
+    Act::Assert(&[Real(0), Real(1), Sum(2), Tenths(10), AtMost]),
+    Act::Ask(&[&[Tenths(5), Real(0), AtMost]], Tried::Unsat),
+    Act::Ask(&[&[Tenths(4), Real(0), AtMost]], Tried::Sat),
+    Act::Pop,
+    Act::Ask(&[&[Tenths(5), Real(0), AtMost]], Tried::Sat),
+];
+
+#[test]
+fn what_is_popped_bounds_no_longer(rt: HostRuntime) -> Result<(), Fail> {
+    run(rt.alloc(), BOUNDS)
 }
 
 // Over six constants: what is asserted, and literals of which one of each list may be assumed together.
@@ -130,13 +164,18 @@ fn do_by(trial: &mut Trial, place: usize, number: u32) -> Result<(), Fail> {
     Ok(())
 }
 
+/// Does so many things, as numbers that look random say.
+fn do_seeded(trial: &mut Trial, count: usize) -> Result<(), Fail> {
+    let mut number: u32 = 1;
+    for place in 0..count {
+        number = number.wrapping_mul(1_664_525).wrapping_add(1_013_904_223);
+        do_by(trial, place, number)?;
+    }
+    Ok(())
+}
+
 #[test]
 fn an_engine_answers_as_one_that_is_new(rt: HostRuntime) -> Result<(), Fail> {
     let mut trial = Trial::new(rt.alloc(), 6)?;
-    let mut number: u32 = 1;
-    for place in 0..150 {
-        number = number.wrapping_mul(1_664_525).wrapping_add(1_013_904_223);
-        do_by(&mut trial, place, number)?;
-    }
-    Ok(())
+    do_seeded(&mut trial, 150)
 }

@@ -1,7 +1,10 @@
 //! Small formulas, each with what is known of it.
 
-use crate::formula::Part::{self, And, Atom, Equal, False, Ite, Not, Or, True, Xor};
+use crate::formula::Part::{
+    self, And, AtMost, Atom, Choose, Equal, False, Ite, Less, Not, Or, Real, Sum, Tenths, True, Xor,
+};
 use crate::trial::{Trial, Tried};
+use std::alloc::Global;
 use std::test::Fail;
 
 /// A formula over three constants, formulas that are assumed, and whether all can be true.
@@ -31,16 +34,6 @@ const ROWS: &[Row] = &[
     },
     Row {
         formula: &[False],
-        assumed: &[],
-        wanted: Tried::Unsat,
-    },
-    Row {
-        formula: &[And(0)],
-        assumed: &[],
-        wanted: Tried::Sat,
-    },
-    Row {
-        formula: &[Or(0)],
         assumed: &[],
         wanted: Tried::Unsat,
     },
@@ -107,12 +100,111 @@ const ROWS: &[Row] = &[
     },
 ];
 
-#[test]
-fn each_row_is_answered(rt: HostRuntime) -> Result<(), Fail> {
-    for (number, row) in ROWS.iter().enumerate() {
-        let mut trial = Trial::new(rt.alloc(), 3)?;
-        trial.assert(row.formula)?;
-        trial.expect(number, row.assumed, 100, row.wanted)?;
+// Over reals: orders, sums, and choices of numbers.
+const NUMBERS: &[Row] = &[
+    Row {
+        formula: &[Real(0), Real(1), Less, Real(1), Real(0), Less, And(2)],
+        assumed: &[],
+        wanted: Tried::Unsat,
+    },
+    Row {
+        formula: &[Real(0), Real(1), AtMost, Real(1), Real(0), AtMost, And(2)],
+        assumed: &[],
+        wanted: Tried::Sat,
+    },
+    Row {
+        formula: &[Real(0), Real(1), AtMost, Real(1), Real(0), AtMost, And(2)],
+        assumed: &[&[Real(0), Real(1), Equal, Not]],
+        wanted: Tried::Unsat,
+    },
+    // Between two neighbours is a number, and none below 0.1 and above 0.2.
+    Row {
+        formula: &[Tenths(1), Real(0), Less, Real(0), Tenths(2), Less, And(2)],
+        assumed: &[],
+        wanted: Tried::Sat,
+    },
+    Row {
+        formula: &[Real(0), Tenths(1), Less, Tenths(2), Real(0), Less, And(2)],
+        assumed: &[],
+        wanted: Tried::Unsat,
+    },
+    Row {
+        formula: &[
+            Real(0),
+            Real(1),
+            Sum(2),
+            Tenths(10),
+            AtMost,
+            Tenths(5),
+            Real(0),
+            Less,
+            And(2),
+        ],
+        assumed: &[&[Tenths(5), Real(1), AtMost]],
+        wanted: Tried::Unsat,
+    },
+    Row {
+        formula: &[
+            Real(0),
+            Real(1),
+            Sum(2),
+            Tenths(10),
+            AtMost,
+            Tenths(5),
+            Real(0),
+            AtMost,
+            And(2),
+        ],
+        assumed: &[&[Tenths(5), Real(1), AtMost]],
+        wanted: Tried::Sat,
+    },
+    // One of two is chosen, and either is too large.
+    Row {
+        formula: &[Atom(0), Real(0), Real(1), Choose, Tenths(10), Less],
+        assumed: &[
+            &[Tenths(10), Real(0), AtMost],
+            &[Tenths(10), Real(1), AtMost],
+        ],
+        wanted: Tried::Unsat,
+    },
+    Row {
+        formula: &[Atom(0), Real(0), Real(1), Choose, Tenths(10), Less],
+        assumed: &[&[Tenths(10), Real(0), AtMost], NOT_P],
+        wanted: Tried::Sat,
+    },
+    Row {
+        formula: &[Atom(0), Real(0), Real(1), Choose, Tenths(10), Less],
+        assumed: &[&[Tenths(10), Real(0), AtMost], P],
+        wanted: Tried::Unsat,
+    },
+];
+
+/// Asserts the formula of a row, and asks.
+fn judge(trial: &mut Trial, number: usize, row: &Row) -> Result<(), Fail> {
+    trial.assert(row.formula)?;
+    trial.expect(number, row.assumed, 100, row.wanted)
+}
+
+/// Asks an engine of its own about a row. It is lent, since each way out of where it is owned lets it go.
+fn judge_alone(alloc: Global, number: usize, row: &Row) -> Result<(), Fail> {
+    let mut trial = Trial::new(alloc, 3)?;
+    judge(&mut trial, number, row)
+}
+
+/// Asks about each of these.
+fn run(alloc: Global, rows: &'static [Row]) -> Result<(), Fail> {
+    for (number, row) in rows.iter().enumerate() {
+        judge_alone(alloc, number, row)?;
     }
     Ok(())
+}
+
+#[test]
+fn each_row_is_answered(rt: HostRuntime) -> Result<(), Fail> {
+    run(rt.alloc(), ROWS)
+}
+
+#[test]
+fn each_row_over_reals_is_answered(rt: HostRuntime) -> Result<(), Fail> {
+    run(rt.alloc(), NUMBERS)
 }

@@ -24,6 +24,7 @@ pub enum Tried {
     Sat,
     Unsat,
     Spent,
+    Wide,
 }
 
 /// Another answer than was wanted, and where.
@@ -79,6 +80,7 @@ impl Trial {
             Answer::Unsat(0) => Err(Fail::new("a clause without a step")),
             Answer::Unsat(_) => Ok(Tried::Unsat),
             Answer::Spent => Ok(Tried::Spent),
+            Answer::Wide => Ok(Tried::Wide),
             Answer::Unasked => Err(Fail::new("the engine can't be asked")),
         }
     }
@@ -102,13 +104,32 @@ impl Trial {
         Ok(())
     }
 
+    /// Asserts these formulas, and asks so with enough units.
+    fn ask_with(
+        &mut self,
+        formulas: &[Vec<Part>],
+        assumed: &[&'static [Part]],
+    ) -> Result<Tried, Fail> {
+        for formula in formulas {
+            self.assert(formula)?;
+        }
+        self.ask(assumed, 1000)
+    }
+
     /// Asks so with enough units, and fails where an engine that was asked nothing before answers otherwise.
     pub fn compare(&mut self, place: usize, assumed: &[&'static [Part]]) -> Result<(), Fail> {
-        let mut fresh = Trial::new(self.alloc, self.constants)?;
-        for formula in &self.asserted {
-            fresh.assert(formula)?;
-        }
-        let wanted = fresh.ask(assumed, 1000)?;
+        let wanted = fresh_answer(self.alloc, self.constants, &self.asserted, assumed)?;
         self.expect(place, assumed, 1000, wanted)
     }
+}
+
+/// What an engine answers that is told these formulas alone.
+fn fresh_answer(
+    alloc: Global,
+    constants: usize,
+    formulas: &[Vec<Part>],
+    assumed: &[&'static [Part]],
+) -> Result<Tried, Fail> {
+    let mut fresh = Trial::new(alloc, constants)?;
+    fresh.ask_with(formulas, assumed)
 }

@@ -2,7 +2,7 @@
 -- A fraction is a pair of integers of any size whose second one is above 0; two pairs that are equal by cross products are one value.
 -- Sources: SMT-LIB 2.6, theory Reals_Ints (the values of sort Real are quotients in lowest terms; `to_int` rounds down).
 -- The limit M and the word Wide are this solver's own: a number has at most 128 bits, and an operation that would pass them is named.
-use Rattle.std.specs.Prelude.{◌≡◌, ℕ, suc, pred, ◌*◌, ◌/◌, ◌≤◌, Bool, ◌||◌, nat_lt, List, [], ◌∷◌, Option, Some, None, if◌then◌else◌, ℤ, pos, negsuc, ◌+ℤ◌, ◌*ℤ◌, neg_ℤ, ◌≤ℤ◌, ◌<ℤ◌, unsigned_abs, int_lt, int_le, int_div}
+use Rattle.std.specs.Prelude.{◌≡◌, ℕ, suc, pred, ◌*◌, ◌/◌, ◌≤◌, Bool, false, ◌||◌, nat_lt, List, [], ◌∷◌, Option, Some, None, if◌then◌else◌, ℤ, pos, negsuc, ◌+ℤ◌, ◌*ℤ◌, neg_ℤ, ◌≤ℤ◌, ◌<ℤ◌, unsigned_abs, int_lt, int_le, int_div}
 use Rattle.std.specs.Ordering.{int_cmp, int_eq}
 use Rattle.std.specs.declared.cmp.Ordering.{Ordering}
 unfoldable pub use Rattle.nz_ints.specs.Division.{gcd, lcm, floor_div}
@@ -189,3 +189,13 @@ pub record Operation : Type 0 where
 unfoldable pub first_wide : List Operation → Option Operation
 first_wide [] = None
 first_wide (x ∷ xs) = if is_wide x.operator x.left x.right then Some x else first_wide xs
+
+-- ---- Laws
+
+-- What a number comes to beside 0: nothing leaves the numbers there, so a coefficient that is 0 may be passed over.
+pub record ZerosAreNeverWide : Type 0 where
+  pub sum_left : (q : Fraction) → IsNumber q → (is_wide Sum (whole (pos 0)) q ≡ false) × (outcome Sum (whole (pos 0)) q ≡ q)
+  pub sum_right : (q : Fraction) → IsNumber q → (is_wide Sum q (whole (pos 0)) ≡ false) × (outcome Sum q (whole (pos 0)) ≡ q)
+  pub product_left : (q : Fraction) → (is_wide Product (whole (pos 0)) q ≡ false) × (outcome Product (whole (pos 0)) q ≡ whole (pos 0))
+  pub product_right : (q : Fraction) → (is_wide Product q (whole (pos 0)) ≡ false) × (outcome Product q (whole (pos 0)) ≡ whole (pos 0))
+  pub quotient : (q : Fraction) → (is_wide Quotient (whole (pos 0)) q ≡ false) × (outcome Quotient (whole (pos 0)) q ≡ whole (pos 0))

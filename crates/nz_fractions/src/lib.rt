@@ -2,7 +2,7 @@
 #![tactic(auto)]
 
 ghost use Rattle.std.specs.Prelude.{◌≡◌, ◌^◌, suc};
-ghost use Rattle.nz_fractions.specs.Fraction.{Rounds, largest};
+ghost use Rattle.nz_fractions.specs.Fraction.{Rounds, ZerosAreNeverWide, largest};
 
 /// The floor is the greatest integer that is at most the fraction, and the ceiling the least that is at least it.
 pub fn rounds()
@@ -12,4 +12,9 @@ pub fn rounds()
 /// The largest numerator is the largest integer of 128 bits.
 pub fn numbers_have_128_bits()
     ensures largest { suc largest ≡ 2 ^ 127 }
+{}
+
+/// Beside 0 no operation leaves the numbers.
+pub fn zeros_are_never_wide()
+    ensures zeros { ZerosAreNeverWide }
 {}

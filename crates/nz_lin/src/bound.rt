@@ -77,6 +77,13 @@ impl Bound {
         self.sides.parts()
     }
 
+    /// The sum, with the limit as what is added in it.
+    pub fn form(&self) -> &Form
+        ensures form { result.now ≡ self.now.sides }
+    {
+        &self.sides
+    }
+
     /// The number that the sum is at most, or below.
     pub fn limit(&self) -> Frac
         ensures limit { result ≡ self.now.sides.offset }
@@ -92,7 +99,7 @@ impl Bound {
     }
 
     /// The same bound once more.
-    pub(crate) fn copied(&self, alloc: Global) -> Result<Bound, Memory>
+    pub fn copied(&self, alloc: Global) -> Result<Bound, Memory>
         ensures same { IfOk result (λ b. b ≡ self.now) }
     {
         Ok(Bound {

@@ -1,7 +1,8 @@
 -- Clauses that hold by arithmetic alone, and logs that they are put into.
-use Rattle.std.proofs.Common.{◌≡◌, ℕ, ◌<◌, Bool, List, [], ◌∷◌, ◌++◌, Some, None, Result, if◌then◌else◌, inl, inr, refl, sym, ap, subst, ◌∙◌, arith}
+use Rattle.std.proofs.Common.{◌≡◌, ℕ, ◌<◌, Bool, List, [], ◌∷◌, ◌++◌, Some, None, Result, if◌then◌else◌, inl, inr, refl, sym, ap, subst, ◌∙◌, arith, true≢false}
 use Rattle.std.specs.Prelude.{IsTrue, IfOk, IsSome, OnErr}
 use Rattle.std.proofs.lemmas.Bool.Decides.{eqb_tells}
+use Rattle.nz_lists.proofs.Elements.{AllByRecursion-put}
 use Rattle.nz_spec.specs.Computation.{at_once, turned_into}
 use Rattle.nz_spec.specs.Farkas as farkas
 use Rattle.nz_spec.specs.Farkas.{farkas_clause, is_contradiction, negations_of}
@@ -18,13 +19,12 @@ use Rattle.nz_log.specs.Atoms.{AreAtoms, AreWithin, IsLitIn, LiteralsAgree, clau
 use Rattle.nz_log.specs.Axioms.{AreMultiples, AreMultiplesIn, Axiom, IsAxiom, IsAxiomIn, IsClauseOf, axiom_step, farkas_of, multiples_in, negated_lits, sum_in}
 use Rattle.nz_log.specs.Leveled.{AreTold}
 use Rattle.nz_log.specs.Lits.{are_same_lit}
-use Rattle.nz_log.specs.Logs.{Entry, JoinsAtoms, LogState, Puts, axiom_entry, axiom_of, entry_at, gate_of}
+use Rattle.nz_log.specs.Logs.{Entry, JoinsAtoms, LogState, Puts, axiom_entry, axiom_of, entry_at, row_term}
 use Rattle.nz_log.specs.Sound.{IsLog}
 use Rattle.nz_log.specs.Theories.{Grows}
 use Rattle.nz_log.proofs.Agreeing.{clause_named, literal_turned}
 use Rattle.nz_log.proofs.Extending.{all_wider, axiom_in_wider, clause_stays, step_stays}
 use Rattle.nz_log.proofs.Leveled.{logs_stay_leveled}
-use Rattle.nz_log.proofs.Members.{each-put}
 use Rattle.nz_log.proofs.Soundness.{rule_in_order}
 
 -- ---- Any of them
@@ -53,19 +53,20 @@ axiom_in_order s r a c result made unchanged atoms ns levels within axiom_ order
     rule_in_order s r (axiom_entry r a c) result made unchanged atoms ns levels (λ id above. record { within = within; made = axiom_ }) order
 
 -- and grows
-pub axiom_grows : (old new : LogState) (id : ℕ) (a : Axiom) (c : List Lit) → Puts old id (axiom_entry new a c) new → AreTold new c → Grows old new
-axiom_grows old new id a c puts told =
+pub axiom_grows : (old new : LogState) (id : ℕ) (a : Axiom) (c : List Lit) → row_term (axiom_of a) ≡ None → Puts old id (axiom_entry new a c) new → AreTold new c
+    → Grows old new
+axiom_grows old new id a c no_row puts told =
     record {
       live = puts.stay;
       kept = λ i h. puts.kept i (λ same. let below : i < id = puts.above i h in absurd (omega (arith, below, same)));
       told = puts.told;
       atoms = puts.atoms;
-      gates = λ i e t j at origin. elim (eqb_tells i id) [
+      rows = λ i e at row. elim (eqb_tells i id) [
         | inl here ↦
             let both : Some (axiom_entry new a c) ≡ Some e = sym puts.made ∙ ap (entry_at new) (sym here.1) ∙ at in
             let one : axiom_entry new a c ≡ e = cc in
-            let made : axiom_of a ≡ gate_of t j = ap (λ (x : Entry). x.origin) one ∙ origin in
-            absurd cc
+            let none : IsSome (row_term (axiom_of a)) = subst (λ (x : Entry). IsSome (row_term x.origin)) (sym one) row in
+            absurd (true≢false (sym (subst (λ o. IsSome o) no_row none)))
         | inr other ↦ subst (λ o. IsSome o) (sym (sym (puts.kept i other.1) ∙ at)) refl
       ];
       leveled = logs_stay_leveled.arithmetic old new id a c puts told;
@@ -86,7 +87,7 @@ module _ (ns : List Node) (atoms : List Atom) where
   refuted ms = once are_same_lit (negated_lits ms)
 
   pub refuted_within : (ms : List Multiple) → AreMultiplesIn ns atoms ms → AreWithin ns atoms (refuted ms)
-  refuted_within ms h = each-put (IsLitIn ns atoms) are_same_lit (negated_lits ms) [] tt (negations_within ms h)
+  refuted_within ms h = AllByRecursion-put (IsLitIn ns atoms) are_same_lit (negated_lits ms) [] tt (negations_within ms h)
 
   module _ (agree : LiteralsAgree ns atoms) (ms : List Multiple) (within : AreMultiplesIn ns atoms ms) (multiples : AreMultiples ns atoms ms) where
     pub farkas_gives : IsTrue (is_contradiction (sum_in ns atoms ms).result)

@@ -1,6 +1,7 @@
 -- Branches on sums of integers: what the two literals say, and the clause that they are.
 use Rattle.std.proofs.Common.{◌≡◌, ◌&&◌, Bool, true, false, List, [], ◌∷◌, map, Option, Some, None, Ok, if◌then◌else◌, refl, sym, ap, subst, ◌∙◌}
 use Rattle.std.specs.Prelude.{IsTrue, slice_get}
+use Rattle.nz_lists.proofs.Elements.{AllByRecursion-put}
 use Rattle.nz_fractions.specs.Fraction.{Fraction, first_wide}
 use Rattle.nz_spec.specs.Computation.{Computation, at_once, turned_into}
 use Rattle.nz_spec.specs.Cuts.{branch_clause}
@@ -25,7 +26,6 @@ use Rattle.nz_log.specs.Axioms.{IsClauseOf, above_literal, axiom_step, branch_of
 use Rattle.nz_log.specs.Lits.{are_same_lit}
 use Rattle.nz_log.proofs.Agreeing.{clause_named}
 use Rattle.nz_log.proofs.Extending.{lit_stays, literal_at}
-use Rattle.nz_log.proofs.Members.{each-put}
 use Rattle.nz_log.proofs.Summing.{bound_said}
 
 -- ---- The negation of a bound, with another limit
@@ -91,7 +91,7 @@ module _ (ps : List form.Part) (k : Fraction) (integral : IsTrue (are_integral p
       two ∙ done.result ∙ (λ i. is_at_most (map negated_part (parts i)) (next_limit (limit i)).result) in
       let within : AreWithin ns atoms lits = (own, (other, tt)) in
       record {
-        within = each-put (IsLitIn ns atoms) are_same_lit lits [] tt within;
+        within = AllByRecursion-put (IsLitIn ns atoms) are_same_lit lits [] tt within;
         clause = ap (λ (c : Computation (Option Clause)). c.result) taken ∙ ap Some (λ i. clause_of (sym at_most i ∷ sym above_ i ∷ [])) ∙ ap Some (sym (clause_named ns atoms agree lits within));
         fits = ap (λ (c : Computation (Option Clause)). first_wide c.operations) taken ∙ sym (ap (λ (q : Fraction). first_wide (next_limit q).operations) limit) ∙ done.fits;
       }
@@ -114,7 +114,7 @@ module _ (m1 m2 : List Atom) (stay : Stay m1 m2) (b r : Bound) (first second : L
   two_lits = once are_same_lit (first ∷ second ∷ [])
 
   pub both_in : (ns : List Node) → HasUnits ns b → AreWithin ns m2 two_lits
-  both_in ns units = each-put (IsLitIn ns m2) are_same_lit (first ∷ second ∷ []) [] tt (first_in ns units, (second_in ns units, tt))
+  both_in ns units = AllByRecursion-put (IsLitIn ns m2) are_same_lit (first ∷ second ∷ []) [] tt (first_in ns units, (second_in ns units, tt))
 
   pub branch_over : b.strict ≡ false → ((ns : List Node) → HasUnits ns b → IsTrue (are_integral (parts_over ns b.sides.parts))) → IsTrue (is_whole b.sides.offset)
       → (ns : List Node) → LiteralsAgree ns m2 → HasUnits ns b → IsClauseOf ns m2 (branch_of first) two_lits

@@ -3,6 +3,7 @@ use Rattle.std.proofs.Common.{◌≡◌, Bool, List, [], ◌∷◌, ◌++◌, Op
 use Rattle.std.specs.Prelude.{IsTrue}
 use Rattle.std.specs.List.{AllByRecursion, list_all}
 use Rattle.std.proofs.lemmas.List.{map-append}
+use Rattle.nz_lists.proofs.Elements.{AllByRecursion-put}
 use Rattle.nz_fractions.specs.Fraction.{Fraction, first_wide}
 use Rattle.nz_spec.specs.Computation.{Computation, and_then, at_once, turned_into}
 use Rattle.nz_spec.specs.Cuts.{cut_clause, rounded_limit}
@@ -28,7 +29,7 @@ use Rattle.nz_log.specs.Lits.{are_same_lit}
 use Rattle.nz_log.proofs.Agreeing.{clause_named}
 use Rattle.nz_log.proofs.Axiomatic.{negations_named, negations_within}
 use Rattle.nz_log.proofs.Extending.{axiom_in_stays, multiples_stay, step_stays}
-use Rattle.nz_log.proofs.Members.{each-append, each-put}
+use Rattle.nz_log.proofs.Members.{each-append}
 use Rattle.nz_log.proofs.Operations.{first_behind, stop_before, stop_behind}
 
 -- ---- The computation
@@ -90,7 +91,7 @@ module _ (ns : List Node) (qs : List farkas.Multiple) (multiples : IsTrue (list_
     cut_is agree =
         let taken : step_taken (number_in ns) [] [] (axiom_step ns new (cut_of ms)) ≡ and_then sum (λ x. turned_into rounded_clause limit) = ap (step_taken (number_in ns) [] []) step ∙ cut_taken in
         record {
-          within = each-put (IsLitIn ns new) are_same_lit lits [] tt within;
+          within = AllByRecursion-put (IsLitIn ns new) are_same_lit lits [] tt within;
           clause = ap (λ (c : Computation (Option Clause)). c.result) taken ∙ ap (λ c. Some (clause_of c)) (sym named) ∙ ap Some (sym (clause_named ns new agree lits within));
           fits = ap (λ (c : Computation (Option Clause)). first_wide c.operations) taken ∙ first_behind sum.operations limit.operations summed.fits ∙ done.fits;
         }
@@ -99,7 +100,7 @@ pub cut_within : (ns : List Node) (atoms : List Atom) (ms : List Multiple) (last
     → AreWithin ns atoms (once are_same_lit (negated_lits ms ++ last ∷ []))
 cut_within ns atoms ms last inside own =
     let lits = negated_lits ms ++ last ∷ [] in
-    each-put (IsLitIn ns atoms) are_same_lit lits [] tt (each-append (IsLitIn ns atoms) (negated_lits ms) (last ∷ []) (negations_within ns atoms ms inside) (own, tt))
+    AllByRecursion-put (IsLitIn ns atoms) are_same_lit lits [] tt (each-append (IsLitIn ns atoms) (negated_lits ms) (last ∷ []) (negations_within ns atoms ms inside) (own, tt))
 
 -- ---- The sorts of the units
 

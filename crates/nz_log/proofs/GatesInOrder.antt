@@ -3,6 +3,8 @@ use Rattle.std.proofs.Common.{◌≡◌, ℕ, ◌<◌, Bool, true, false, List, 
 use Rattle.std.specs.Prelude.{All, slice_get, option_map, unwrap_or}
 use Rattle.std.specs.List.{AllByRecursion}
 use Rattle.std.proofs.lemmas.Option.{slice_get-get_or, slice_get-map, unwrap_or-slice_get}
+use Rattle.std.proofs.lemmas.List.Elements.{recursion_from_All}
+use Rattle.nz_lists.proofs.Elements.{AllByRecursion-put}
 use Rattle.nz_spec.specs.Term.{falsum}
 use Rattle.nz_spec.specs.Table.{Node, IsTable, term_in, OneNumber, TermOfNode}
 use Rattle.nz_spec.specs.Literal.{term_literal, clause_of, once, TellsLiterals}
@@ -17,7 +19,7 @@ use Rattle.nz_log.specs.Sound.{IsEntry}
 use Rattle.nz_log.specs.TermLits.{yes, no, AreOfTerms, clause_of_terms, gates_at, is_boolean_at, literal_of}
 use Rattle.nz_log.proofs.Agreeing.{clause_named, literals_agree}
 use Rattle.nz_log.proofs.Extending.{literal_at}
-use Rattle.nz_log.proofs.Members.{each_of, each-at, each-gate, each-put}
+use Rattle.nz_log.proofs.Members.{each-at, each-gate}
 use Rattle.nz_log.proofs.Naming.{gates_named}
 
 -- ---- Literals on terms
@@ -66,7 +68,7 @@ module _ (tells : TellsLiterals) (one : OneNumber) (node : TermOfNode)
       subst (λ o. AllByRecursion (AreOfTerms ns) (elim o [ None ↦ [] | Some n ↦ clauses_over yes no (is_boolean_at ns) t n.head n.kids ]))
       (sym node_at)
       (each-gate (λ k. k < length ns) (is_boolean_at ns) t the_node.head the_node.kids within
-      (lower t (length ns) within the_node.kids (each_of (λ k. k < t) the_node.kids (table.before t the_node node_at))))
+      (lower t (length ns) within the_node.kids (recursion_from_All (λ k. k < t) the_node.kids (table.before t the_node node_at))))
 
   clause_within : AreOfTerms ns the_clause
   clause_within = each-at (AreOfTerms ns) (gates_at ns t) j the_clause gates_within clause_at
@@ -74,11 +76,11 @@ module _ (tells : TellsLiterals) (one : OneNumber) (node : TermOfNode)
   pub gate_in_order : (levels : List (List ℕ)) (s : LogState) (id n : ℕ) → AreAtoms s.atoms → All (λ (l : TermLit). HasTerm s.atoms l.term) the_clause
       → HasBooleanArguments (term_in ns t) → IsEntry ns levels s id (record { literals = once are_same_lit (lits_of s.atoms the_clause); level = n; origin = gate_of t j })
   gate_in_order levels s id n atoms has boolean =
-      let there = each_of (λ (l : TermLit). HasTerm s.atoms l.term) the_clause has in
+      let there = recursion_from_All (λ (l : TermLit). HasTerm s.atoms l.term) the_clause has in
       let lits = lits_of s.atoms the_clause in
       let inside = terms_within ns s.atoms the_clause there clause_within in
       record {
-        within = each-put (IsLitIn ns s.atoms) are_same_lit lits [] tt inside;
+        within = AllByRecursion-put (IsLitIn ns s.atoms) are_same_lit lits [] tt inside;
         made = (
           within,
           boolean,

@@ -1,10 +1,10 @@
 -- Logs that grow by a chain, or by nothing.
-use Rattle.std.proofs.Common.{◌≡◌, inl, inr, ℕ, ◌<◌, List, Some, Result, Ok, Err, refl, sym, ap, subst, ◌∙◌, arith}
+use Rattle.std.proofs.Common.{◌≡◌, inl, inr, ℕ, ◌<◌, List, None, Some, Result, Ok, Err, refl, sym, ap, subst, ◌∙◌, arith}
 use Rattle.std.specs.Prelude.{All, IfOk, IsSome, OnErr}
 use Rattle.nz_base.specs.declared.errors.Memory.{Memory}
 use Rattle.std.proofs.lemmas.Bool.Decides.{eqb_tells}
 use Rattle.nz_log.specs.declared.origins.Link.{Link}
-use Rattle.nz_log.specs.Logs.{chain_of, gate_of, Entry, LogState, entry_at, IsLive, Puts, chain_entry}
+use Rattle.nz_log.specs.Logs.{Entry, LogState, row_term, entry_at, IsLive, Puts, chain_entry}
 use Rattle.nz_log.specs.Theories.{Grows}
 use Rattle.nz_log.proofs.Leveled.{logs_stay_leveled}
 
@@ -17,12 +17,11 @@ grows_by_chain old new id first ks puts live lives =
       kept = λ i h. puts.kept i (λ same. let below : i < id = puts.above i h in absurd (omega (arith, below, same)));
       told = puts.told;
       atoms = puts.atoms;
-      gates = λ i e t j at origin. elim (eqb_tells i id) [
+      rows = λ i e at row. elim (eqb_tells i id) [
         | inl here ↦
             let both : Some (chain_entry old first ks) ≡ Some e = sym puts.made ∙ ap (entry_at new) (sym here.1) ∙ at in
             let one : chain_entry old first ks ≡ e = cc in
-            let made : chain_of first ks ≡ gate_of t j = ap (λ (x : Entry). x.origin) one ∙ origin in
-            absurd cc
+            absurd (let none : IsSome {T = ℕ} None = subst (λ o. IsSome o) (sym (ap (λ (x : Entry). row_term x.origin) one)) row in cc)
         | inr other ↦ subst (λ o. IsSome o) (sym (sym (puts.kept i other.1) ∙ at)) refl
       ];
       leveled = logs_stay_leveled.chain old new id first ks puts live lives;
@@ -39,6 +38,6 @@ chain_grows old new first ks (Err e) puts same live lives =
       kept = λ i h. refl;
       told = refl;
       atoms = λ i a at. at;
-      gates = λ i e t j at origin. subst (λ o. IsSome o) (sym at) refl;
+      rows = λ i e at row. subst (λ o. IsSome o) (sym at) refl;
       leveled = λ h. h;
     })

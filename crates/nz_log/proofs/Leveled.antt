@@ -5,7 +5,7 @@ use Rattle.std.specs.List.{AllByRecursion}
 use Rattle.std.proofs.lemmas.Bool.{le-leb}
 use Rattle.std.proofs.lemmas.Bool.Decides.{eqb_tells}
 use Rattle.std.proofs.lemmas.List.Elements.{All-contains, All-contains_itself, All-from_recursion, All-weaker, recursion_from_All}
-use Rattle.nz_lists.proofs.Elements.{AllByRecursion-weaker}
+use Rattle.nz_lists.proofs.Elements.{AllByRecursion-weaker, AllByRecursion-put}
 use Rattle.nz_log.specs.declared.atoms.Atom.TheVariants.{Term}
 use Rattle.nz_log.specs.declared.lits.Lit.{Lit}
 use Rattle.nz_log.specs.declared.origins.Link.{Link}
@@ -18,7 +18,7 @@ use Rattle.nz_log.specs.TermLits.{gates_at, yes}
 use Rattle.nz_spec.specs.Literal.{once}
 use Rattle.nz_log.proofs.Dropping.{kept_is}
 use Rattle.nz_log.proofs.Extending.{same_stay}
-use Rattle.nz_log.proofs.Members.{each-put, each-resolvent}
+use Rattle.nz_log.proofs.Members.{each-resolvent}
 use Rattle.nz_log.proofs.Soundness.{level_grows, terms_grow}
 
 -- ---- The level of literals
@@ -167,7 +167,7 @@ logs_stay_leveled =
           let gate_lits : List TermLit = unwrap_or (slice_get (gates_at ns t) j) [] in
           let c : List Lit = once are_same_lit (lits_of new.atoms gate_lits) in
           let named = lits_told new gate_lits (recursion_from_All (λ (l : TermLit). HasTerm new.atoms l.term × IsSome (told_of new l.term)) gate_lits told) in
-          let all : AreNamed new c = each-put (Names (λ u. IsSome (told_of new u)) new.atoms) are_same_lit (lits_of new.atoms gate_lits) [] tt named in
+          let all : AreNamed new c = AllByRecursion-put (Names (λ u. IsSome (told_of new u)) new.atoms) are_same_lit (lits_of new.atoms gate_lits) [] tt named in
           put_leveled old new id (gate_entry ns new t j) puts
           (within_level new 0 c (All-from_recursion (Names (λ u. IsSome (told_of new u)) new.atoms) c all)) h;
       arithmetic = λ old new id a c puts told h. put_leveled old new id (axiom_entry new a c) puts (within_level new 0 c told) h;

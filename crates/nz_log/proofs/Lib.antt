@@ -39,3 +39,4 @@ pub mod Tabling
 pub mod Taken
 pub mod Truths
 pub mod UnitLinking
+pub mod WithoutForms

@@ -4,6 +4,7 @@ use Rattle.std.specs.Prelude.{slice_get}
 use Rattle.std.specs.List.{AllByRecursion}
 use Rattle.std.proofs.lemmas.List.{length-append}
 use Rattle.std.proofs.lemmas.Option.{slice_get-get_or}
+use Rattle.std.proofs.lemmas.List.Elements.{recursion_from_All}
 use Rattle.nz_spec.specs.Computation.{at_once, in_turn, turned_into}
 use Rattle.nz_spec.specs.Form.{Numbering}
 use Rattle.nz_spec.specs.FormOf.{number_in, TermHasItsNumber}
@@ -19,7 +20,6 @@ use Rattle.nz_log.specs.declared.lits.Lit.{Lit}
 use Rattle.nz_log.specs.Axioms.{IsAxiom, IsClauseOf, link_of}
 use Rattle.nz_log.proofs.Axiomatic.{axiom_made}
 use Rattle.nz_log.proofs.Extending.{same_clause}
-use Rattle.nz_log.proofs.Members.{each_of}
 use Rattle.nz_log.proofs.Renumbering.{AllTerms, same_minus}
 
 -- ---- The terms of a table
@@ -40,7 +40,7 @@ module _ (node : TermOfNode) (ns : List Node) (table : IsTable ns) where
       let both : apply n.head (terms_at (term_in ns) n.kids) ≡ apply h ts = sym (node ns table i n at) ∙ there.2 in
       let arguments : terms_at (term_in ns) n.kids ≡ ts = cc in
       let within : i < suc (length ns) = let low : i < length ns = there.1 in omega (arith, low) in
-      subst (AllTerms (IsInTable ns)) arguments (are_there i within n.kids (each_of (λ k. k < i) n.kids (table.before i n at)))
+      subst (AllTerms (IsInTable ns)) arguments (are_there i within n.kids (recursion_from_All (λ k. k < i) n.kids (table.before i n at)))
 
 -- a longer table numbers them alike
 pub agrees : TermHasItsNumber → TermStays → (ns more : List Node) → IsTable ns → IsTable (ns ++ more) → (t : Term) → IsInTable ns t → number_in (ns ++ more) t ≡ number_in ns t

@@ -1,12 +1,13 @@
 -- What holds of each literal of clauses holds of each of what is made of them.
-use Rattle.std.proofs.Common.{◌≡◌, ℕ, suc, ◌<◌, Bool, true, false, not, List, [], ◌∷◌, ◌++◌, length, map, get_or, Some, subst, sym, arith}
+use Rattle.std.proofs.Common.{◌≡◌, ℕ, ◌<◌, Bool, true, false, not, List, [], ◌∷◌, ◌++◌, length, map, get_or, Some, subst, sym}
 use Rattle.std.specs.Bool.{⊤}
-use Rattle.std.specs.Prelude.{All, fold, slice_get, if◌then◌else◌}
-use Rattle.std.specs.List.{AllByRecursion, list_any}
+use Rattle.std.specs.Prelude.{slice_get, if◌then◌else◌}
+use Rattle.std.specs.List.{AllByRecursion}
 use Rattle.std.proofs.lemmas.List.Elements.{All-from_recursion, All-get_or}
 use Rattle.std.proofs.lemmas.Option.{get_or_from_slice_get, slice_get_within}
+use Rattle.nz_lists.proofs.Elements.{AllByRecursion-put}
 use Rattle.nz_spec.specs.Term.{Head, verum, falsum, negation, conjunction, disjunction, exclusion, equality, choice, bool_sort}
-use Rattle.nz_spec.specs.Literal.{with_one, without}
+use Rattle.nz_spec.specs.Literal.{without}
 use Rattle.nz_spec.specs.Gates.{clauses_over}
 use Rattle.nz_log.specs.declared.lits.Lit.{Lit}
 use Rattle.nz_log.specs.declared.term_lits.TermLit.{TermLit}
@@ -14,11 +15,6 @@ use Rattle.nz_log.specs.Lits.{negated_lit, are_same_lit, lit_resolvent}
 use Rattle.nz_log.specs.TermLits.{yes, no}
 
 module _ {X : Type 0} (P : X → Type 0) where
-  pub each_of : (xs : List X) → All P xs → AllByRecursion P xs
-  each_of [] h = tt
-  each_of (x ∷ xs) h = (h 0 x (omega arith), each_of xs (λ k d below. h (suc k) d (omega arith)))
-
-  -- and so of the one at a place
   pub each-at : (xs : List X) (i : ℕ) (x : X) → AllByRecursion P xs → slice_get xs i ≡ Some x → P x
   each-at xs i x h at = subst P (get_or_from_slice_get xs i x x at) (All-get_or P xs i x (slice_get_within xs i x at) (All-from_recursion P xs h))
 
@@ -28,14 +24,6 @@ module _ {X : Type 0} (P : X → Type 0) where
   pub each-append : (xs ys : List X) → AllByRecursion P xs → AllByRecursion P ys → AllByRecursion P (xs ++ ys)
   each-append [] ys h k = k
   each-append (x ∷ xs) ys h k = (h.0, each-append xs ys h.1 k)
-
-  with_at : (b : Bool) (xs : List X) (x : X) → AllByRecursion P xs → P x → AllByRecursion P (if b then xs else xs ++ x ∷ [])
-  with_at true xs x h p = h
-  with_at false xs x h p = each-append xs (x ∷ []) h (p, tt)
-
-  pub each-put : (same : X → X → Bool) (xs ys : List X) → AllByRecursion P ys → AllByRecursion P xs → AllByRecursion P (fold (with_one same) ys xs)
-  each-put same [] ys h k = h
-  each-put same (x ∷ xs) ys h k = each-put same xs (with_one same ys x) (with_at (list_any (same x) ys) ys x h k.0) k.1
 
   kept_at : (b : Bool) (x : X) (xs : List X) → P x → AllByRecursion P xs → AllByRecursion P (if not b then x ∷ xs else xs)
   kept_at true x xs p h = h
@@ -47,7 +35,7 @@ module _ {X : Type 0} (P : X → Type 0) where
 
 pub each-resolvent : (P : Lit → Type 0) (l : Lit) (c d : List Lit) → AllByRecursion P c → AllByRecursion P d → AllByRecursion P (lit_resolvent l c d)
 each-resolvent P l c d h k =
-    each-put P are_same_lit (without are_same_lit l c ++ without are_same_lit (negated_lit l) d) [] tt
+    AllByRecursion-put P are_same_lit (without are_same_lit l c ++ without are_same_lit (negated_lit l) d) [] tt
     (each-append P (without are_same_lit l c) (without are_same_lit (negated_lit l) d) (each-without P are_same_lit l c h) (each-without P are_same_lit (negated_lit l) d k))
 
 -- ---- Gates

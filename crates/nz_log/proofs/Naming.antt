@@ -4,6 +4,7 @@ use Rattle.std.proofs.lemmas.List.{map-append}
 use Rattle.std.proofs.lemmas.Option.{slice_get-get_or}
 use Rattle.std.specs.Prelude.{fold, slice_get, if◌then◌else◌}
 use Rattle.std.specs.List.{AllByRecursion, list_any}
+use Rattle.nz_lists.proofs.Elements.{AllByRecursion-put}
 use Rattle.nz_spec.specs.Term.{Head, verum, falsum, negation, conjunction, disjunction, exclusion, equality, choice, bool_sort, Term, apply}
 use Rattle.nz_spec.specs.Table.{Node, IsTable, term_in, terms_at, TermOfNode}
 use Rattle.nz_spec.specs.Literal.{Literal, with_one, once, without}
@@ -11,7 +12,6 @@ use Rattle.nz_spec.specs.Gates.{holds, fails, list_of, is_boolean_term, clauses_
 use Rattle.nz_log.specs.declared.term_lits.TermLit.{TermLit}
 use Rattle.nz_log.specs.Sound.{GatesAreNamed}
 use Rattle.nz_log.specs.TermLits.{yes, no, literal_of, clause_of_terms, is_boolean_at, gates_at}
-use Rattle.nz_log.proofs.Members.{each-put}
 
 -- ---- Sets by names
 
@@ -32,7 +32,7 @@ module _ {A B : Type 0} (W : A → Type 0) (f : A → B) (same : A → A → Boo
   put_named : (xs ys : List A) → AllByRecursion W ys → AllByRecursion W xs → map f (fold (with_one same) ys xs) ≡ fold (with_one same') (map f ys) (map f xs)
   put_named [] ys h k = refl
   put_named (x ∷ xs) ys h k =
-      put_named xs (with_one same ys x) (each-put W same (x ∷ []) ys h (k.0, tt)) k.1
+      put_named xs (with_one same ys x) (AllByRecursion-put W same (x ∷ []) ys h (k.0, tt)) k.1
       ∙ ap (λ zs. fold (with_one same') zs (map f xs)) (with_named ys x h k.0)
 
   pub once_named : (xs : List A) → AllByRecursion W xs → map f (once same xs) ≡ once same' (map f xs)

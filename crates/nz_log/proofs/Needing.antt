@@ -4,9 +4,9 @@ use Rattle.std.specs.Prelude.{All, is_some, nat_le, nat_lt}
 use Rattle.std.specs.List.{AllByRecursion}
 use Rattle.std.proofs.lemmas.Bool.{leb-true, le-leb, ltb-true, lt-ltb}
 use Rattle.std.proofs.lemmas.Bool.{and_from, and_parts, or_cases, or_left, or_right}
+use Rattle.nz_lists.proofs.Numbers.{same_or_other}
 use Rattle.nz_log.specs.declared.origins.Link.{Link}
 use Rattle.nz_log.specs.Logs.{IsPremise, RestsOn, Origin, assertion_of, gate_of, axiom_of, chain_of, Entry, LogState, entry_at, IsLive, level_at}
-use Rattle.nz_log.proofs.Soundness.{same_or_other}
 use Rattle.nz_log.specs.Spelling.{is_marked, IsMoreMarked, AreMarked, Pass, PassMarked, IsClosed, IsClosedAt}
 
 -- the clauses from this number on are done

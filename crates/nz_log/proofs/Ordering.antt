@@ -2,12 +2,13 @@
 use Rattle.std.proofs.Common.{◌≡◌, ℕ, ◌<◌, ◌≤◌, max, List, [], ◌∷◌, length, Option, Some, inl, inr, refl, sym, ap, subst, ◌∙◌, arith}
 use Rattle.std.specs.Prelude.{All}
 use Rattle.std.specs.List.{AllByRecursion}
+use Rattle.std.proofs.lemmas.List.Elements.{recursion_from_All}
+use Rattle.nz_lists.proofs.Numbers.{same_or_other}
 use Rattle.nz_log.specs.declared.atoms.Atom.{Atom}
 use Rattle.nz_log.specs.declared.origins.Link.{Link}
 use Rattle.nz_log.specs.Logs.{IsLeaf, IsPremise, RestsOn, IsOrdered, Origin, assertion_of, gate_of, axiom_of, chain_of, Entry, LogState, entry_at, IsLive, level_at, level_of_links, Puts, Drops}
-use Rattle.nz_log.proofs.Soundness.{Keeps, premise_stays, same_or_other, puts_keeps, links_grow}
+use Rattle.nz_log.proofs.Soundness.{Keeps, premise_stays, puts_keeps, links_grow}
 use Rattle.nz_log.proofs.Dropping.{kept_is, keeps}
-use Rattle.nz_log.proofs.Members.{each_of}
 use Rattle.nz_log.specs.declared.origins.Stored.{Stored}
 use Rattle.nz_log.specs.Stored.{log_of}
 
@@ -64,7 +65,7 @@ chain_rests s id first ks above live lives some n below =
     let low : level_at s first ≤ n = omega (arith, from, below) in (
       record { live = live; before = above first live; level_within = low },
       some,
-      links_rest s id n above (level_at s first) ks (each_of (λ (k : Link). IsLive s k.clause) ks lives) below,
+      links_rest s id n above (level_at s first) ks (recursion_from_All (λ (k : Link). IsLive s k.clause) ks lives) below,
     )
 
 -- what rests on nothing may stand anywhere

@@ -1,7 +1,8 @@
 -- Logs in order: how they stay so when a clause is put, and that their clauses are true.
-use Rattle.std.proofs.Common.{◌≡◌, ◌≢◌, ℕ, zero, suc, ◌<◌, ◌≤◌, max, List, [], ◌∷◌, ◌++◌, length, take, Option, Some, None, Result, Ok, Err, ◌⊎◌, inl, inr, refl, sym, ap, subst, ◌∙◌, arith}
+use Rattle.std.proofs.Common.{◌≡◌, ℕ, zero, suc, ◌<◌, ◌≤◌, max, List, [], ◌∷◌, ◌++◌, length, take, Option, Some, None, Result, Ok, Err, inl, inr, refl, sym, ap, subst, ◌∙◌, arith}
 use Rattle.std.specs.Prelude.{slice_get, unwrap_or, IsSome, IfOk, OnErr}
 use Rattle.std.specs.List.{AllByRecursion}
+use Rattle.nz_lists.proofs.Numbers.{same_or_other}
 use Rattle.nz_spec.specs.Table.{Node}
 use Rattle.nz_spec.specs.Decide.{asserted_numbers}
 use Rattle.nz_log.specs.declared.atoms.Atom.{Atom}
@@ -70,12 +71,6 @@ module _ (bound : ℕ) (s r : LogState) (keeps : Keeps bound s r) where
         record { within = all_stay ns s.atoms r.atoms stay e.literals i.within; made = made_stays ns levels id e below i.within e.origin i.made }
 
 -- ---- A clause is put
-
-pub same_or_other : (i j : ℕ) → (i ≡ j) ⊎ (i ≢ j)
-same_or_other zero zero = inl refl
-same_or_other zero (suc j) = inr (λ e. omega arith)
-same_or_other (suc i) zero = inr (λ e. omega arith)
-same_or_other (suc i) (suc j) = elim (same_or_other i j) [ inl e ↦ inl (ap suc e) | inr other ↦ inr (λ e. other (omega arith)) ]
 
 module _ (s r : LogState) (id : ℕ) (e : Entry) (puts : Puts s id e r) where
   pub puts_keeps : (bound : ℕ) → Keeps bound s r

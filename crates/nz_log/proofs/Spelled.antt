@@ -4,6 +4,7 @@ use Rattle.std.specs.Prelude.{slice_get, slice_set, slice_index, option_map}
 use Rattle.std.specs.List.{AllByRecursion}
 use Rattle.std.proofs.lemmas.Option.{option_and_then_some, slice_get-map}
 use Rattle.std.proofs.lemmas.List.{append-nil, length-append}
+use Rattle.std.proofs.lemmas.List.Elements.{recursion_from_All}
 use Rattle.nz_spec.specs.Term.{Term}
 use Rattle.nz_spec.specs.Table.{Node, IsTable, term_in}
 use Rattle.nz_spec.specs.Form.{Numbering}
@@ -13,6 +14,7 @@ use Rattle.nz_spec.specs.Gates.{holds}
 use Rattle.nz_spec.specs.Steps as spec
 use Rattle.nz_spec.specs.Steps.{given_step, gate_step, resolve_step, step_clause, clauses_behind, IsDerivation, Derives, DerivationsGrow}
 use Rattle.nz_lists.proofs.Places.{slice_get_kept}
+use Rattle.nz_lists.proofs.Numbers.{same_or_other}
 use Rattle.nz_log.specs.declared.atoms.Atom.{Atom}
 use Rattle.nz_log.specs.declared.lits.Lit.{Lit}
 use Rattle.nz_log.specs.declared.origins.Link.{Link}
@@ -22,10 +24,10 @@ use Rattle.nz_log.specs.Lits.{lit_resolvent}
 use Rattle.nz_log.specs.Logs.{RestsOn, Origin, assertion_of, gate_of, axiom_of, chain_of, Entry, LogState, entry_at, literals_at, level_at, chained}
 use Rattle.nz_log.specs.Sound.{live_at, live_terms, IsLink, IsMade, IsLog}
 use Rattle.nz_log.specs.Spelling.{is_marked, AreMarked, chain_steps, chain_place, origin_steps, origin_place}
-use Rattle.nz_log.proofs.Members.{each_of, each-resolvent}
+use Rattle.nz_log.proofs.Members.{each-resolvent}
 use Rattle.nz_log.proofs.Agreeing.{resolvent_named}
 use Rattle.nz_log.proofs.Taken.{axiom_taken}
-use Rattle.nz_log.proofs.Soundness.{live_grows, within_at, same_or_other}
+use Rattle.nz_log.proofs.Soundness.{live_grows, within_at}
 
 -- ---- Derivations that go on
 
@@ -126,7 +128,7 @@ module _ (grow : DerivationsGrow) (ns : List Node) (table : IsTable ns) (levels 
       (chain_place n (slice_index places first) ks) (clause_in ns s.atoms c)) (sym m.2)
       (chain_behind grow ns levels s agree order (live_terms ns levels level) places ks steps before (literals_at s first) (slice_index places first) n
       (within_at ns levels s order first (entry_at s first) refl) long d (at first m.0.before marked.0)
-      (links_placed id e.level at ks m.1 (each_of (λ (k : Link). is_marked marks k.clause ≡ true) ks marked.1)))
+      (links_placed id e.level at ks m.1 (recursion_from_All (λ (k : Link). is_marked marks k.clause ≡ true) ks marked.1)))
 
 -- ---- The steps of all that a clause rests on
 

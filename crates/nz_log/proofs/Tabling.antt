@@ -4,6 +4,7 @@ use Rattle.std.specs.Prelude.{IfOk, option_map, slice_get}
 use Rattle.std.specs.declared.vec.Vec.{Vec}
 use Rattle.std.specs.declared.alloc.Global.{Global}
 use Rattle.std.proofs.lemmas.Option.{slice_get-map}
+use Rattle.nz_lists.proofs.Elements.{AllByRecursion-put}
 use Rattle.nz_spec.specs.Computation.{Computation, at_once, in_turn, turned_into}
 use Rattle.nz_spec.specs.FormOf.{number_in}
 use Rattle.nz_fractions.specs.Fraction.{first_wide}
@@ -24,7 +25,6 @@ use Rattle.nz_log.specs.Logs.{JoinsAtoms, LogState, Puts, PutsAxiom, PutsRow, ax
 use Rattle.nz_log.specs.Rows.{AreLitsOf, AreSaidIn, IsRowAt, link_rows, saids_in, unit_rows}
 use Rattle.nz_log.proofs.Agreeing.{clause_named}
 use Rattle.nz_log.proofs.Joining.{puts_after}
-use Rattle.nz_log.proofs.Members.{each-put}
 
 abbrev Rows : Type 0
 Rows = List (List (Computation Literal))
@@ -43,7 +43,7 @@ module _ (ns : List Node) (atoms : List Atom) (a : Axiom) (rows : Rows) (j : ℕ
   table_clause agree row v c at done says within =
       let made : step_taken (number_in ns) [] [] (axiom_step ns atoms a) ≡ turned_into (λ d. Some (clause_of d)) (in_turn row) = taken ∙ row_taken rows j row at in
       record {
-        within = each-put (IsLitIn ns atoms) are_same_lit c [] tt within;
+        within = AllByRecursion-put (IsLitIn ns atoms) are_same_lit c [] tt within;
         clause = ap (λ (k : Computation (Option Clause)). k.result) made ∙ ap (λ d. Some (clause_of d)) (sym done.result ∙ sym says)
             ∙ ap Some (sym (clause_named ns atoms agree c within));
         fits = ap (λ (k : Computation (Option Clause)). first_wide k.operations) made ∙ done.fits;

@@ -1,5 +1,5 @@
 -- Levels of clauses beside those told of the terms that they name.
-use Rattle.std.specs.Prelude.{◌≡◌, ◌≢◌, ℕ, ◌≤◌, List, All, Contains, Some, IsSome, IsSomeAnd, slice_get, unwrap_or, []}
+use Rattle.std.specs.Prelude.{◌≡◌, ◌≢◌, ℕ, ◌≤◌, true, List, All, Contains, map, Some, IsSome, IsSomeAnd, slice_get, unwrap_or, []}
 use Rattle.std.specs.List.{AllByRecursion}
 use Rattle.nz_spec.specs.Table.{Node}
 use Rattle.nz_log.specs.declared.atoms.Atom.{Atom}
@@ -24,6 +24,10 @@ pub record Names (P : ℕ → Type 0) (atoms : List Atom) (l : Lit) : Type 0 whe
 -- a level was told of each term that the literals name
 abbrev pub AreTold : LogState → List Lit → Type 0
 AreTold log ls = All (Names (λ t. IsSome (told_of log t)) log.atoms) ls
+
+-- the same of the terms that these atoms name
+abbrev pub AreToldAtoms : LogState → List ℕ → Type 0
+AreToldAtoms log ids = AreTold log (map (λ (i : ℕ). record { atom = i; sign = true }) ids)
 
 -- the atoms of these terms are there, and a level was told of each term
 abbrev pub AreToldTerms : LogState → List TermLit → Type 0

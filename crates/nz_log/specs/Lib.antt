@@ -9,10 +9,12 @@ pub mod Marked
 pub mod Meanings
 pub mod Notes
 pub mod Peaks
+pub mod Places
 pub mod Rows
 pub mod Same
 pub mod Sound
 pub mod Spelling
+pub mod Standing
 pub mod Stored
 pub mod TermLits
 pub mod Theories

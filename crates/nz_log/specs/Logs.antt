@@ -12,7 +12,7 @@ use Rattle.nz_log.specs.declared.origins.Link.{Link}
 use Rattle.nz_log.specs.declared.rows.Said.{Said}
 use Rattle.nz_log.specs.Atoms.{Stay, literal_in, terms_at, lit_of, lits_of}
 use Rattle.nz_log.specs.declared.multiples.Multiple.{Multiple}
-use Rattle.nz_log.specs.Axioms.{AreMultiplesIn, Axiom, IsClauseOf, branch_of, cut_of}
+use Rattle.nz_log.specs.Axioms.{AreMultiplesIn, Axiom, IsClauseOf, link_of, unit_of, farkas_of, branch_of, cut_of}
 use Rattle.nz_log.specs.Lits.{are_same_lit, lit_resolvent}
 use Rattle.nz_log.specs.Rows.{AreLitsOf, AreSaidIn}
 use Rattle.nz_log.specs.TermLits.{yes, gates_at}
@@ -23,6 +23,17 @@ pub data Origin : Type 0 where
   gate_of : (term j : ℕ) → Origin  -- it is a clause of the gate table
   axiom_of : (a : Axiom) → Origin  -- it holds by arithmetic alone
   chain_of : (first : ℕ) (links : List Link) → Origin  -- it is the last of a chain of resolvents
+
+-- the term of the clause of a table that it is, if it is one
+abbrev pub row_term : Origin → Option ℕ
+row_term (assertion_of k) = None
+row_term (gate_of t j) = Some t
+row_term (axiom_of (link_of t j)) = Some t
+row_term (axiom_of (unit_of t j)) = Some t
+row_term (axiom_of (farkas_of ms)) = None
+row_term (axiom_of (branch_of l)) = None
+row_term (axiom_of (cut_of ms)) = None
+row_term (chain_of first ks) = None
 
 pub record Entry : Type 0 where
   pub literals : List Lit

@@ -8,7 +8,7 @@ use Rattle.nz_spec.specs.Legal.{Task}
 use Rattle.nz_log.specs.declared.decide.Verdict.{Verdict}
 use Rattle.nz_log.specs.declared.decide.Verdict.TheVariants.{Sat, Unsat}
 use Rattle.nz_log.specs.declared.stop.Stop.{Stop}
-use Rattle.nz_log.specs.declared.stop.Stop.TheVariants.{Spent, Memory}
+use Rattle.nz_log.specs.declared.stop.Stop.TheVariants.{Wide, Spent, Memory}
 use Rattle.nz_log.specs.declared.term_lits.TermLit.{TermLit}
 use Rattle.nz_log.specs.TermLits.{literal_of}
 
@@ -30,6 +30,7 @@ OnUnsat (Unsat id) P = P
 -- the fact where every unit was used
 abbrev pub OnSpent : Stop → Type 0 → Type 0
 OnSpent Spent P = P
+OnSpent (Wide place) P = ⊤
 OnSpent Memory P = ⊤
 
 -- What a search is asked: of the asserted terms and the assumed literals, and of all that they are made of.

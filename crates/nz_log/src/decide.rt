@@ -21,16 +21,19 @@ pub enum Verdict {
 /// A search that decides whether asserted terms and assumed literals can all be true. Terms are asserted by levels.
 pub trait Decide: Drop {
     ghost use Rattle.std.specs.Prelude.{◌≡◌, ℕ, ◌-◌, ◌<◌, ◌≤◌, List, [], ◌∷◌, ◌++◌, length, map, take, All, Option, Some, IsSome, OnOk, OnErr, IfOk, IfErr};
-    ghost use Rattle.nz_spec.specs.Gates.{IsGated};
     ghost use Rattle.nz_spec.specs.Table.{Node, term_in, assignment_by};
     ghost use Rattle.nz_spec.specs.Literal.{AreTrueLiterals};
     ghost use Rattle.nz_spec.specs.Decide.{AreInTable, asserted_numbers, with_number, asserted_terms, IsFrontOfTable, AreModelValues};
     ghost use Rattle.nz_spec.specs.Legal.{at_first, IsDeadEnd, AreLegal};
+    ghost use Rattle.nz_spec.specs.Order.{HasCompanions};
+    ghost use Rattle.nz_spec.specs.Places.{IsStoppedLegally};
+    ghost use Rattle.nz_spec.specs.Taken.{IsTakenBoolean};
     ghost use Rattle.nz_spec.specs.Steps.{Derives};
     ghost use Rattle.nz_spec.specs.Work.{IsSpent};
     ghost use Rattle.nz_log.specs.declared.term_lits.TermLit.{TermLit};
     ghost use Rattle.nz_log.specs.TermLits.{literal_of, clause_of_terms, AreConsistent, AreNegations, AreOfTerms};
     ghost use Rattle.nz_log.specs.Notes.{noted_list, AreNotedWithin};
+    ghost use Rattle.nz_log.specs.Places.{OnWide, IsSiteWithin, place_of};
     ghost use Rattle.nz_log.specs.Spelling.{steps_of};
     ghost use Rattle.nz_log.specs.Verdicts.{IfSat, IfUnsat, OnUnsat, OnSpent, task_in};
 
@@ -75,7 +78,8 @@ pub trait Decide: Drop {
     ///
     /// # Errors
     ///
-    /// `Spent` where every unit of the work list is used and one more was wanted. `Memory`. After either, what is asserted stands as before.
+    /// `Spent` where every unit of the work list is used and one more was wanted; `Wide` where an operation leaves the numbers; `Memory`. After each,
+    /// what is asserted stands as before.
     fn check(
         &mut self,
         terms: &Terms,
@@ -87,9 +91,10 @@ pub trait Decide: Drop {
         requires grown { IsFrontOfTable (table self.old) terms.now }
         requires no_steps { work.old.lines ≡ [] }
 
-        // What is asserted and what is assumed is of the gate table, and no assumed literal is the negation of another.
-        requires gated { All (λ i. IsGated (term_in terms.now i)) (asserted_numbers (levels self.old)) }
-        requires assumed_gated { All (λ l. IsGated (term_in terms.now l.term)) assumed.now }
+        // What is asserted and what is assumed is linear, over Bool and Real, and no assumed literal is the negation of another.
+        requires taken { All (λ i. IsTakenBoolean (term_in terms.now i)) (asserted_numbers (levels self.old)) }
+        requires assumed_taken { All (λ l. IsTakenBoolean (term_in terms.now l.term)) assumed.now }
+        requires companions { HasCompanions terms.now }
         requires consistent { AreConsistent assumed.now }
         ensures sat { IfOk result (λ v. IfSat v (AreModelValues terms.now (asserted_terms terms.now (levels self.old)) [])) }
         ensures sat_assumed { IfOk result (λ v. IfSat v (λ ps. AreTrueLiterals (assignment_by terms.now ps) (map (literal_of terms.now) assumed.now))) }
@@ -97,9 +102,11 @@ pub trait Decide: Drop {
         ensures derived { IfOk result (λ v. IfUnsat v (λ id. AreNegations assumed.now (clause self.new id))) }
 
         // Each step is one that a search may take there, whatever comes of it.
-        ensures legal { AreLegal (task_in terms.now (levels self.old) assumed.now) at_first (noted_list terms.now work.new).lines }
+        ensures legal { AreLegal (task_in terms.now (levels self.old) assumed.now) (noted_list terms.now work.new).lines }
         ensures named { AreNotedWithin terms.now work.new.lines }
         ensures spent { IfErr result (λ s. OnSpent s (IsSpent work.new)) }
+        ensures stopped { IfErr result (λ s. OnWide s (λ p. IsStoppedLegally (task_in terms.now (levels self.old) assumed.now) (noted_list terms.now work.new) (place_of terms.now p))) }
+        ensures place_within { IfErr result (λ s. OnWide s (λ p. IsSiteWithin terms.now p.site)) }
         ensures limit { work.new.limit ≡ work.old.limit }
         ensures levels { levels self.new ≡ levels self.old }
         ensures table { OnOk result (table self.new ≡ terms.now) }

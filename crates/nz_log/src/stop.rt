@@ -1,10 +1,13 @@
 //! Why a search may end with no answer.
+use crate::place::Place;
 use nz_base::{Memory, Spent};
 use std::alloc::{AllocError, AllocFailed};
 
 /// Why a check ended with no answer.
-#[derive(Clone, Copy, Debug, PartialEq, Eq)]
+#[derive(Debug, Drop)]
 pub enum Stop {
+    /// An operation left the numbers.
+    Wide(Place),
     /// Every unit of the work list is used, and one more was wanted.
     Spent,
     /// Memory was wanted and refused.

@@ -1,15 +1,17 @@
 -- Multiples of bounds, over every table: each is one, and that of a bound on no units that excludes 0 excludes it too.
 use Rattle.std.proofs.Common.{◌≡◌, ◌||◌, ◌&&◌, ◌*ℤ◌, Bool, true, false, List, [], ◌∷◌, length, eqb, cond, pos, Less, Equal, Greater, refl, sym, ap, ap₂, subst, ◌∙◌, arith}
-use Rattle.std.specs.Prelude.{All, IsTrue, int_lt}
+use Rattle.std.specs.Prelude.{All, int_lt}
 use Rattle.std.specs.Ordering.{is_lt}
 use Rattle.std.specs.Bool.{OnTrue}
 use Rattle.std.specs.List.{list_all}
 use Rattle.std.proofs.lemmas.Bool.{ne_eqb}
-use Rattle.std.proofs.lemmas.Int.{ints}
 use Rattle.std.proofs.lemmas.List.Elements.{All-head, All-tail}
 use Rattle.nz_fractions.specs.Fraction.{Fraction, Product, Sum, denominator, fraction_cmp, fraction_lt, outcome, whole, ◌=ℚ◌, ◌<ℚ◌, ◌*ℚ◌}
 use Rattle.nz_fractions.proofs.Arithmetic.{outcome-product, outcome-sum}
 use Rattle.nz_fractions.proofs.Laws.{=ℚ_trans, <ℚ-≤ℚ_trans, ≤ℚ-<ℚ_trans, ≤ℚ-from_eq}
+use Rattle.nz_fractions.proofs.Order.{lt_from, lt_is}
+use Rattle.nz_fractions.proofs.Identities.{times_zero, zero_left}
+use Rattle.nz_fractions.proofs.Bounds.{times_lt}
 use Rattle.nz_spec.specs.Farkas.{empty_bound, is_contradiction, is_linear_literal, is_multiple, multiples_onto}
 use Rattle.nz_spec.specs.Form as form
 use Rattle.nz_spec.specs.Form.{Numbering}
@@ -17,9 +19,6 @@ use Rattle.nz_spec.specs.FormOf.{number_in}
 use Rattle.nz_spec.specs.Literal.{Literal}
 use Rattle.nz_spec.specs.Table.{Node}
 use Rattle.nz_spec.specs.Term.{is_zero}
-use Rattle.nz_spec.proofs.FarkasSums.{lt_from}
-use Rattle.nz_spec.proofs.FormValues.{times_zero, zero_left}
-use Rattle.nz_spec.proofs.FractionBounds.{times_lt}
 use Rattle.nz_lin.specs.declared.bound.Bound.{Bound}
 use Rattle.nz_lin.specs.declared.form.Part.{Part}
 use Rattle.nz_lin.specs.Bounds.{bounded, literal_over}
@@ -88,18 +87,13 @@ below_zero m q above below =
     let same : outcome Sum (whole (pos 0)) product =ℚ (m *ℚ q) = =ℚ_trans (outcome-sum (whole (pos 0)) product) (=ℚ_trans (zero_left product) (outcome-product m q)) in
     ≤ℚ-<ℚ_trans (≤ℚ-from_eq same) (<ℚ-≤ℚ_trans (times_lt m q (whole (pos 0)) above below) (≤ℚ-from_eq (times_zero m)))
 
-told_below : (p q : Fraction) (b : Bool) → fraction_lt p q ≡ b → p <ℚ q → b ≡ true
-unfolding fraction_lt
-told_below p q true e h = refl
-told_below p q false e h = absurd (omega (arith, ints, e, h.cross))
-
 alone : (number : Numbering) (m q : Fraction) (s : Bool) → fraction_lt (whole (pos 0)) m ≡ true → fraction_lt q (whole (pos 0)) ≡ true
     → is_contradiction (multiples_onto number empty_bound (record { literal = bounded s [] q; multiplier = m } ∷ [])).result ≡ true
 alone number m q s above below = by_strict s
   where
     excludes : fraction_lt (outcome Sum (whole (pos 0)) (outcome Product m q)) (whole (pos 0)) ≡ true
     excludes =
-        told_below (outcome Sum (whole (pos 0)) (outcome Product m q)) (whole (pos 0)) _ refl
+        lt_is (outcome Sum (whole (pos 0)) (outcome Product m q)) (whole (pos 0))
         (below_zero m q (lt_from (whole (pos 0)) m above) (lt_from q (whole (pos 0)) below))
 
     by_strict : (t : Bool) → is_contradiction (multiples_onto number empty_bound (record { literal = bounded t [] q; multiplier = m } ∷ [])).result ≡ true

@@ -1,41 +1,129 @@
 -- What was kept means the same where the table of its terms grows.
-use Rattle.std.proofs.Common.{◌≡◌, ◌+◌, List, [], ◌∷◌, ◌++◌, length, refl, ap, ◌∙◌, arith}
+use Rattle.std.proofs.Common.{◌≡◌, ℕ, ◌+◌, ◌<◌, List, [], ◌∷◌, ◌++◌, length, refl, sym, ap, ◌∙◌, arith}
 use Rattle.std.proofs.lemmas.List.{length-append}
+use Rattle.std.specs.List.{AllByRecursion}
 use Rattle.std.specs.Prelude.{map}
-use Rattle.nz_spec.specs.Table.{Node, term_in, TermStays}
-use Rattle.nz_spec.specs.Reply as spec
-use Rattle.nz_spec.specs.Reply.{atom_note}
+use Rattle.nz_spec.specs.Farkas as farkas
+use Rattle.nz_spec.specs.Gates.{holds}
+use Rattle.nz_spec.specs.Notes as notes
+use Rattle.nz_spec.specs.Notes.{atom_note, term_site, sum_site}
+use Rattle.nz_spec.specs.Table.{Node, TermStays}
+use Rattle.nz_spec.specs.Term.{sort_of}
 use Rattle.nz_spec.specs.Work.{WorkLine, UnitLine, NoteLine, WorkList}
+use Rattle.nz_spec.specs.Reply as spec
 use Rattle.nz_spec.specs.Transcript as transcript
+use Rattle.nz_frac.specs.Operations.{operation_of}
+use Rattle.nz_lin.specs.declared.bound.Bound.{Bound}
+use Rattle.nz_lin.specs.declared.bound.Multiple.{Multiple}
+use Rattle.nz_lin.specs.declared.form.Part.{Part}
+use Rattle.nz_lin.specs.Bounds.{bounded, literal_over, multiples_over, HasUnits}
+use Rattle.nz_lin.specs.Forms.{NamesUnit, parts_over}
 use Rattle.nz_sexpr.specs.Packed.{packed_heard_view}
 use Rattle.nz_log.specs.declared.note.Note.{Note}
-use Rattle.nz_log.specs.declared.note.Note.TheVariants.{Atom}
+use Rattle.nz_log.specs.declared.note.Note.TheVariants as note
+use Rattle.nz_log.specs.declared.place.Place.{Place}
+use Rattle.nz_log.specs.declared.place.Site.{Site}
+use Rattle.nz_log.specs.declared.place.Site.TheVariants as site
+use Rattle.nz_log.specs.Notes.{note_of, noted_line, IsNoteWithin, AreNotedWithin}
+use Rattle.nz_log.specs.Places.{site_of, place_of, IsSiteWithin}
 use Rattle.nz_reply.specs.declared.reply.Cause.{Cause}
 use Rattle.nz_reply.specs.declared.reply.Cause.TheVariants as cause
 use Rattle.nz_reply.specs.declared.reply.Kept.{Kept}
-use Rattle.nz_log.specs.Notes.{noted_line, AreNotedWithin}
-use Rattle.nz_reply.specs.Replies.{reply_of, cause_of, kept_of, all_kept, IsCauseWithin, AreKeptWithin, KeptStay}
+use Rattle.nz_reply.specs.declared.reply.WorkDone.{WorkDone}
+use Rattle.nz_reply.specs.Replies.{reply_of, work_of, cause_of, kept_of, all_kept, IsCauseWithin, AreKeptWithin, KeptStay}
 
 module _ (stays : TermStays) (ns more : List Node) where
+  wider : (i : ℕ) → i < length ns → i < length (ns ++ more)
+  wider i h = omega (arith, length-append ns more)
+
+  -- ---- Bounds
+
+  parts_wider : (ps : List Part) → AllByRecursion (NamesUnit ns) ps → AllByRecursion (NamesUnit (ns ++ more)) ps
+  parts_wider [] h = tt
+  parts_wider (p ∷ ps) h = ((wider p.unit h.0.0, h.0.1 ∙ ap sort_of (sym (stays ns more p.unit h.0.0))), parts_wider ps h.1)
+
+  parts_stay : (ps : List Part) → AllByRecursion (NamesUnit ns) ps → parts_over (ns ++ more) ps ≡ parts_over ns ps
+  parts_stay [] h = refl
+  parts_stay (p ∷ ps) h = λ i. record { coefficient = p.coefficient; unit = stays ns more p.unit h.0.0 i } ∷ parts_stay ps h.1 i
+
+  bound_wider : (b : Bound) → HasUnits ns b → HasUnits (ns ++ more) b
+  bound_wider b h = record { names = parts_wider b.sides.parts h.names; in_order = h.in_order }
+
+  bound_stays : (b : Bound) → HasUnits ns b → literal_over (ns ++ more) b ≡ literal_over ns b
+  bound_stays b h = ap (λ ps. bounded b.strict ps b.sides.offset) (parts_stay b.sides.parts h.names)
+
+  multiples_wider : (ms : List Multiple) → AllByRecursion (λ (m : Multiple). HasUnits ns m.bound) ms
+      → AllByRecursion (λ (m : Multiple). HasUnits (ns ++ more) m.bound) ms
+  multiples_wider [] h = tt
+  multiples_wider (m ∷ ms) h = (bound_wider m.bound h.0, multiples_wider ms h.1)
+
+  multiples_stay : (ms : List Multiple) → AllByRecursion (λ (m : Multiple). HasUnits ns m.bound) ms → multiples_over (ns ++ more) ms ≡ multiples_over ns ms
+  multiples_stay [] h = refl
+  multiples_stay (m ∷ ms) h =
+      λ i. (let n : farkas.Multiple = record { literal = bound_stays m.bound h.0 i; multiplier = m.multiplier } in n) ∷ multiples_stay ms h.1 i
+
+  -- ---- Notes
+
+  note_within : (n : Note) → IsNoteWithin ns n → IsNoteWithin (ns ++ more) n
+  note_within (note.Atom t) h = wider t h
+  note_within (note.Bound b) h = bound_wider b h
+  note_within (note.Form atom) h = tt
+  note_within (note.Told atom sign) h = tt
+
+  note_stays : (n : Note) → IsNoteWithin ns n → note_of (ns ++ more) n ≡ note_of ns n
+  note_stays (note.Atom t) h = ap (λ u. atom_note (holds u)) (stays ns more t h)
+  note_stays (note.Bound b) h = ap atom_note (bound_stays b h)
+  note_stays (note.Form atom) h = refl
+  note_stays (note.Told atom sign) h = refl
+
   notes_within : (lines : List (WorkLine Note)) → AreNotedWithin ns lines → AreNotedWithin (ns ++ more) lines
   notes_within [] h = tt
-  notes_within (NoteLine (Atom i) ∷ lines) h = (let below = h.0 in omega (arith, below, length-append ns more), notes_within lines h.1)
+  notes_within (NoteLine n ∷ lines) h = (note_within n h.0, notes_within lines h.1)
   notes_within (UnitLine entry ∷ lines) h = notes_within lines h
 
   notes_stay : (lines : List (WorkLine Note)) → AreNotedWithin ns lines → map (noted_line (ns ++ more)) lines ≡ map (noted_line ns) lines
   notes_stay [] h = refl
-  notes_stay (NoteLine (Atom i) ∷ lines) h =
-      ap (λ t. NoteLine (atom_note t) ∷ map (noted_line (ns ++ more)) lines) (stays ns more i h.0)
-      ∙ ap (λ ls. NoteLine (atom_note (term_in ns i)) ∷ ls) (notes_stay lines h.1)
-  notes_stay (UnitLine entry ∷ lines) h = ap (λ ls. UnitLine entry ∷ ls) (notes_stay lines h)
+  notes_stay (NoteLine n ∷ lines) h = λ i. NoteLine (note_stays n h.0 i) ∷ notes_stay lines h.1 i
+  notes_stay (UnitLine entry ∷ lines) h = λ i. UnitLine entry ∷ notes_stay lines h i
+
+  -- ---- Places
+
+  site_within : (s : Site) → IsSiteWithin ns s → IsSiteWithin (ns ++ more) s
+  site_within (site.Term t) h = wider t h
+  site_within site.Joining h = tt
+  site_within (site.Exchange leaves enters) h = tt
+  site_within (site.Value form) h = tt
+  site_within (site.Sum ms) h = multiples_wider ms.items h
+  site_within (site.Limit form side) h = tt
+  site_within (site.Model form) h = tt
+
+  site_stays : (s : Site) → IsSiteWithin ns s → site_of (ns ++ more) s ≡ site_of ns s
+  site_stays (site.Term t) h = ap term_site (stays ns more t h)
+  site_stays site.Joining h = refl
+  site_stays (site.Exchange leaves enters) h = refl
+  site_stays (site.Value form) h = refl
+  site_stays (site.Sum ms) h = ap sum_site (multiples_stay ms.items h)
+  site_stays (site.Limit form side) h = refl
+  site_stays (site.Model form) h = refl
+
+  place_stays : (p : Place) → IsSiteWithin ns p.site → place_of (ns ++ more) p ≡ place_of ns p
+  place_stays p h = ap (λ s. let q : notes.Place = record { operation = operation_of p.wide; site = s } in q) (site_stays p.site h)
+
+  -- ---- What was kept
+
+  work_stays : (d : WorkDone) → AreNotedWithin ns d.work → work_of (ns ++ more) d ≡ work_of ns d
+  work_stays d h = ap (λ ls. let w : WorkList notes.Note = record { lines = ls; limit = d.limit } in w) (notes_stay d.work h)
 
   cause_within : (c : Cause) → IsCauseWithin ns c → IsCauseWithin (ns ++ more) c
   cause_within cause.Plain h = tt
-  cause_within (cause.Spent list) h = notes_within list.value.work h
+  cause_within (cause.Spent done) h = notes_within done.value.work h
+  cause_within (cause.Stopped stopped) h =
+      record { site = site_within stopped.value.place.site h.site; noted = notes_within stopped.value.done.work h.noted }
 
   cause_stays : (c : Cause) → IsCauseWithin ns c → cause_of (ns ++ more) c ≡ cause_of ns c
   cause_stays cause.Plain h = refl
-  cause_stays (cause.Spent list) h = ap (λ ls. let w : WorkList spec.Note = record { lines = ls; limit = list.value.limit } in spec.spent w) (notes_stay list.value.work h)
+  cause_stays (cause.Spent done) h = ap spec.spent (work_stays done.value h)
+  cause_stays (cause.Stopped stopped) h = λ i. spec.stopped (place_stays stopped.value.place h.site i) (work_stays stopped.value.done h.noted i)
 
   all_within : (ks : List Kept) → AreKeptWithin ns ks → AreKeptWithin (ns ++ more) ks
   all_within [] h = tt

@@ -1,6 +1,7 @@
 -- What replies and their causes are.
 use Rattle.std.specs.Prelude.{◌≡◌, List, ◌++◌, map, ⊤}
 use Rattle.std.specs.List.{AllByRecursion}
+use Rattle.nz_spec.specs.Notes as notes
 use Rattle.nz_spec.specs.Reply as spec
 use Rattle.nz_spec.specs.Text as script
 use Rattle.nz_spec.specs.Transcript as transcript
@@ -10,6 +11,7 @@ use Rattle.nz_base.specs.Errors.{error_of}
 use Rattle.nz_sexpr.specs.Packed.{packed_heard_view}
 use Rattle.nz_reply.specs.Infos.{info_of}
 use Rattle.nz_log.specs.Notes.{noted_line, AreNotedWithin}
+use Rattle.nz_log.specs.Places.{IsSiteWithin, place_of}
 use Rattle.nz_reply.specs.Reasons.{reason_of}
 use Rattle.nz_reply.specs.Values.{asked_trees, echoed_in, with_shown}
 use Rattle.nz_reply.specs.declared.reply.Reply.{Reply}
@@ -17,7 +19,8 @@ use Rattle.nz_reply.specs.declared.reply.Reply.TheVariants as reply
 use Rattle.nz_reply.specs.declared.reply.Cause.{Cause}
 use Rattle.nz_reply.specs.declared.reply.Cause.TheVariants as cause
 use Rattle.nz_reply.specs.declared.reply.Kept.{Kept}
-use Rattle.nz_reply.specs.declared.reply.SpentList.{SpentList}
+use Rattle.nz_reply.specs.declared.reply.Stopped.{Stopped}
+use Rattle.nz_reply.specs.declared.reply.WorkDone.{WorkDone}
 
 -- What a reply to this thing heard is: the terms whose values it tells, and the text that it repeats, stand in the command.
 abbrev pub reply_of : script.What → Reply → spec.Reply
@@ -35,13 +38,15 @@ reply_of what reply.Echo = spec.echoed (echoed_in what)
 reply_of what reply.Unsupported = spec.unsupported
 reply_of what (reply.Error e) = spec.error (error_of e)
 
-abbrev pub spent_of : List Node → SpentList → WorkList spec.Note
-spent_of ns s = record { lines = map (noted_line ns) s.work; limit = s.limit }
+-- the work of a check
+abbrev pub work_of : List Node → WorkDone → WorkList notes.Note
+work_of ns d = record { lines = map (noted_line ns) d.work; limit = d.limit }
 
 -- what a cause is, where its numbers are those of a table
 abbrev pub cause_of : List Node → Cause → spec.Cause
 cause_of ns cause.Plain = spec.plain
-cause_of ns (cause.Spent list) = spec.spent (spent_of ns list.value)
+cause_of ns (cause.Spent done) = spec.spent (work_of ns done.value)
+cause_of ns (cause.Stopped stopped) = spec.stopped (place_of ns stopped.value.place) (work_of ns stopped.value.done)
 
 abbrev pub kept_of : List Node → Kept → transcript.Kept
 kept_of ns k = let heard = packed_heard_view k.heard in record { heard = heard; reply = reply_of heard.what k.reply; cause = cause_of ns k.cause }
@@ -51,10 +56,16 @@ all_kept ns ks = map (kept_of ns) ks
 
 -- ---- Tables that grow
 
+-- the place where a check ended, and its work, name terms of the table alone
+pub record IsStoppedWithin (ns : List Node) (s : Stopped) : Type 0 where
+  pub site : IsSiteWithin ns s.place.site
+  pub noted : AreNotedWithin ns s.done.work
+
 -- a cause names terms of the table alone
 abbrev pub IsCauseWithin : List Node → Cause → Type 0
 IsCauseWithin ns cause.Plain = ⊤
-IsCauseWithin ns (cause.Spent list) = AreNotedWithin ns list.value.work
+IsCauseWithin ns (cause.Spent done) = AreNotedWithin ns done.value.work
+IsCauseWithin ns (cause.Stopped stopped) = IsStoppedWithin ns stopped.value
 
 -- so does that of each thing kept
 abbrev pub AreKeptWithin : List Node → List Kept → Type 0

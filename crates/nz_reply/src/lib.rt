@@ -9,7 +9,7 @@ mod tree;
 mod write;
 
 pub use reply::{
-    Binding, Bindings, Cause, Info, Journal, Kept, Reason, Reply, Shown, Shows, SpentList,
+    Binding, Bindings, Cause, Info, Journal, Kept, Reason, Reply, Shown, Shows, Stopped, WorkDone,
     kept_stay,
 };
 pub use text::write_reply;

@@ -1,17 +1,18 @@
 //! Replies: what they hold, why they are what they are, and the journal of what was kept.
 ghost use Rattle.std.specs.Prelude.{◌≡◌, [], ◌∷◌, ◌++◌, length, map, option_map, slice_get, None, Some, IfNone, IfOk, IfSome, OnOk, OnErr};
 ghost use Rattle.nz_reply.specs.Bindings.{binding_of};
+ghost use Rattle.nz_reply.specs.Reasons.{reason_of};
 ghost use Rattle.nz_reply.specs.Replies.{KeptStay};
 ghost use Rattle.nz_reply.specs.Values.{shown_of};
 ghost use Rattle.nz_term.specs.Values.{value_of};
 
 use nz_base::{Error, Lines, Memory};
 use nz_frac::Wide;
-use nz_log::Note;
+use nz_log::{Note, Place};
 use nz_sexpr::PackedHeard;
 use nz_spec::table::term_stays;
 use nz_term::{Constant, Sort, Value};
-use std::alloc::Global;
+use std::alloc::{AllocError, Global};
 use std::marker::Model;
 use std::rc::Rc;
 
@@ -156,10 +157,28 @@ pub enum Info {
 }
 
 /// Why a check wasn't decided.
-#[derive(Clone, Copy, Debug, PartialEq, Eq)]
+#[derive(Debug, Drop)]
 pub enum Reason {
     /// Each of so many units of work was used.
     UnitsSpent(u64),
+    /// An operation left the numbers. It is shared, as the bindings of a model are, so that an entry of the journal stays small.
+    Wide(Rc<Wide>),
+}
+
+impl Reason {
+    /// The same reason, with the same operation.
+    ///
+    /// # Errors
+    ///
+    /// `AllocError` where it can't be shared once more.
+    pub fn share(&self) -> Result<Reason, AllocError>
+        ensures same { IfOk result (λ shared. reason_of shared ≡ reason_of self.now) }
+    {
+        match self {
+            Reason::UnitsSpent(units) => Ok(Reason::UnitsSpent(*units)),
+            Reason::Wide(wide) => Ok(Reason::Wide(wide.clone()?)),
+        }
+    }
 }
 
 /// A reply.
@@ -191,9 +210,9 @@ pub enum Reply {
     Error(Error),
 }
 
-/// The work of a check that used all of its units.
+/// The work of a check that wasn't decided.
 #[derive(Debug, Drop)]
-pub struct SpentList {
+pub struct WorkDone {
     /// How many units the check had.
     pub limit: u64,
     pub work: Lines<Note>,
@@ -203,8 +222,17 @@ pub struct SpentList {
 #[derive(Debug, Drop)]
 pub enum Cause {
     Plain,
-    /// In a box, since few entries have one, and each would be as large as it.
-    Spent(Box<SpentList>),
+    /// Each unit of the work was used. In a box, since few entries have one, and each would be as large as it.
+    Spent(Box<WorkDone>),
+    /// An operation left the numbers at a place, where the work ended.
+    Stopped(Box<Stopped>),
+}
+
+/// Where a check ended that couldn't go on, and its work.
+#[derive(Debug, Drop)]
+pub struct Stopped {
+    pub place: Place,
+    pub done: WorkDone,
 }
 
 /// A thing heard, packed, its reply, and the reply's cause.

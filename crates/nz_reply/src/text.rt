@@ -206,6 +206,7 @@ impl Spell for Reason {
     fn write<K: Sink>(&self, sink: &mut K) -> Result<(), WriteFault> {
         match self {
             Reason::UnitsSpent(units) => ("(spent ", Decimal(*units), ")").write(sink),
+            Reason::Wide(wide) => wide.write(sink),
         }
     }
 }

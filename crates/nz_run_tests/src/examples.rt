@@ -19,6 +19,25 @@ struct Example {
 
 const EXAMPLES: &[Example] = &[
     Example {
+        name: "chain",
+        script: b"(declare-const a Real)\n\
+            (declare-const b Real)\n\
+            (declare-const c Real)\n\
+            (assert (< a b))\n\
+            (assert (< b c))\n\
+            (check-sat)\n\
+            (get-model)\n\
+            (assert (< c a))\n\
+            (check-sat)\n",
+        replies: b"sat\n\
+            (\n\
+            (define-fun a () Real (- 2.0))\n\
+            (define-fun b () Real (- 1.0))\n\
+            (define-fun c () Real 0.0)\n\
+            )\n\
+            unsat\n",
+    },
+    Example {
         name: "core",
         script: b"(declare-const p Bool)\n\
             (declare-const q Bool)\n\
@@ -54,6 +73,48 @@ const EXAMPLES: &[Example] = &[
             )\n",
     },
     Example {
+        name: "sums",
+        script: b"(declare-const income Real)\n\
+            (declare-const rent Real)\n\
+            (declare-const food Real)\n\
+            (assert (<= (+ rent food) income))\n\
+            (assert (>= rent (* 0.5 income)))\n\
+            (assert (> food 400.0))\n\
+            (check-sat)\n\
+            (get-model)\n\
+            (assert (< income 800.0))\n\
+            (check-sat)\n",
+        replies: b"sat\n\
+            (\n\
+            (define-fun income () Real 802.0)\n\
+            (define-fun rent () Real 401.0)\n\
+            (define-fun food () Real 401.0)\n\
+            )\n\
+            unsat\n",
+    },
+    Example {
+        name: "tariff",
+        script: b"(declare-const express Bool)\n\
+            (declare-const weight Real)\n\
+            (declare-const price Real)\n\
+            (assert (= price (ite express (+ 5.0 (* 3.0 weight)) (+ 2.0 weight))))\n\
+            (assert (and (<= 1.0 weight) (<= weight 4.0)))\n\
+            (assert (< 10.0 price))\n\
+            (check-sat)\n\
+            (get-model)\n\
+            (get-value ((- price weight) (< weight price)))\n\
+            (assert (not express))\n\
+            (check-sat)\n",
+        replies: b"sat\n\
+            (\n\
+            (define-fun express () Bool true)\n\
+            (define-fun weight () Real 4.0)\n\
+            (define-fun price () Real 17.0)\n\
+            )\n\
+            (((- price weight) 13.0) ((< weight price) true))\n\
+            unsat\n",
+    },
+    Example {
         name: "terms",
         script: b"(declare-const express Bool)\n\
             (define-fun price ((weight Int)) Int (ite express (+ 5 (* 3 weight)) (+ 2 weight)))\n\
@@ -82,6 +143,15 @@ const EXAMPLES: &[Example] = &[
             (define-fun sun () Bool true)\n\
             )\n\
             unsat\n",
+    },
+    Example {
+        name: "wide",
+        script: b"(declare-const x Real)\n\
+            (assert (< x (+ 170141183460469231731687303715884105727 1.0)))\n\
+            (check-sat)\n\
+            (get-info :reason-unknown)\n",
+        replies: b"unknown\n\
+            (:reason-unknown (wide add 170141183460469231731687303715884105727 1))\n",
     },
 ];
 

@@ -295,7 +295,36 @@ fn texts_and_infos_are_told(rt: HostRuntime) -> Result<(), Fail> {
     Ok(())
 }
 
-const NUMBERS: Told = Told {
+const REALS: Told = Told {
+    script: b"(declare-const a Real)(declare-const b Real)(assert (< a b))(assert (<= (+ a b) 3))
+        (assert (= a 1))(check-sat)(get-value ((* 2 a)))(assert (>= b 2.5))(check-sat)",
+    ended: Fed::Going,
+    replies: b"sat\n(((* 2 a) 2.0))\nunsat\n",
+};
+
+#[test]
+fn reals_are_checked(rt: HostRuntime) -> Result<(), Fail> {
+    tells(&rt, rt.alloc(), UNITS, &REALS)?;
+    Ok(())
+}
+
+const STOPPED: Told = Told {
+    script: b"(declare-const x Real)
+        (assert (< x (+ 170141183460469231731687303715884105727 1.0)))
+        (check-sat)(get-info :reason-unknown)(get-model)",
+    ended: Fed::Going,
+    replies: b"unknown\n\
+        (:reason-unknown (wide add 170141183460469231731687303715884105727 1))\n\
+        (error \"7 no answer to show\")\n",
+};
+
+#[test]
+fn a_check_that_stops_is_told_with_the_operation(rt: HostRuntime) -> Result<(), Fail> {
+    tells(&rt, rt.alloc(), UNITS, &STOPPED)?;
+    Ok(())
+}
+
+const INTEGERS: Told = Told {
     script: b"(define-fun two () Int 2)(check-sat)(get-value ((+ two two)))
         (declare-const x Int)(assert (= (* x x) two))(check-sat)",
     ended: Fed::Going,
@@ -303,7 +332,7 @@ const NUMBERS: Told = Told {
 };
 
 #[test]
-fn numbers_are_defined_and_not_checked(rt: HostRuntime) -> Result<(), Fail> {
-    tells(&rt, rt.alloc(), UNITS, &NUMBERS)?;
+fn integers_are_defined_and_not_checked(rt: HostRuntime) -> Result<(), Fail> {
+    tells(&rt, rt.alloc(), UNITS, &INTEGERS)?;
     Ok(())
 }

@@ -21,7 +21,8 @@ use Rattle.nz_sat.proofs.Clausal.{either_sign, open_grows, other_lit, sign_again
 use Rattle.nz_sat.proofs.Chains.{has_found}
 use Rattle.nz_sat.proofs.Keeping.{goes_assumed, goes_search, goes_true, held_live}
 use Rattle.nz_sat.proofs.Visiting.{goes_depth}
-use Rattle.nz_sat.proofs.Trailing.{assigned_missing, assigned_one, assigned_place, each_push, order_put}
+use Rattle.nz_sat.proofs.Tracking.{trail_push}
+use Rattle.nz_sat.proofs.Trailing.{assigned_missing, assigned_one, assigned_place}
 
 -- ---- Under no decision
 
@@ -88,7 +89,7 @@ module _ (log : LogState) (held : List Held) (assumed : List Lit) (l : Lit) (s :
       let es = s.trail.entries in
       let turned = opposite e at other in
       let place = (assigned_place es l.atom e at).1 in
-      let caused : IsReasonOf log (take place.0 es) e.literal e.reason = may.search.implied place.0 e place.1 in
+      let caused : IsReasonOf log (take place.0 es) e.literal e.reason = may.search.on.implied place.0 e place.1 in
       elim e.reason as (λ o. e.reason ≡ o → IsReasonOf log (take place.0 es) e.literal o → Assumes log held assumed l es s o) [
         | None ↦ λ none reason.
             let low = lowest_level es undecided place.0 e place.1 none in
@@ -123,15 +124,12 @@ module _ (log : LogState) (held : List Held) (assumed : List Lit) (l : Lit) (s :
           listed = h.listed;
           only = h.only;
           named = h.named;
-          there = h.there;
-          on_trail = All-push (λ (e : Assigned). Contains s.atoms e.literal.atom) s.trail.entries entry h.on_trail may.atom;
           within = h.within;
           indexed = h.indexed;
           marks = h.marks;
           unmarked = h.unmarked;
-          order = order_put s.trail.size s.trail.entries entry h.order free
-              (All-contains (λ (u : ℕ). u < s.trail.size) s.atoms l.atom h.within may.atom) (sym put_depth);
-          implied = each_push (IsImplied log) s.trail.entries entry h.implied tt;
+          on = trail_push log s.atoms s.bounds s.trail h.on entry free (All-contains (λ (u : ℕ). u < s.trail.size) s.atoms l.atom h.within may.atom) may.atom tt (sym put_depth)
+              (inl (put_depth ∙ sym undecided));
           reasons = All-push (HasReasonOf (ids held)) s.trail.entries entry h.reasons tt;
         }
 

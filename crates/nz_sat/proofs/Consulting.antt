@@ -1,39 +1,39 @@
 -- What a search knows after the theory was asked.
-use Rattle.std.proofs.Common.{◌≡◌, ℕ, ◌<◌, List, [], length, get_or, inl, inr, Option, None, Some, Ok, refl, sym, ap, subst, ◌∙◌, arith}
-use Rattle.std.specs.Prelude.{IfOk, IfSome}
+use Rattle.std.proofs.Common.{◌≡◌, ℕ, ◌<◌, ◌≤◌, Bool, List, [], length, map, min, inl, inr, Option, None, Some, refl, sym, ap, subst, ◌∙◌, arith}
+use Rattle.std.specs.Prelude.{All, Contains, IfOk, IfSome}
 use Rattle.std.specs.declared.result.Result.{Result}
+use Rattle.std.specs.declared.result.Result.TheVariants.{Ok, Err}
 use Rattle.std.proofs.lemmas.List.{append-nil}
-use Rattle.std.proofs.lemmas.List.Elements.{All-contains}
 use Rattle.std.proofs.lemmas.Result.{IfOk-weaker}
-use Rattle.nz_spec.specs.Legal.{Task}
-use Rattle.nz_spec.specs.Table.{Node}
+use Rattle.nz_spec.specs.Legal as legal
 use Rattle.nz_spec.specs.Work.{WorkList}
 use Rattle.nz_log.specs.declared.lits.Lit.{Lit}
 use Rattle.nz_log.specs.declared.note.Note.{Note}
 use Rattle.nz_log.specs.declared.stop.Stop.{Stop}
+use Rattle.nz_log.specs.declared.stop.Stop.TheVariants.{Memory}
 use Rattle.nz_log.specs.Logs.{LogState, literals_at}
-use Rattle.nz_log.specs.Theories.{AddsUnits, Grows, IsClash}
+use Rattle.nz_log.specs.Standing.{search_after}
+use Rattle.nz_log.specs.Theories.{Grows, IsClash}
 use Rattle.nz_sat.specs.declared.clauses.Held.{Held}
+use Rattle.nz_sat.specs.declared.consult.Bounds.{Bounds}
 use Rattle.nz_sat.specs.declared.search.Search.{Search}
 use Rattle.nz_sat.specs.declared.trail.Assigned.{Assigned}
 use Rattle.nz_sat.specs.Conflicts.{GoesBackTo, HasLast, IsFalsifiedUnder, StaysSound}
-use Rattle.nz_sat.specs.Numbers.{IsTermAtom}
-use Rattle.nz_sat.specs.Sats.{IsLegalWork}
-use Rattle.nz_sat.specs.Searching.{Advances, Carries, ComesTo, Follows, IsConflict, IsNoted, IsSearch, Learns, MayFollow, OpenOrConflict, OpenOrFalsified, Settles, StaysInOrder, Steps, Turns, TurnsOn, WasNoted, WereOpen}
-use Rattle.nz_sat.specs.Theories.{IsMet, IsTold, StaysSoundOver}
+use Rattle.nz_sat.specs.Numbers.{numbered}
+use Rattle.nz_sat.specs.Searching.{Advances, Carries, ComesTo, Follows, IsConflict, IsNoted, IsSearch, Learns, MayFollow, OpenOrConflict, OpenOrFalsified, Settles, StaysInOrder, Steps, Turns, TurnsOn, WasNoted, WereOpen, ids}
+use Rattle.nz_sat.specs.Theories.{AddsLines, Consults, EndsLegally, IsMet, IsOfTheory, IsTrailOn, TellsTrail, TheoryState, told_lits}
 use Rattle.nz_sat.specs.Trails.{GoesOn, IsTrueOn, below, depth, literals_on}
-use Rattle.nz_sat.proofs.Advancing.{far_advances, held_on, log_advances, on_kept, steps_behind}
-use Rattle.nz_sat.proofs.Following.{carries_far, goes_first, goes_noted, stays_in_order}
+use Rattle.nz_sat.proofs.Advancing.{Reaches, log_reaches, reaches_step, reaches_then, stands_legal, steps_behind}
+use Rattle.nz_sat.proofs.Following.{carries_far, goes_first, goes_tells, goes_told}
+use Rattle.nz_sat.proofs.Growing.{grows_far, grows_none, held_on, on_kept, order_over}
 use Rattle.nz_sat.proofs.Keeping.{goes_assumed, held_live}
 use Rattle.nz_sat.proofs.Levels.{below_twice}
-use Rattle.nz_sat.proofs.Returning.{cut_assumed, cut_conflict, cut_front, cut_last, cut_search, cut_were, grown_noted, grown_open, grown_search, grown_were, units_limit, units_more, units_noted, units_told}
-use Rattle.nz_sat.proofs.Staying.{lit_within}
-use Rattle.nz_sat.proofs.Telling.{clash_falsified, told_on}
+use Rattle.nz_sat.proofs.Listing.{adds_keep, adds_units, adds_wider, learned_kept}
+use Rattle.nz_sat.proofs.Returning.{cut_assumed, cut_conflict, cut_depth, cut_last, cut_search, cut_were, grown_learned, grown_open, grown_search, grown_were}
+use Rattle.nz_sat.proofs.Staying.{atoms_stay}
+use Rattle.nz_sat.proofs.Telling.{clash_falsified, stands_so}
 
 -- ---- One look for a conflict
-
-pub goes_told : (has_told : List Lit → Type 0) (es es' : List Assigned) → GoesOn es es' → IsTold has_told es → IsTold has_told es'
-goes_told has_told es es' g t = told_on has_told es es' (record { more = g.more; joined = g.joined }) t
 
 falsified_conflict : (log : LogState) (held : List Held) (s : Search) (es : List Assigned) (told : Option ℕ) → IsSearch log held s → OpenOrFalsified log held es told
     → OpenOrConflict log held es told
@@ -50,75 +50,110 @@ comes_falsified log held s s' told f =
       told_so = falsified_conflict log held s' s'.trail.entries told f.search f.told_so;
     }
 
-module _ (log log' : LogState) (held : List Held) (s s' : Search) (f : Follows log held s s' None) (g : Grows log log') where
+-- what is known of the trail where the theory was told more of it
+search_told : (log log' : LogState) → Grows log log' → (held : List Held) (s : Search) → IsSearch log held s → (b : Bounds) → IsTrailOn log' s.atoms b s.trail
+    → IsSearch log' held (record s { bounds = b })
+search_told log log' g held s h b on =
+    let grown = grown_search log log' g held s h in
+    record {
+      are_held = grown.are_held;
+      listed = grown.listed;
+      only = grown.only;
+      named = grown.named;
+      within = grown.within;
+      indexed = grown.indexed;
+      marks = grown.marks;
+      unmarked = grown.unmarked;
+      on = on;
+      reasons = grown.reasons;
+    }
+
+module _ (log log' : LogState) (held : List Held) (s s' : Search) (f : Follows log held s s' None) (g : Grows log log') (b : Bounds) (on : IsTrailOn log' s'.atoms b s'.trail) where
   clash_conflict : (o : Option ℕ) → IfSome o (IsClash log' (literals_on s'.trail.entries)) → OpenOrConflict log' held s'.trail.entries o
   clash_conflict None c = grown_open log log' g held s' f.search s'.trail.entries f.told_so
   clash_conflict (Some id) c =
-      record { live = c.live; falsified = clash_falsified s'.trail.size s'.trail.entries f.search.order log' id c; kind = inr c.once }
+      record { live = c.live; falsified = clash_falsified s'.trail.size s'.trail.entries f.search.on.order log' id c; kind = inr c.once }
 
-  comes_so : (o : Option ℕ) → IfSome o (IsClash log' (literals_on s'.trail.entries)) → ComesTo log' held s s' o
+  comes_so : (o : Option ℕ) → IfSome o (IsClash log' (literals_on s'.trail.entries)) → ComesTo log' held s (record s' { bounds = b }) o
   comes_so o c =
       record {
-        search = grown_search log log' g held s' f.search;
+        search = search_told log log' g held s' f.search b on;
         were_open = grown_were log log' g held s' f.search s'.trail.entries f.were_open;
         goes_on = f.goes_on;
         told_so = clash_conflict o c;
       }
 
   -- the theory is asked where all clauses are open
-  pub comes_told : {E : Type 0} → (r : Result (Option ℕ) E) → IfOk r (λ o. IfSome o (IsClash log' (literals_on s'.trail.entries))) → IfOk r (ComesTo log' held s s')
-  comes_told r c = IfOk-weaker r (λ (o : Option ℕ). IfSome o (IsClash log' (literals_on s'.trail.entries))) (ComesTo log' held s s') comes_so c
+  pub comes_told : {E : Type 0} → (r : Result (Option ℕ) E) → IfOk r (λ o. IfSome o (IsClash log' (literals_on s'.trail.entries)))
+      → IfOk r (ComesTo log' held s (record s' { bounds = b }))
+  comes_told r c =
+      IfOk-weaker r (λ (o : Option ℕ). IfSome o (IsClash log' (literals_on s'.trail.entries))) (ComesTo log' held s (record s' { bounds = b })) comes_so c
 
-pub consult_advances : (over : List Node → Type 0) (atoms : List ℕ) (es : List Assigned) (log log' : LogState) (held : List Held) (s : Search) (work work' : WorkList Note)
-    → IsSearch log held s → s.atoms ≡ atoms → Grows log log' → StaysSoundOver over s.trail.entries log log' → AddsUnits work work'
-    → ((ns : List Node) (q : Task) → over ns → IsLegalWork ns q work → IsLegalWork ns q work') → Advances over atoms es log log' held held work work'
-consult_advances over atoms es log log' held s work work' h same g sound units legal =
+-- the trail went on, and the list tells it
+module _ (log : LogState) (s s' : Search) (rest : s' ≡ record s { trail = s'.trail }) (g : GoesOn s.trail.entries s'.trail.entries) (inside : s.bounds.told ≤ length s.trail.entries) where
+  same_atoms : s'.atoms ≡ s.atoms
+  same_atoms = ap (λ (r : Search). r.atoms) rest
+
+  same_bounds : s'.bounds ≡ s.bounds
+  same_bounds = ap (λ (r : Search). r.bounds) rest
+
+  pub follow_told : told_lits s'.bounds s'.trail.entries ≡ told_lits s.bounds s.trail.entries
+  follow_told =
+      ap (λ (b : Bounds). told_lits b s'.trail.entries) same_bounds ∙ ap literals_on (goes_told s.bounds s.trail.entries s'.trail.entries inside g)
+
+  pub follow_tells : (work : WorkList Note) → TellsTrail log s.atoms s.bounds s.trail.entries work → TellsTrail log s'.atoms s'.bounds s'.trail.entries work
+  follow_tells work tells =
+      subst (λ (us : List ℕ). TellsTrail log us s'.bounds s'.trail.entries work) (sym same_atoms)
+      (subst (λ (b : Bounds). TellsTrail log s.atoms b s'.trail.entries work) (sym same_bounds) (goes_tells log s.atoms s.bounds s.trail.entries s'.trail.entries work inside g tells))
+
+-- nothing is told where a clause is falsified
+pub falsified_advances : (m : TheoryState) (log : LogState) (held : List Held) (s : Search) (work : WorkList Note) → IsSearch log held s → TellsTrail log s.atoms s.bounds s.trail.entries work
+    → (found : Option ℕ) → Advances m m s s.trail.entries log log held held work work (Ok found)
+falsified_advances m log held s work h tells found =
+    log_reaches m s s.trail.entries log log held work h.are_held (grows_none log) (λ ns levels known within order. order) (Ok found)
+    (λ ns levels assumed q known only asked st. stands_so ns log s.atoms s.bounds s.trail.entries work tells asked.within h.on.on_trail (m.at ns) q st)
+
+pub consult_advances : (m m' : TheoryState) (log log' : LogState) (held : List Held) (s s' : Search) (b : Bounds) (work work' : WorkList Note) (result : Result (Option ℕ) Stop) → IsSearch log held s
+    → IsSearch log held s' → s' ≡ record s { trail = s'.trail } → GoesOn s.trail.entries s'.trail.entries → Consults m m' log log' s'.atoms s'.bounds b s'.trail work work' result
+    → Advances m m' s s.trail.entries log log' held held work work' result
+consult_advances m m' log log' held s s' b work work' result h h' rest g c =
+    let atoms = ap (λ (r : Search). r.atoms) rest in
+    let told = follow_told log s s' rest g h.on.inside in
+    let ends : EndsLegally m m' log s.atoms (told_lits s.bounds s.trail.entries) s'.trail.entries work work' result =
+    subst (λ (us : List ℕ). EndsLegally m m' log us (told_lits s.bounds s.trail.entries) s'.trail.entries work work' result) atoms
+    (subst (λ (ls : List Lit). EndsLegally m m' log s'.atoms ls s'.trail.entries work work' result) told c.ends) in
     record {
-      grows = g;
-      sound = subst (λ (us : List ℕ). StaysInOrder over us log log') same
-          (λ ns levels known within order.
-          sound ns levels known
-          (λ k d inside.
-          let l = (get_or s.trail.entries k d).literal in
-          lit_within ns log.atoms l (All-contains (IsTermAtom ns log.atoms) s.atoms l.atom within (h.on_trail k d inside))) order);
-      holds_more = record { learned = []; joined = sym (append-nil held); held = held_on log log' held g h.are_held };
-      named = on_kept log log' atoms held g h.are_held;
-      legal = λ ns levels assumed q known only asked before. legal ns q known before;
-      notes = units_noted work work' units;
-      limit = units_limit work work' units;
+      keeps = c.keeps;
+      grows = c.grows;
+      sound = subst (λ (us : List ℕ). StaysInOrder m.over us log log') atoms (order_over m.over s'.atoms s'.trail.entries h'.on.on_trail log log' c.sound);
+      holds_more = record { learned = []; joined = sym (append-nil held); held = held_on log log' held c.grows h.are_held };
+      named = on_kept log log' s.atoms held c.grows h.are_held;
+      adds = adds_wider work work' c.adds;
+      ends = λ ns levels assumed q known only asked st. ends ns levels assumed q known (goes_assumed s.trail.entries s'.trail.entries assumed g only) asked st;
     }
 
 -- ---- One turn
 
--- one step, and one behind it
-pub advances_on : {over over' : List Node → Type 0} → {start mid : Search} → {log log₁ log₂ : LogState} → {held held₁ held₂ : List Held} → {work work₁ work₂ : WorkList Note}
-    → Carries start mid work work₁ → Advances over start.atoms start.trail.entries log log₁ held held₁ work work₁ → ((ns : List Node) → over ns → over' ns)
-    → Advances over' mid.atoms mid.trail.entries log₁ log₂ held₁ held₂ work₁ work₂ → Advances over start.atoms start.trail.entries log log₂ held held₂ work work₂
-advances_on {over} {over'} {start} {mid} {log} {log₁} {log₂} {held} {held₁} {held₂} {work} {work₁} {work₂} carries before keeps step =
-    far_advances over over' keeps start.atoms start.trail.entries mid.trail.entries log log₁ log₂ held held₁ held₂ work work₁ work₂ carries.assumed_only before
-    (subst (λ (us : List ℕ). Advances over' us mid.trail.entries log₁ log₂ held₁ held₂ work₁ work₂) carries.atoms step)
-
-pub steps_on : {over over' over'' : List Node → Type 0} → {has_told : List Lit → Type 0} → {is_feasible : Type 0} → {start mid : Search} → {es : List Assigned}
-    → {log log₁ log₂ : LogState} → {held held₁ held₂ : List Held} → {work work₁ work₂ : WorkList Note} → {answer : Result (Option ℕ) Stop}
-    → Carries start mid work work₁ → Advances over start.atoms start.trail.entries log log₁ held held₁ work work₁ → ((ns : List Node) → over ns → over' ns)
-    → Steps over' over'' has_told is_feasible mid.atoms mid.trail.entries es log₁ log₂ held₁ held₂ work₁ work₂ answer
-    → Steps over over'' has_told is_feasible start.atoms start.trail.entries es log log₂ held held₂ work work₂ answer
-steps_on carries before keeps step = steps_behind (advances_on carries before keeps step.advances) keeps step
-
 -- a look for a conflict
-pub turns_on : {start mid new : Search} → {log log' : LogState} → {held : List Held} → {work work₁ work₂ : WorkList Note} → IsSearch log held mid
-    → IsNoted log held mid.atoms mid.trail.entries work₁ → Carries start mid work work₁ → Grows log log' → AddsUnits work₁ work₂ → new.atoms ≡ mid.atoms
-    → (told : Option ℕ) → ComesTo log' held mid new told → Turns log' held start new work work₂ told
-turns_on {start} {mid} {new} {log} {log'} {held} {work} {work₁} {work₂} h noted carries grows units same told c =
-    let goes = goes_noted log held mid.atoms mid.trail.entries new.trail.entries work₁ c.goes_on noted in
-    let grown = grown_noted log log' grows held mid h mid.atoms new.trail.entries work₁ refl goes in
-    let more = units_more work₁ work₂ units in
+pub turns_on : {start mid new : Search} → {log log' : LogState} → {held : List Held} → {work work₁ work₂ : WorkList Note} → IsSearch log held mid → IsNoted log held mid work₁
+    → Carries start mid work work₁ → Grows log log' → AddsLines IsOfTheory work₁ work₂ → new.atoms ≡ mid.atoms → TellsTrail log' new.atoms new.bounds new.trail.entries work₂ → (told : Option ℕ)
+    → ComesTo log' held mid new told → Turns log' held start new work work₂ told
+turns_on {start} {mid} {new} {log} {log'} {held} {work} {work₁} {work₂} h noted carries grows units same tells told c =
+    let more = adds_units work₁ work₂ units in
     let before = carries.units in
+    let L : List ℕ → List (List (ℕ × Bool)) → Type 0 =
+    λ us ds. All (λ (d : List (ℕ × Bool)). (i : ℕ) × Contains (ids held) i × (map (numbered us) (literals_at log' i) ≡ d)) ds in
     record {
       search = c.search;
       were_open = c.were_open;
       told_so = c.told_so;
-      noted = subst (λ (us : List ℕ). IsNoted log' held us new.trail.entries work₂) (sym same) (units_told work₁ work₂ units log' held mid.atoms new.trail.entries grown);
+      noted = record {
+        trail = tells;
+        learned = λ ns.
+            subst (λ (us : List ℕ). L us (search_after ns work₂).learned) (sym same)
+            (subst (L mid.atoms) (sym (adds_keep work₁ work₂ units (λ (r : legal.Search). r.learned) ns (λ r line kind. learned_kept ns r line kind)))
+            (grown_learned log log' grows held mid h mid.atoms (search_after ns work₁).learned (noted.learned ns)));
+      };
       carries = record {
         atoms = same ∙ carries.atoms;
         first = λ l h. goes_first mid.trail.entries new.trail.entries c.goes_on l (carries.first l h);
@@ -132,19 +167,25 @@ pub learned_follows : {log : LogState} → {held : List Held} → {s mid : Searc
     → MayFollow log held mid place
 learned_follows l = record { search = l.search; were_open = l.were_open; waits = l.waits }
 
+pub learned_advances : {A : Type 0} → {m m₁ m₂ : TheoryState} → {s mid : Search} → {log log₁ log₂ : LogState} → {held held₁ held₂ : List Held} → {work work₁ work₂ : WorkList Note} → {place : ℕ}
+    → {result : Result A Stop} → Learns log₁ held₁ s mid work work₁ place → Advances m m₁ s s.trail.entries log log₁ held held₁ work work₁ (Ok place)
+    → Advances m₁ m₂ mid mid.trail.entries log₁ log₂ held₁ held₂ work₁ work₂ result → Advances m m₂ s s.trail.entries log log₂ held held₂ work work₂ result
+learned_advances l first step = reaches_then (reaches_step first l.search l.carries.atoms l.noted.trail) l.carries.atoms l.carries.assumed_only step
+
 pub turns_learned : {log log' : LogState} → {held : List Held} → {s mid : Search} → (new : Search) → {work work₁ work₂ : WorkList Note} → {place : ℕ}
-    → Learns log held s mid work work₁ place → work₁.limit ≡ work.limit → Grows log log' → AddsUnits work₁ work₂ → new.atoms ≡ mid.atoms
-    → {E : Type 0} → (r : Result (Option ℕ) E) → IfOk r (ComesTo log' held mid new) → IfOk r (TurnsOn log' held s new work work₂)
-turns_learned {log} {log'} {held} {s} {mid} new {work} {work₁} {work₂} l limit grows units same r c =
-    let more = units_more work₁ work₂ units in
+    → Learns log held s mid work work₁ place → work₁.limit ≡ work.limit → Grows log log' → AddsLines IsOfTheory work₁ work₂ → new.atoms ≡ mid.atoms
+    → {E : Type 0} → (r : Result (Option ℕ) E) → IfOk r (λ (told : Option ℕ). TellsTrail log' new.atoms new.bounds new.trail.entries work₂) → IfOk r (ComesTo log' held mid new)
+    → IfOk r (TurnsOn log' held s new work work₂)
+turns_learned {log} {log'} {held} {s} {mid} new {work} {work₁} {work₂} l limit grows units same (Ok told) tells h =
+    let more = adds_units work₁ work₂ units in
     let unit = l.unit in
     let within = l.within in
-    IfOk-weaker r (ComesTo log' held mid new) (TurnsOn log' held s new work work₂)
-    (λ told h. record {
-      turns = turns_on l.search l.noted l.carries grows units same told h;
+    record {
+      turns = turns_on l.search l.noted l.carries grows units same tells told h;
       more = omega (arith, more, unit);
       free = omega (arith, unit, within, limit);
-    }) c
+    }
+turns_learned new l limit grows units same (Err e) tells h = tt
 
 -- ---- All turns
 
@@ -152,30 +193,26 @@ carries_none : (s : Search) (work : WorkList Note) → Carries s s work work
 carries_none s work = record { atoms = refl; first = λ l h. h; assumed_only = λ assumed h. h; units = omega arith }
 
 -- What a search knows between two turns: the clauses are open, and the theory meets the trail, or there is a conflict.
-pub record IsSettling (over over' : List Node → Type 0) (has_told : List Lit → Type 0) (is_feasible : Type 0) (start s : Search) (log log' : LogState) (held held' : List Held)
-    (work work' : WorkList Note) (conflict : Option ℕ) : Type 0 where
-  pub advances : Advances over start.atoms start.trail.entries log log' held held' work work'
+pub record IsSettling (theory theory' : TheoryState) (start s : Search) (log log' : LogState) (held held' : List Held) (work work' : WorkList Note) (conflict : Option ℕ) : Type 0 where
+  pub advances : Advances theory theory' start start.trail.entries log log' held held' work work' (Ok conflict)
   pub turns : Turns log' held' start s work work' conflict
-  pub told : IsTold has_told s.trail.entries
-  pub met : conflict ≡ None → IsMet has_told is_feasible s.trail.entries
-  pub keeps : (ns : List Node) → over ns → over' ns
+  pub told : theory'.has_told (told_lits s.bounds s.trail.entries)
+  pub met : conflict ≡ None → IsMet theory' s.bounds s.trail.entries
 
-pub settles_first : {over over' : List Node → Type 0} → {has_told : List Lit → Type 0} → {is_feasible : Type 0} → {s new : Search} → {log log' : LogState} → {held : List Held}
-    → {work work' : WorkList Note} → {told : Option ℕ} → IsSearch log held s → IsNoted log held s.atoms s.trail.entries work
-    → Advances over s.atoms s.trail.entries log log' held held work work' → AddsUnits work work' → new.atoms ≡ s.atoms → ComesTo log' held s new told
-    → IsTold has_told new.trail.entries → (told ≡ None → IsMet has_told is_feasible new.trail.entries) → ((ns : List Node) → over ns → over' ns)
-    → IsSettling over over' has_told is_feasible s new log log' held held work work' told
-settles_first {s = s} {work = work} {told = told} h noted advances units same comes is_told met keeps =
+pub settles_first : {m m' : TheoryState} → {s new : Search} → {log log' : LogState} → {held : List Held} → {work work' : WorkList Note} → {told : Option ℕ} → IsSearch log held s
+    → IsNoted log held s work → Advances m m' s s.trail.entries log log' held held work work' (Ok told) → AddsLines IsOfTheory work work' → new.atoms ≡ s.atoms
+    → TellsTrail log' new.atoms new.bounds new.trail.entries work' → ComesTo log' held s new told → m'.has_told (told_lits new.bounds new.trail.entries)
+    → (told ≡ None → IsMet m' new.bounds new.trail.entries) → IsSettling m m' s new log log' held held work work' told
+settles_first {s = s} {work = work} {told = told} h noted advances units same tells comes is_told met =
     record {
       advances = advances;
-      turns = turns_on h noted (carries_none s work) advances.grows units same told comes;
+      turns = turns_on h noted (carries_none s work) advances.grows units same tells told comes;
       told = is_told;
       met = met;
-      keeps = keeps;
     }
 
-module _ {over over' : List Node → Type 0} {has_told : List Lit → Type 0} {is_feasible : Type 0} {start old : Search} {log log' : LogState} {held held' : List Held}
-    {work work' : WorkList Note} {conflict : Option ℕ} (t : IsSettling over over' has_told is_feasible start old log log' held held' work work' conflict) where
+module _ {m m' : TheoryState} {start old : Search} {log log' : LogState} {held held' : List Held} {work work' : WorkList Note} {conflict : Option ℕ}
+    (t : IsSettling m m' start old log log' held held' work work' conflict) where
   -- there is a conflict
   pub conflict_of : {falsified : ℕ} → conflict ≡ Some falsified → IsConflict log' held' old.trail.entries falsified
   conflict_of is = subst (OpenOrConflict log' held' old.trail.entries) is t.turns.told_so
@@ -191,78 +228,102 @@ module _ {over over' : List Node → Type 0} {has_told : List Lit → Type 0} {i
         carries = t.turns.carries;
       }
 
+  -- the search goes on from here
+  pub settling_reaches : Reaches m m' start start.trail.entries old log log' held held' work work'
+  settling_reaches = reaches_step t.advances t.turns.search t.turns.carries.atoms t.turns.noted.trail
+
 -- ---- Back from a conflict
 
 -- A search that went back to the last level of which a conflict has a literal.
-pub record IsBack (over over' : List Node → Type 0) (start cut : Search) (log log' : LogState) (held held' : List Held) (work work' : WorkList Note) (falsified : ℕ) : Type 0 where
-  pub advances : Advances over start.atoms start.trail.entries log log' held held' work work'
-  pub search : IsSearch log' held' cut
-  pub conflict : IsConflict log' held' cut.trail.entries falsified
-  pub were_open : WereOpen log' held' cut.trail.entries
-  pub last : 0 < depth cut.trail.entries → HasLast cut.trail.entries (literals_at log' falsified)
-  pub noted : WasNoted log' held' cut.atoms cut.trail.entries work'
+pub record IsBack (start cut : Search) (log : LogState) (held : List Held) (work work' : WorkList Note) (falsified level : ℕ) : Type 0 where
+  pub search : IsSearch log held cut
+  pub conflict : IsConflict log held cut.trail.entries falsified
+  pub were_open : WereOpen log held cut.trail.entries
+  pub depth_is : depth cut.trail.entries ≡ level
+  pub last : 0 < depth cut.trail.entries → HasLast cut.trail.entries (literals_at log falsified)
+  pub noted : WasNoted log held cut work'
   pub carries : Carries start cut work work'
-  pub keeps : (ns : List Node) → over ns → over' ns
 
-module _ (log : LogState) (held : List Held) (start old cut : Search) (work work' : WorkList Note) (falsified : ℕ) (search : IsSearch log held old)
+module _ (log : LogState) (held : List Held) (start old cut : Search) (work work' : WorkList Note) (falsified level : ℕ) (search : IsSearch log held old)
     (conflict : IsConflict log held old.trail.entries falsified) (carries : Carries start old work work') (same : cut.atoms ≡ old.atoms)
-    (b : GoesBackTo (literals_at log falsified) old.trail.entries cut.trail.entries) where
+    (b : GoesBackTo (literals_at log falsified) old.trail.entries cut.trail.entries level) where
   back_carries : Carries start cut work work'
   back_carries = record {
     atoms = same ∙ carries.atoms;
     first = λ l h.
-        subst (λ (xs : List Assigned). IsTrueOn xs l) (sym (ap (below 0) b.cut ∙ below_twice 0 b.level (omega arith) old.trail.entries)) (carries.first l h);
+        subst (λ (xs : List Assigned). IsTrueOn xs l) (sym (ap (below 0) b.cut ∙ below_twice 0 level (omega arith) old.trail.entries)) (carries.first l h);
     assumed_only = λ assumed only.
-        cut_assumed log held old search falsified conflict cut.trail.entries b assumed (carries.assumed_only assumed only);
+        cut_assumed log held old search falsified conflict cut.trail.entries level b assumed (carries.assumed_only assumed only);
     units = carries.units;
   }
 
-pub goes_back : {over over' over'' : List Node → Type 0} → {has_told : List Lit → Type 0} → {is_feasible : Type 0} → {start old cut : Search} → {log log' : LogState}
-    → {held held' : List Held} → {work work' : WorkList Note} → {conflict : Option ℕ} → {falsified : ℕ}
-    → IsSettling over over' has_told is_feasible start old log log' held held' work work' conflict → conflict ≡ Some falsified
-    → cut ≡ record old { trail = cut.trail; order = cut.order } → cut.trail.size ≡ old.trail.size
-    → GoesBackTo (literals_at log' falsified) old.trail.entries cut.trail.entries → ((ns : List Node) → over' ns → over'' ns)
-    → IsBack over over'' start cut log log' held held' work work' falsified
-goes_back {start = start} {old = old} {cut = cut} {log' = log'} {held' = held'} {work = work} {work' = work'} {falsified = falsified} t is rest size b more =
+pub goes_back : {m m' : TheoryState} → {start old cut : Search} → {log log' : LogState} → {held held' : List Held} → {work work' : WorkList Note} → {conflict : Option ℕ} → {falsified level : ℕ}
+    → IsSettling m m' start old log log' held held' work work' conflict → conflict ≡ Some falsified
+    → cut ≡ record old { trail = cut.trail; order = cut.order; bounds = cut.bounds } → cut.trail.size ≡ old.trail.size
+    → GoesBackTo (literals_at log' falsified) old.trail.entries cut.trail.entries level → cut.bounds ≡ record old.bounds { told = min old.bounds.told (length cut.trail.entries) }
+    → IsBack start cut log' held' work work' falsified level
+goes_back {start = start} {old = old} {cut = cut} {log' = log'} {held' = held'} {work = work} {work' = work'} {falsified = falsified} {level = level} t is rest size b bounds =
     let c = conflict_of t is in
     let search = t.turns.search in
     let same : cut.atoms ≡ old.atoms = ap (λ (r : Search). r.atoms) rest in
-    let front = cut_front log' held' old search falsified c cut.trail.entries b in
     record {
-      advances = t.advances;
-      search = cut_search log' held' old cut search rest size front;
-      conflict = cut_conflict log' held' old search falsified c cut.trail.entries b;
-      were_open = cut_were log' held' old search falsified c cut.trail.entries b t.turns.were_open;
-      last = cut_last log' held' old search falsified c cut.trail.entries b;
+      search = cut_search log' held' old cut search rest size level b.cut bounds;
+      conflict = cut_conflict log' held' old search falsified c cut.trail.entries level b;
+      were_open = cut_were log' held' old search falsified c cut.trail.entries level b t.turns.were_open;
+      depth_is = cut_depth log' held' old search falsified c cut.trail.entries level b;
+      last = cut_last log' held' old search falsified c cut.trail.entries level b;
       noted = record {
-        all = old.trail.entries;
-        front = front;
-        noted = subst (λ (us : List ℕ). IsNoted log' held' us old.trail.entries work') (sym same) t.turns.noted;
+        before = old;
+        search = search;
+        noted = t.turns.noted;
+        level = level;
+        cut = b.cut;
+        atoms = same;
+        marks = ap (λ (x : Bounds). x.marks) bounds;
       };
-      carries = back_carries log' held' start old cut work work' falsified search c t.turns.carries same b;
-      keeps = λ ns known. more ns (t.keeps ns known);
+      carries = back_carries log' held' start old cut work work' falsified level search c t.turns.carries same b;
     }
 
-module _ {over over' : List Node → Type 0} {start cut : Search} {log log' : LogState} {held held' : List Held} {work work' : WorkList Note} {falsified : ℕ}
-    (b : IsBack over over' start cut log log' held held' work work' falsified) where
-  -- it refutes what is assumed
-  pub back_refuted : {new : LogState} → Grows log' new → StaysSound cut.trail.entries log' new → Advances over start.atoms start.trail.entries log new held held' work work'
-  back_refuted {new} grows sound =
-      advances_on b.carries b.advances b.keeps
-      (log_advances over' cut.atoms cut.trail.entries log' new held' work' b.search.are_held grows (stays_in_order over' log' new held' cut b.search sound))
+-- the log grows by a refutation, and the theory stays where it was
+pub back_refuted : {A : Type 0} → {m m' : TheoryState} → {start old cut : Search} → {log log' new : LogState} → {held held' : List Held} → {work work' : WorkList Note} → {conflict : Option ℕ}
+    → {falsified level : ℕ} → IsSettling m m' start old log log' held held' work work' conflict → IsBack start cut log' held' work work' falsified level → Grows log' new
+    → StaysSound cut.trail.entries log' new → (result : Result A Stop)
+    → (EndsLegally m m' log start.atoms (told_lits start.bounds start.trail.entries) start.trail.entries work work' (Ok conflict)
+    → EndsLegally m m' log start.atoms (told_lits start.bounds start.trail.entries) start.trail.entries work work' result)
+    → Advances m m' start start.trail.entries log new held held' work work' result
+back_refuted {m = m} {m' = m'} {start = start} {cut = cut} {log = log} {log' = log'} {new = new} {held' = held'} t b grows sound result ends =
+    let p = t.advances in
+    let more = subst (λ (us : List ℕ). StaysInOrder m'.over us log' new) b.carries.atoms
+    (order_over m'.over cut.atoms cut.trail.entries b.search.on.on_trail log' new (λ ns levels known. sound ns levels)) in
+    record {
+      keeps = p.keeps;
+      grows = grows_far log log' new p.grows grows;
+      sound = λ ns levels known within order.
+          more ns levels (p.keeps.over ns known) (atoms_stay log.atoms log'.atoms p.grows.atoms ns start.atoms within) (p.sound ns levels known within order);
+      holds_more = record { learned = p.holds_more.learned; joined = p.holds_more.joined; held = held_on log' new held' grows p.holds_more.held };
+      named = λ on. on_kept log' new start.atoms held' grows p.holds_more.held (p.named on);
+      adds = p.adds;
+      ends = ends p.ends;
+    }
 
+-- where memory is wanted the list is legal
+pub ends_without : (A B : Type 0) (x : A) (m m' : TheoryState) (log : LogState) (atoms : List ℕ) (told : List Lit) (es : List Assigned) (work work' : WorkList Note)
+    → EndsLegally {A = A} m m' log atoms told es work work' (Ok x) → EndsLegally {A = B} m m' log atoms told es work work' (Err Memory)
+ends_without A B x m m' log atoms told es work work' ends ns levels assumed q known only asked st = stands_legal (ends ns levels assumed q known only asked st)
+
+module _ {start cut : Search} {log' : LogState} {held' : List Held} {work work' : WorkList Note} {falsified level : ℕ} (b : IsBack start cut log' held' work work' falsified level) where
   pub back_falsified : (assumed : List Lit) → IsFalsifiedUnder assumed cut.trail.entries (literals_at log' falsified)
   back_falsified assumed l has = inl (b.conflict.falsified l has)
 
-  -- or is learned from
-  pub settles_on : {over'' : List Node → Type 0} → {has_told : List Lit → Type 0} → {is_feasible : Type 0} → {new : Search} → {log₁ : LogState} → {held₁ : List Held}
-      → {work₁ : WorkList Note} → {told : Option ℕ}
-      → Steps over' over'' has_told is_feasible cut.atoms cut.trail.entries new.trail.entries log' log₁ held' held₁ work' work₁ (Ok told)
-      → TurnsOn log₁ held₁ cut new work' work₁ told → IsSettling over over'' has_told is_feasible start new log log₁ held held₁ work work₁ told
-  settles_on {new = new} {work₁ = work₁} step on =
+  -- it is learned from
+  pub settles_on : {m m' m'' : TheoryState} → {new : Search} → {log log₁ : LogState} → {held held₁ : List Held} → {work₁ : WorkList Note} → {told : Option ℕ}
+      → Reaches m m' start start.trail.entries cut log log' held held' work work'
+      → Steps m' m'' cut cut.trail.entries new log' log₁ held' held₁ work' work₁ (Ok told)
+      → m''.has_told (told_lits new.bounds new.trail.entries) → TurnsOn log₁ held₁ cut new work' work₁ told → IsSettling m m'' start new log log₁ held held₁ work work₁ told
+  settles_on {new = new} {work₁ = work₁} reaches step is_told on =
       let t = on.turns in
       record {
-        advances = advances_on b.carries b.advances b.keeps step.advances;
+        advances = reaches_then reaches b.carries.atoms b.carries.assumed_only step.advances;
         turns = record {
           search = t.search;
           were_open = t.were_open;
@@ -270,7 +331,11 @@ module _ {over over' : List Node → Type 0} {start cut : Search} {log log' : Lo
           noted = t.noted;
           carries = carries_far start cut new work work' work₁ b.carries t.carries;
         };
-        told = step.told;
+        told = is_told;
         met = step.met;
-        keeps = λ ns known. step.known ns (b.keeps ns known);
       }
+
+  pub steps_on : {m m' m'' : TheoryState} → {new : Search} → {log log₁ : LogState} → {held held₁ : List Held} → {work₁ : WorkList Note} → {answer : Result (Option ℕ) Stop}
+      → Reaches m m' start start.trail.entries cut log log' held held' work work' → Steps m' m'' cut cut.trail.entries new log' log₁ held' held₁ work' work₁ answer
+      → Steps m m'' start start.trail.entries new log log₁ held held₁ work work₁ answer
+  steps_on reaches step = steps_behind (reaches_then reaches b.carries.atoms b.carries.assumed_only step.advances) step

@@ -1,9 +1,9 @@
 -- Trails up to a level.
-use Rattle.std.proofs.Common.{◌≡◌, ℕ, ◌<◌, ◌≤◌, Bool, true, false, if◌then◌else◌, List, [], ◌∷◌, ◌++◌, length, inl, inr, refl, sym, ap, ◌∙◌, arith, append_assoc, append-nil}
+use Rattle.std.proofs.Common.{◌≡◌, ℕ, ◌<◌, ◌≤◌, Bool, true, false, if◌then◌else◌, List, [], ◌∷◌, ◌++◌, inl, inr, refl, sym, ap, ◌∙◌, arith, append_assoc, append-nil}
 use Rattle.std.specs.Prelude.{All, nat_le}
 use Rattle.std.proofs.lemmas.Bool.Decides.{leb_tells}
-use Rattle.std.proofs.lemmas.List.{length_push}
 use Rattle.std.proofs.lemmas.List.Elements.{All-head, All-tail, filter-append}
+use Rattle.nz_log.specs.declared.lits.Lit.{Lit}
 use Rattle.nz_sat.specs.declared.trail.Assigned.{Assigned}
 use Rattle.nz_sat.specs.Trails.{AreUpTo, DropsLast, IsFrontOf, below}
 
@@ -33,7 +33,7 @@ pub below_join : (k : ℕ) (es more : List Assigned) → below k (es ++ more) �
 below_join k es more = filter-append (λ (e : Assigned). nat_le e.level k) es more
 
 -- the last entry, which is higher, doesn't count
-pub below_last : (k : ℕ) (old new : List Assigned) → DropsLast k old new → below k new ≡ below k old
+pub below_last : (k : ℕ) (old new : List Assigned) {l : Lit} → DropsLast k old new l → below k new ≡ below k old
 below_last k old new d =
     let P : Assigned → Type 0 = λ x. k < x.level in
     let none : below k (d.last ∷ []) ≡ [] = ap (λ (b : Bool). if b then d.last ∷ [] else []) (above_level k d.last.level d.higher) in
@@ -43,12 +43,9 @@ below_last k old new d =
 pub front_all : (es : List Assigned) → IsFrontOf es es
 front_all es = record { more = []; joined = sym (append-nil es) }
 
-pub front_less : (es old new : List Assigned) (k : ℕ) → IsFrontOf old es → DropsLast k old new → IsFrontOf new es
+pub front_less : (es old new : List Assigned) (k : ℕ) {l : Lit} → IsFrontOf old es → DropsLast k old new l → IsFrontOf new es
 front_less es old new k f d =
     record {
       more = d.last ∷ f.more;
       joined = f.joined ∙ ap (λ (xs : List Assigned). xs ++ f.more) d.joined ∙ append_assoc new (d.last ∷ []) f.more;
     }
-
-pub drops_shorter : (k : ℕ) (old new : List Assigned) → DropsLast k old new → length new < length old
-drops_shorter k old new d = let long = ap length d.joined ∙ length_push new d.last in omega arith

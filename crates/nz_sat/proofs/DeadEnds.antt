@@ -11,21 +11,25 @@ use Rattle.std.proofs.lemmas.Option.{get_or_from_slice_get, slice_get_within, sl
 use Rattle.nz_lists.proofs.Elements.{AllByRecursion-map}
 use Rattle.nz_lists.proofs.Tests.{no_contradiction}
 use Rattle.nz_spec.specs.Decide.{asserted_numbers, asserted_terms}
-use Rattle.nz_spec.specs.Legal.{literal_by, literals_by}
-use Rattle.nz_spec.specs.Literal.{Literal, AreTrueLiterals, IsClauseTrue, are_same_sign, is_literal_true, term_literal}
-use Rattle.nz_spec.specs.Model.{IsAssignment}
+use Rattle.nz_spec.specs.Gates.{holds}
+use Rattle.nz_spec.specs.Legal.{Task, literal_by, literals_by, signed_literal}
+use Rattle.nz_spec.specs.Literal.{Literal, AreTrueLiterals, IsClauseTrue, NegationIsOther, is_literal_true}
+use Rattle.nz_spec.specs.Model.{IsAssignment, IsModel}
 use Rattle.nz_spec.specs.Table.{Node, IsTable, term_in}
-use Rattle.nz_spec.specs.Term.{Term, Assignment, IsTrueUnder, apply, falsum, no_terms, is_true, value_of}
+use Rattle.nz_spec.specs.Term.{Assignment, IsTrueUnder, apply, falsum, no_terms}
 use Rattle.nz_log.specs.declared.lits.Lit.{Lit}
 use Rattle.nz_log.specs.declared.atoms.Atom.{Atom}
 use Rattle.nz_log.specs.Atoms.{TellsLits, clause_in, literal_in}
 use Rattle.nz_log.specs.Lits.{are_same_lit, negated_lit}
 use Rattle.nz_log.specs.Logs.{Entry, LogState, IsLive, entry_at, literals_at}
 use Rattle.nz_log.specs.Sound.{ClausesAreTrue, IsLog, live_terms}
+use Rattle.nz_sat.specs.declared.consult.Bounds.{Bounds}
 use Rattle.nz_sat.specs.declared.trail.Assigned.{Assigned}
 use Rattle.nz_sat.specs.Clauses.{IsAssumed, IsFalsified, IsImplied, IsReason, IsReasonOf}
-use Rattle.nz_sat.specs.Numbers.{IsTermAtom, atom_term, number_of, numbered}
-use Rattle.nz_sat.specs.Trails.{EachBehind, IsFalseOn, is_decision}
+use Rattle.nz_sat.specs.Numbers.{IsAtomAt, atom_literal, number_of, numbered}
+use Rattle.nz_sat.specs.Sats.{IsAsked}
+use Rattle.nz_sat.specs.Theories.{IsTrailOn}
+use Rattle.nz_sat.specs.Trails.{EachBehind, IsFalseOn, TrailState, is_decision}
 use Rattle.nz_sat.proofs.Backward.{front_place}
 use Rattle.nz_sat.proofs.Chains.{filter_has, has_first, has_found, has_more, lit_is}
 use Rattle.nz_sat.proofs.Clausal.{other_lit}
@@ -44,22 +48,22 @@ number_at atoms t has =
       | Some n ↦ λ at. number_place atoms t n at
     ] refl
 
-pub literal_numbered : (ns : List Node) (all : List Atom) (atoms : List ℕ) (l : Lit) → Contains atoms l.atom → IsTermAtom ns all l.atom
-    → literal_by (map (atom_term ns all) atoms) (numbered atoms l) ≡ literal_in ns all l
+pub literal_numbered : (ns : List Node) (all : List Atom) (atoms : List ℕ) (l : Lit) → Contains atoms l.atom → IsAtomAt ns all l.atom
+    → literal_by (map (atom_literal ns all) atoms) (numbered atoms l) ≡ literal_in ns all l
 literal_numbered ns all atoms l has t =
     let n = unwrap_or (number_of atoms l.atom) 0 in
     let at = number_at atoms l.atom has in
     let inside : n < length atoms = slice_get_within atoms n l.atom at in
-    ap (λ (u : Term). term_literal u l.sign)
-    (get_or-map (atom_term ns all) atoms n l.atom (apply falsum no_terms) inside ∙ ap (atom_term ns all) (get_or_from_slice_get atoms n l.atom l.atom at))
+    ap (λ (x : Literal). signed_literal x l.sign)
+    (get_or-map (atom_literal ns all) atoms n l.atom (holds (apply falsum no_terms)) inside ∙ ap (atom_literal ns all) (get_or_from_slice_get atoms n l.atom l.atom at))
     ∙ sym (says ns all l t)
 
-pub literals_numbered : (ns : List Node) (all : List Atom) (atoms : List ℕ) → All (IsTermAtom ns all) atoms → (c : List Lit) → ((l : Lit) → Contains c l → Contains atoms l.atom)
-    → literals_by (map (atom_term ns all) atoms) (map (numbered atoms) c) ≡ clause_in ns all c
+pub literals_numbered : (ns : List Node) (all : List Atom) (atoms : List ℕ) → All (IsAtomAt ns all) atoms → (c : List Lit) → ((l : Lit) → Contains c l → Contains atoms l.atom)
+    → literals_by (map (atom_literal ns all) atoms) (map (numbered atoms) c) ≡ clause_in ns all c
 literals_numbered ns all atoms within [] named = refl
 literals_numbered ns all atoms within (l ∷ c) named =
     let there = named l (has_first l c) in
-    let first = literal_numbered ns all atoms l there (All-contains (IsTermAtom ns all) atoms l.atom within there) in
+    let first = literal_numbered ns all atoms l there (All-contains (IsAtomAt ns all) atoms l.atom within there) in
     let rest = literals_numbered ns all atoms within c (λ m has. named m (has_more l m c has)) in
     λ i. first i ∷ rest i
 
@@ -85,16 +89,17 @@ some_true p f (x ∷ xs) h =
       | inr later ↦ let r = some_true p f xs later in (r.0, has_more x r.0 xs r.1, r.2)
     ]
 
-signs_clash : (sign b : Bool) → IsTrue (are_same_sign sign b) → IsTrue (are_same_sign (not sign) b) → ⊥
-signs_clash true b h k = no_contradiction b h k
-signs_clash false b h k = no_contradiction b k h
+-- a literal and its negation aren't both true
+signs_clash : NegationIsOther → (a : Assignment) (x : Literal) (sign : Bool) → IsTrue (is_literal_true a (signed_literal x sign)) → IsTrue (is_literal_true a (signed_literal x (not sign))) → ⊥
+signs_clash other a x true h k = no_contradiction (is_literal_true a x) h (subst IsTrue (other a x) k)
+signs_clash other a x false h k = no_contradiction (is_literal_true a x) k (subst IsTrue (other a x) h)
 
 no_entry : IsSome {T = Entry} None → ⊥
 no_entry h = cc
 
 -- ---- Clauses
 
-module _ (clauses : ClausesAreTrue) (ns : List Node) (table : IsTable ns) (levels : List (List ℕ)) (log : LogState) (order : IsLog ns levels log)
+module _ (clauses : ClausesAreTrue) (other : NegationIsOther) (ns : List Node) (table : IsTable ns) (levels : List (List ℕ)) (log : LogState) (order : IsLog ns levels log)
     (a : Assignment) (sorts : IsAssignment a) (hold : AllByRecursion (IsTrueUnder a) (asserted_terms ns levels)) where
   abbrev Holds : Lit → Type 0
   Holds l = IsTrue (is_literal_true a (literal_in ns log.atoms l))
@@ -118,36 +123,36 @@ module _ (clauses : ClausesAreTrue) (ns : List Node) (table : IsTable ns) (level
       ] refl live
 
   -- a literal and its negation aren't both
-  both_hold : (l : Lit) → IsTermAtom ns log.atoms l.atom → Holds l → Holds (negated_lit l) → ⊥
+  both_hold : (l : Lit) → IsAtomAt ns log.atoms l.atom → Holds l → Holds (negated_lit l) → ⊥
   both_hold l t h k =
       let P : Literal → Type 0 = λ m. IsTrue (is_literal_true a m) in
-      signs_clash l.sign (is_true (value_of a (atom_term ns log.atoms l.atom))) (subst P (says ns log.atoms l t) h) (subst P (says ns log.atoms (negated_lit l) t) k)
+      signs_clash other a (atom_literal ns log.atoms l.atom) l.sign (subst P (says ns log.atoms l t) h) (subst P (says ns log.atoms (negated_lit l) t) k)
 
   -- what is false on a trail on which each literal holds doesn't hold
-  false_fails : (es : List Assigned) → ((e : Assigned) → Contains es e → IsTermAtom ns log.atoms e.literal.atom × Holds e.literal) → (l : Lit) → IsFalseOn es l → Holds l → ⊥
+  false_fails : (es : List Assigned) → ((e : Assigned) → Contains es e → IsAtomAt ns log.atoms e.literal.atom × Holds e.literal) → (l : Lit) → IsFalseOn es l → Holds l → ⊥
   false_fails es each l falsified h =
       let x = false_entry es l falsified in
       let place = assigned_place es l.atom x.0 x.1 in
       let turned : x.0.literal ≡ negated_lit l = lit_is x.0.literal (negated_lit l) place.0 x.2 in
       let known = each x.0 (has_found es place.1.0 x.0 place.1.1) in
-      both_hold l (subst (IsTermAtom ns log.atoms) place.0 known.0) h (subst Holds turned known.1)
+      both_hold l (subst (IsAtomAt ns log.atoms) place.0 known.0) h (subst Holds turned known.1)
 
   -- ---- The trail
 
-  module _ (tells : TellsLits) (atoms : List ℕ) (within : All (IsTermAtom ns log.atoms) atoms) (assumed : List Lit) (es : List Assigned) (implied : EachBehind (IsImplied log) es)
+  module _ (tells : TellsLits) (atoms : List ℕ) (within : All (IsAtomAt ns log.atoms) atoms) (assumed : List Lit) (es : List Assigned) (implied : EachBehind (IsImplied log) es)
       (on_trail : All (λ (e : Assigned). Contains atoms e.literal.atom) es) (only : All (IsAssumed assumed) es)
       (assumed_hold : AreTrueLiterals a (map (literal_in ns log.atoms) assumed))
-      (decided_hold : AreTrueLiterals a (literals_by (map (atom_term ns log.atoms) atoms) (map (λ (e : Assigned). numbered atoms e.literal) (filter is_decision es)))) where
-    term_at : (e : Assigned) → Contains es e → IsTermAtom ns log.atoms e.literal.atom
+      (decided_hold : AreTrueLiterals a (literals_by (map (atom_literal ns log.atoms) atoms) (map (λ (e : Assigned). numbered atoms e.literal) (filter is_decision es)))) where
+    term_at : (e : Assigned) → Contains es e → IsAtomAt ns log.atoms e.literal.atom
     term_at e has =
-        All-contains (IsTermAtom ns log.atoms) atoms e.literal.atom within (All-contains (λ (x : Assigned). Contains atoms x.literal.atom) es e on_trail has)
+        All-contains (IsAtomAt ns log.atoms) atoms e.literal.atom within (All-contains (λ (x : Assigned). Contains atoms x.literal.atom) es e on_trail has)
 
     decision_holds : (e : Assigned) → Contains es e → is_decision e ≡ true → Holds e.literal
     decision_holds e has decides =
         let P : Literal → Type 0 = λ l. IsTrue (is_literal_true a l) in
         let f : Assigned → ℕ × Bool = λ (x : Assigned). numbered atoms x.literal in
-        let each = AllByRecursion-map P (literal_by (map (atom_term ns log.atoms) atoms)) (map f (filter is_decision es)) decided_hold in
-        let one = recursion_has (λ p. P (literal_by (map (atom_term ns log.atoms) atoms) p)) f (filter is_decision es) e each (filter_has is_decision es e has decides) in
+        let each = AllByRecursion-map P (literal_by (map (atom_literal ns log.atoms) atoms)) (map f (filter is_decision es)) decided_hold in
+        let one = recursion_has (λ p. P (literal_by (map (atom_literal ns log.atoms) atoms) p)) f (filter is_decision es) e each (filter_has is_decision es e has decides) in
         subst P (literal_numbered ns log.atoms atoms e.literal (All-contains (λ (x : Assigned). Contains atoms x.literal.atom) es e on_trail has) (term_at e has)) one
 
     given_holds : (e : Assigned) → Contains es e → e.reason ≡ None → Holds e.literal
@@ -163,7 +168,7 @@ module _ (clauses : ClausesAreTrue) (ns : List Node) (table : IsTable ns) (level
               decision_holds e has decides
         ] refl
 
-    reason_holds : (before : List Assigned) → ((e : Assigned) → Contains before e → IsTermAtom ns log.atoms e.literal.atom × Holds e.literal) → (l : Lit) (c : ℕ) → IsReason log before l c → Holds l
+    reason_holds : (before : List Assigned) → ((e : Assigned) → Contains before e → IsAtomAt ns log.atoms e.literal.atom × Holds e.literal) → (l : Lit) (c : ℕ) → IsReason log before l c → Holds l
     reason_holds before each l c reason =
         let w = some_true (is_literal_true a) (literal_in ns log.atoms) (literals_at log c) (clause_true c reason.live) in
         elim (are_same_lit w.0 l) as (λ b. are_same_lit w.0 l ≡ b → Holds l) [
@@ -171,7 +176,7 @@ module _ (clauses : ClausesAreTrue) (ns : List Node) (table : IsTable ns) (level
           | false ↦ λ differ. absurd (false_fails before each w.0 (reason.others w.0 w.1 (other_lit tells w.0 l differ)) w.2)
         ] refl
 
-    entry_holds : (i : ℕ) (e : Assigned) → slice_get es i ≡ Some e → ((x : Assigned) → Contains (take i es) x → IsTermAtom ns log.atoms x.literal.atom × Holds x.literal) → Holds e.literal
+    entry_holds : (i : ℕ) (e : Assigned) → slice_get es i ≡ Some e → ((x : Assigned) → Contains (take i es) x → IsAtomAt ns log.atoms x.literal.atom × Holds x.literal) → Holds e.literal
     entry_holds i e at each =
         elim e.reason as (λ o. e.reason ≡ o → IsReasonOf log (take i es) e.literal o → Holds e.literal) [
           | None ↦ λ none reason. given_holds e (has_found es i e at) none
@@ -185,7 +190,7 @@ module _ (clauses : ClausesAreTrue) (ns : List Node) (table : IsTable ns) (level
         let p = front_place es i x has in
         (term_at x (has_found es p.0 x p.2), front_holds n p.0 (omega (arith, p.1)) x p.2))
 
-    trail_holds : (e : Assigned) → Contains es e → Holds e.literal
+    pub trail_holds : (e : Assigned) → Contains es e → Holds e.literal
     trail_holds e has =
         front_holds (length es) has.0 has.1 e (slice_get-get_or es has.0 e has.1 ∙ ap Some has.2)
 
@@ -194,3 +199,24 @@ module _ (clauses : ClausesAreTrue) (ns : List Node) (table : IsTable ns) (level
     none_falsified i live falsified =
         let w = some_true (is_literal_true a) (literal_in ns log.atoms) (literals_at log i) (clause_true i live) in
         false_fails es (λ e has. (term_at e has, trail_holds e has)) w.0 (falsified w.0 w.1) w.2
+
+-- ---- What follows from a task
+
+-- Under an assignment that makes what a task asks true, and the decisions of a trail, its entries are true, and no clause of the log is falsified.
+module _ (tells : TellsLits) (clauses : ClausesAreTrue) (other : NegationIsOther) (ns : List Node) (levels : List (List ℕ)) (assumed : List Lit) (q : Task) (log : LogState)
+    (atoms : List ℕ) (asked : IsAsked ns levels log atoms assumed q) (b : Bounds) (t : TrailState) (h : IsTrailOn log atoms b t) (only : All (IsAssumed assumed) t.entries)
+    (a : Assignment) (model : IsModel q.asserted [] a) (assumed_hold : AreTrueLiterals a q.assumed)
+    (decided_hold : AreTrueLiterals a (literals_by (map (atom_literal ns log.atoms) atoms) (map (λ (e : Assigned). numbered atoms e.literal) (filter is_decision t.entries)))) where
+  hold : AllByRecursion (IsTrueUnder a) (asserted_terms ns levels)
+  hold = subst (AllByRecursion (IsTrueUnder a)) asked.asserted model.asserted_hold
+
+  assumed_true : AreTrueLiterals a (map (literal_in ns log.atoms) assumed)
+  assumed_true = subst (AreTrueLiterals a) asked.assumed_literals assumed_hold
+
+  pub task_entry : (e : Assigned) → Contains t.entries e → IsTrue (is_literal_true a (literal_in ns log.atoms e.literal))
+  task_entry =
+      trail_holds clauses other ns asked.table levels log asked.order a model.sorts hold tells atoms asked.within assumed t.entries h.implied h.on_trail only assumed_true decided_hold
+
+  pub task_falsified : (i : ℕ) → IsLive log i → IsFalsified t.entries (literals_at log i) → ⊥
+  task_falsified =
+      none_falsified clauses other ns asked.table levels log asked.order a model.sorts hold tells atoms asked.within assumed t.entries h.implied h.on_trail only assumed_true decided_hold

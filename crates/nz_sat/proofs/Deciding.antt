@@ -3,35 +3,39 @@ use Rattle.std.proofs.Common.{◌≡◌, ◌≢◌, ℕ, ◌+◌, ◌<◌, ◌�
 use Rattle.std.specs.Prelude.{All, Contains, filter, nat_lt, slice_get, unwrap_or}
 use Rattle.std.proofs.lemmas.Bool.{cases_lt}
 use Rattle.std.proofs.lemmas.Bool.Decides.{Decides-ltb}
-use Rattle.std.proofs.lemmas.List.{append-nil, length-map, map_push}
+use Rattle.std.proofs.lemmas.List.{append-nil, length-map, map_push, take-append-le}
 use Rattle.std.proofs.lemmas.List.Elements.{All-contains, All-cons, All-filter, All-map, All-nil, All-push, filter-append}
 use Rattle.std.proofs.lemmas.List.Sums.{sum_by_push}
 use Rattle.std.proofs.lemmas.Option.{same_Some, slice_get-get_or, slice_get_within}
-use Rattle.nz_spec.specs.Legal.{AreLegal, LegalWorkGoesOn, MayDecide, Task, after_line, after_lines, at_first}
+use Rattle.nz_spec.specs.Legal.{MayDecide}
 use Rattle.nz_spec.specs.Legal as legal
-use Rattle.nz_spec.specs.Reply as reply
 use Rattle.nz_spec.specs.Table.{Node}
 use Rattle.nz_spec.specs.Work.{DecisionEntry, UnitLine, WorkLine, WorkList, with_line}
 use Rattle.nz_log.specs.declared.lits.Lit.{Lit}
 use Rattle.nz_log.specs.declared.note.Note.{Note}
 use Rattle.nz_log.specs.Logs.{LogState, literals_at}
-use Rattle.nz_log.specs.Notes.{noted_line, noted_list}
+use Rattle.nz_log.specs.Atoms.{clause_in}
+use Rattle.nz_log.specs.Standing.{search_after}
 use Rattle.nz_sat.specs.declared.clauses.Held.{Held}
 use Rattle.nz_sat.specs.declared.search.Search.{Search}
 use Rattle.nz_sat.specs.declared.trail.Assigned.{Assigned}
-use Rattle.nz_sat.specs.Trails.{AreUpTo, IsTrueOn, assigned, below, decided, depth, is_decision, with_entry}
-use Rattle.nz_sat.specs.Clauses.{HasReasonOf, IsAssumed, IsImplied}
-use Rattle.nz_sat.specs.Numbers.{atom_term, number_of, numbered}
-use Rattle.nz_sat.specs.Sats.{IsLegalWork}
-use Rattle.nz_sat.specs.Searching.{Advances, AreOpen, AreWaiting, IsNoted, IsSearch, KeepsFirst, WereOpen, ids}
-use Rattle.nz_sat.proofs.Advancing.{grows_none}
+use Rattle.nz_sat.specs.Trails.{AreUpTo, IsTrueOn, assigned, below, decided, depth, is_decision, literals_on, with_entry}
+use Rattle.nz_sat.specs.Clauses.{HasReasonOf, IsAssumed}
+use Rattle.nz_sat.specs.Numbers.{atom_literal, number_of, numbered}
+use Rattle.nz_sat.specs.Searching.{AreOpen, AreWaiting, IsNoted, IsSearch, KeepsFirst, WereOpen, ids}
+use Rattle.nz_sat.specs.Theories.{TheoryState, bounds_on, told_literal, told_lits}
+use Rattle.nz_sat.proofs.Advancing.{Reaches}
+use Rattle.nz_sat.proofs.Growing.{grows_none}
+use Rattle.nz_sat.proofs.Listing.{adds_line, line_lead, search_more}
+use Rattle.nz_sat.proofs.Telling.{keeps_none}
 use Rattle.nz_sat.proofs.Clausal.{open_grows}
 use Rattle.nz_sat.proofs.Cutting.{below_all, below_join, below_none}
-use Rattle.nz_sat.proofs.Numbering.{number_found, number_place, unit_noted}
-use Rattle.nz_sat.proofs.Trailing.{assigned_at, each_push, level_within, order_put}
+use Rattle.nz_sat.proofs.Numbering.{number_found, number_place}
+use Rattle.nz_sat.proofs.Tracking.{trail_push}
+use Rattle.nz_sat.proofs.Trailing.{assigned_at, level_within}
 
 module _ (log : LogState) (held : List Held) (s : Search) (h : IsSearch log held s) (t : ℕ) (sign : Bool)
-    (free : assigned s.trail.entries t ≡ None) (atom : Contains s.atoms t) where
+    (free : assigned s.trail.entries t ≡ None) (atom : Contains s.atoms t) (whole : s.bounds.told ≡ length s.trail.entries) where
   abbrev pub literal : Lit
   literal = record { atom = t; sign = sign }
 
@@ -56,14 +60,11 @@ module _ (log : LogState) (held : List Held) (s : Search) (h : IsSearch log held
         listed = h.listed;
         only = h.only;
         named = h.named;
-        there = h.there;
-        on_trail = All-push (λ (e : Assigned). Contains s.atoms e.literal.atom) s.trail.entries entry h.on_trail atom;
         within = h.within;
         indexed = h.indexed;
         marks = h.marks;
         unmarked = h.unmarked;
-        order = order_put s.trail.size s.trail.entries entry h.order free (All-contains (λ (u : ℕ). u < s.trail.size) s.atoms t h.within atom) (sym more_depth);
-        implied = each_push (IsImplied log) s.trail.entries entry h.implied tt;
+        on = trail_push log s.atoms s.bounds s.trail h.on entry free (All-contains (λ (u : ℕ). u < s.trail.size) s.atoms t h.within atom) atom tt (sym more_depth) (inr whole);
         reasons = All-push (HasReasonOf (ids held)) s.trail.entries entry h.reasons tt;
       }
 
@@ -75,7 +76,7 @@ module _ (log : LogState) (held : List Held) (s : Search) (h : IsSearch log held
 
   up_to_depth : AreUpTo (depth s.trail.entries) s.trail.entries
   up_to_depth k d inside =
-      level_within s.trail.size s.trail.entries h.order k (get_or s.trail.entries k d) (slice_get-get_or s.trail.entries k d inside)
+      level_within s.trail.size s.trail.entries h.on.order k (get_or s.trail.entries k d) (slice_get-get_or s.trail.entries k d inside)
 
   pub decided_were : AreOpen log held s.trail.entries → WereOpen log held s.trail.entries → WereOpen log held more
   decided_were all_open were k less =
@@ -107,27 +108,23 @@ module _ (log : LogState) (held : List Held) (s : Search) (h : IsSearch log held
       filter-append is_decision s.trail.entries (entry ∷ [])
       ∙ ap (λ (b : Bool). filter is_decision s.trail.entries ++ (if b then entry ∷ [] else [])) above_zero
 
-  after_push : (xs : List (WorkLine reply.Note)) (x : WorkLine reply.Note) (r : legal.Search) → after_lines r (xs ++ x ∷ []) ≡ after_line (after_lines r xs) x
-  after_push [] x r = refl
-  after_push (y ∷ ys) x r = after_push ys x (after_line r y)
-
-  lines_push : (ns : List Node) (work : WorkList Note) → after_lines at_first (noted_list ns (with_line work line)).lines
-      ≡ after_line (after_lines at_first (noted_list ns work).lines) (UnitLine (DecisionEntry number sign))
-  lines_push ns work =
-      ap (after_lines at_first) (map_push (noted_line ns) work.lines line)
-      ∙ after_push (map (noted_line ns) work.lines) (UnitLine (DecisionEntry number sign)) at_first
-
-  pub decided_noted : (work : WorkList Note) → IsNoted log held s.atoms s.trail.entries work → IsNoted log held s.atoms more (with_line work line)
+  pub decided_noted : (work : WorkList Note) → IsNoted log held s work → IsNoted log held (record s { trail = with_entry s.trail entry }) (with_line work line)
   decided_noted work n =
       let f : Assigned → ℕ × Bool = λ e. numbered s.atoms e.literal in
+      let inside : s.bounds.told ≤ length s.trail.entries = h.on.inside in
       record {
-        named = λ ns. ap (λ (r : legal.Search). r.atoms) (lines_push ns work) ∙ n.named ns;
-        decided = λ ns.
-            ap (λ (r : legal.Search). r.decided) (lines_push ns work) ∙ ap (λ (ps : List (ℕ × Bool)). ps ++ (number, sign) ∷ []) (n.decided ns)
-            ∙ sym (ap (map f) more_decisions ∙ map_push f (filter is_decision s.trail.entries) entry);
+        trail = record {
+          named = λ ns. ap (λ (r : legal.Search). r.atoms) (search_more ns work (line ∷ [])) ∙ n.trail.named ns;
+          decided = λ ns.
+              ap (λ (r : legal.Search). r.decided) (search_more ns work (line ∷ [])) ∙ ap (λ (ps : List (ℕ × Bool)). ps ++ (number, sign) ∷ []) (n.trail.decided ns)
+              ∙ sym (ap (map f) more_decisions ∙ map_push f (filter is_decision s.trail.entries) entry);
+          told = λ ns.
+              ap (λ (r : legal.Search). r.told) (search_more ns work (line ∷ [])) ∙ n.trail.told ns
+              ∙ ap (λ (xs : List Assigned). map (told_literal s.atoms) (bounds_on s.bounds.marks.items xs)) (sym (take-append-le s.bounds.told s.trail.entries (entry ∷ []) inside));
+        };
         learned = λ ns.
             subst (λ (r : legal.Search). All (λ (c : List (ℕ × Bool)). (i : ℕ) × Contains (ids held) i × (map (numbered s.atoms) (literals_at log i) ≡ c)) r.learned)
-            (sym (lines_push ns work)) (n.learned ns);
+            (sym (search_more ns work (line ∷ []))) (n.learned ns);
       }
 
   -- the number of an atom on the trail is another one
@@ -140,45 +137,51 @@ module _ (log : LogState) (held : List Held) (s : Search) (h : IsSearch log held
       same_Some e.literal.atom t
       (sym (number_place s.atoms e.literal.atom its.0 its.1) ∙ ap (slice_get s.atoms) one ∙ number_place s.atoms t mine.0 mine.1) in
       let there : assigned s.trail.entries t ≡ Some e =
-      ap (assigned s.trail.entries) (sym on) ∙ assigned_at s.trail.entries i e at (h.order i e at).fresh in
+      ap (assigned s.trail.entries) (sym on) ∙ assigned_at s.trail.entries i e at (h.on.order i e at).fresh in
       let clash : None ≡ Some e = sym free ∙ there in
       cc where
         found : (u : ℕ) → Contains s.atoms u → (n : ℕ) × (number_of s.atoms u ≡ Some n)
         found u has = number_found s.atoms u has.0 (slice_get-get_or s.atoms has.0 u has.1 ∙ ap Some has.2)
 
-  pub decided_legal : LegalWorkGoesOn → (ns : List Node) (q : Task) (work : WorkList Note) → IsNoted log held s.atoms s.trail.entries work → IsLegalWork ns q work
-      → IsLegalWork ns q (with_line work line)
-  decided_legal goes_on ns q work n before =
-      let r = after_lines at_first (noted_list ns work).lines in
+  decided_may : (ns : List Node) (work : WorkList Note) → IsNoted log held s work → MayDecide (search_after ns work) number
+  decided_may ns work n =
+      let r = search_after ns work in
       let mine = number_found s.atoms t atom.0 (slice_get-get_or s.atoms atom.0 t atom.1 ∙ ap Some atom.2) in
       let is : number ≡ mine.0 = ap (λ (o : Option ℕ). unwrap_or o 0) mine.1 in
       let small : mine.0 < length s.atoms = slice_get_within s.atoms mine.0 t (number_place s.atoms t mine.0 mine.1) in
-      let long : length r.atoms ≡ length s.atoms = ap length (n.named ns) ∙ length-map s.atoms (atom_term ns log.atoms) in
+      let long : length r.atoms ≡ length s.atoms = ap length (n.trail.named ns) ∙ length-map s.atoms (atom_literal ns log.atoms) in
       let P : ℕ × Bool → Type 0 = λ p. p.0 ≢ number in
       let f : Assigned → ℕ × Bool = λ e. numbered s.atoms e.literal in
       let each : All (λ (e : Assigned). P (f e)) s.trail.entries =
-      λ k d inside. other_number k (get_or s.trail.entries k d) (slice_get-get_or s.trail.entries k d inside) (h.on_trail k d inside) in
-      let may : MayDecide r number =
+      λ k d inside. other_number k (get_or s.trail.entries k d) (slice_get-get_or s.trail.entries k d inside) (h.on.on_trail k d inside) in
       record {
         named = omega arith;
-        undecided = subst (All P) (sym (n.decided ns)) (All-map P f (filter is_decision s.trail.entries) (All-filter is_decision (λ (e : Assigned). P (f e)) s.trail.entries each));
-      } in
-      subst (AreLegal q at_first) (sym (map_push (noted_line ns) work.lines line))
-      (goes_on q at_first (map (noted_line ns) work.lines) (UnitLine (DecisionEntry number sign)) before may)
+        undecided = subst (All P) (sym (n.trail.decided ns)) (All-map P f (filter is_decision s.trail.entries) (All-filter is_decision (λ (e : Assigned). P (f e)) s.trail.entries each));
+      }
 
   -- ---- The step
 
-  pub decided_advances : LegalWorkGoesOn → (over : List Node → Type 0) (work : WorkList Note) → IsNoted log held s.atoms s.trail.entries work
-      → Advances over s.atoms s.trail.entries log log held held work (with_line work line)
-  decided_advances goes_on over work n =
+  -- the point stays, and what the theory was told
+  pub decided_reaches : (m : TheoryState) (work : WorkList Note) → IsNoted log held s work
+      → Reaches m m s s.trail.entries (record s { trail = with_entry s.trail entry }) log log held held work (with_line work line)
+  decided_reaches m work n =
+      let inside : s.bounds.told ≤ length s.trail.entries = h.on.inside in
+      let same : told_lits s.bounds s.trail.entries ≡ told_lits s.bounds more =
+      ap (λ (xs : List Assigned). literals_on (bounds_on s.bounds.marks.items xs)) (sym (take-append-le s.bounds.told s.trail.entries (entry ∷ []) inside)) in
       record {
+        keeps = keeps_none m;
         grows = grows_none log;
         sound = λ ns levels known within order. order;
         holds_more = record { learned = []; joined = sym (append-nil held); held = h.are_held };
         named = λ on. on;
-        legal = λ ns levels assumed q known only asked legal. decided_legal goes_on ns q work n legal;
-        notes = unit_noted work.lines (DecisionEntry number sign);
-        limit = refl;
+        adds = adds_line work line tt;
+        stands = λ ns levels assumed q known only asked st.
+            record {
+              point = st.point;
+              legal = line_lead ns q work line st.point st.point st.legal (decided_may ns work n, refl);
+              at = subst (λ (r : legal.Search). m.at ns r.forms (clause_in ns log.atoms (told_lits s.bounds more)) st.point) (sym (search_more ns work (line ∷ [])))
+                  (subst (λ (ls : List Lit). m.at ns (search_after ns work).forms (clause_in ns log.atoms ls) st.point) same st.at);
+            };
       }
 
   -- what is decided isn't assumed

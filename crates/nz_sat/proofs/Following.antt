@@ -1,23 +1,20 @@
 -- What a search that follows its clauses carries on.
-use Rattle.std.proofs.Common.{◌≡◌, ℕ, ◌<◌, Bool, if◌then◌else◌, List, [], ◌∷◌, ◌++◌, length, map, get_or, refl, sym, ap, subst, ◌∙◌, arith}
+use Rattle.std.proofs.Common.{◌≡◌, ℕ, ◌≤◌, Bool, if◌then◌else◌, List, [], ◌∷◌, ◌++◌, length, map, refl, sym, ap, subst, ◌∙◌, arith}
 use Rattle.std.specs.Prelude.{All, IsSome, filter}
-use Rattle.std.proofs.lemmas.List.{append-nil}
-use Rattle.std.proofs.lemmas.List.Elements.{All-contains, All-head, All-tail, filter-append}
-use Rattle.nz_spec.specs.Table.{Node}
+use Rattle.std.proofs.lemmas.List.{append-nil, take-append-le}
+use Rattle.std.proofs.lemmas.List.Elements.{All-head, All-tail, filter-append}
 use Rattle.nz_spec.specs.Work.{WorkList}
 use Rattle.nz_log.specs.declared.note.Note.{Note}
 use Rattle.nz_log.specs.Logs.{LogState}
-use Rattle.nz_sat.specs.declared.clauses.Held.{Held}
+use Rattle.nz_sat.specs.declared.consult.Bounds.{Bounds}
 use Rattle.nz_sat.specs.declared.search.Search.{Search}
 use Rattle.nz_sat.specs.declared.trail.Assigned.{Assigned}
 use Rattle.nz_sat.specs.Trails.{GoesOn, IsTrueOn, below, is_decision}
-use Rattle.nz_sat.specs.Conflicts.{StaysSound}
-use Rattle.nz_sat.specs.Numbers.{IsTermAtom, numbered}
-use Rattle.nz_sat.specs.Searching.{Carries, IsNoted, IsSearch, KeepsFirst, StaysInOrder}
+use Rattle.nz_sat.specs.Numbers.{numbered}
+use Rattle.nz_sat.specs.Searching.{Carries, KeepsFirst}
+use Rattle.nz_sat.specs.Theories.{TellsTrail, bounds_on, told_literal, told_on}
 use Rattle.nz_sat.proofs.Clausal.{truth_found}
 use Rattle.nz_sat.proofs.Cutting.{below_join}
-use Rattle.nz_sat.proofs.Keeping.{goes_assumed}
-use Rattle.nz_sat.proofs.Staying.{lit_within}
 use Rattle.nz_sat.proofs.Visiting.{no_decision}
 
 -- ---- The trail goes on
@@ -33,27 +30,23 @@ goes_decisions es es' g =
     ap (filter is_decision) g.joined ∙ filter-append is_decision es g.more ∙ ap (λ (xs : List Assigned). filter is_decision es ++ xs) (no_decisions g.more g.implied)
     ∙ append-nil (filter is_decision es)
 
-pub goes_noted : (log : LogState) (held : List Held) (atoms : List ℕ) (es es' : List Assigned) (work : WorkList Note) → GoesOn es es' → IsNoted log held atoms es work
-    → IsNoted log held atoms es' work
-goes_noted log held atoms es es' work g h =
+-- what was told stays so
+pub goes_told : (b : Bounds) (es es' : List Assigned) → b.told ≤ length es → GoesOn es es' → told_on b es' ≡ told_on b es
+goes_told b es es' inside g =
+    ap (λ (xs : List Assigned). told_on b xs) g.joined ∙ ap (bounds_on b.marks.items) (take-append-le b.told es g.more inside)
+
+pub goes_tells : (log : LogState) (atoms : List ℕ) (b : Bounds) (es es' : List Assigned) (work : WorkList Note) → b.told ≤ length es → GoesOn es es' → TellsTrail log atoms b es work
+    → TellsTrail log atoms b es' work
+goes_tells log atoms b es es' work inside g h =
     record {
       named = h.named;
       decided = λ ns. h.decided ns ∙ ap (map (λ (e : Assigned). numbered atoms e.literal)) (sym (goes_decisions es es' g));
-      learned = h.learned;
+      told = λ ns. h.told ns ∙ ap (map (told_literal atoms)) (sym (goes_told b es es' inside g));
     }
 
 pub goes_first : (es es' : List Assigned) → GoesOn es es' → KeepsFirst es es'
 goes_first es es' g l h =
     subst (λ (xs : List Assigned). IsTrueOn xs l) (sym (ap (below 0) g.joined ∙ below_join 0 es g.more)) (truth_found (below 0 es) (below 0 g.more) l.atom l.sign h)
-
-pub goes_carries : (s s' : Search) (work : WorkList Note) → s'.atoms ≡ s.atoms → GoesOn s.trail.entries s'.trail.entries → Carries s s' work work
-goes_carries s s' work same g =
-    record {
-      atoms = same;
-      first = goes_first s.trail.entries s'.trail.entries g;
-      assumed_only = λ assumed h. goes_assumed s.trail.entries s'.trail.entries assumed g h;
-      units = omega arith;
-    }
 
 pub carries_far : (r s t : Search) (u v w : WorkList Note) → Carries r s u v → Carries s t v w → Carries r t u w
 carries_far r s t u v w c d =
@@ -65,12 +58,3 @@ carries_far r s t u v w c d =
       assumed_only = λ assumed h. d.assumed_only assumed (c.assumed_only assumed h);
       units = omega arith;
     }
-
--- the literals of the trail are on atoms of the search
-pub stays_in_order : (over : List Node → Type 0) (log log' : LogState) (held : List Held) (s : Search) → IsSearch log held s → StaysSound s.trail.entries log log'
-    → StaysInOrder over s.atoms log log'
-stays_in_order over log log' held s h sound ns levels known within order =
-    sound ns levels
-    (λ k d inside.
-    let l = (get_or s.trail.entries k d).literal in
-    lit_within ns log.atoms l (All-contains (IsTermAtom ns log.atoms) s.atoms l.atom within (h.on_trail k d inside))) order

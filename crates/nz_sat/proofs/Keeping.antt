@@ -17,6 +17,7 @@ use Rattle.nz_sat.specs.Searching.{AreOpen, IsSearch, OpenOrFalsified, WereOpen,
 use Rattle.nz_sat.proofs.Chains.{has_found}
 use Rattle.nz_sat.proofs.Clausal.{slice_get_behind, truth_found}
 use Rattle.nz_sat.proofs.Cutting.{below_join, below_none}
+use Rattle.nz_sat.proofs.Tracking.{trail_goes}
 use Rattle.nz_sat.proofs.Visiting.{goes_depth}
 
 -- ---- What is true
@@ -58,14 +59,11 @@ goes_search log held s t h size order g implied reasons =
       listed = h.listed;
       only = h.only;
       named = h.named;
-      there = h.there;
-      on_trail = subst (All N) (sym g.joined) (All-append N es g.more h.on_trail more_named);
       within = subst (λ (n : ℕ). All (λ (u : ℕ). u < n) s.atoms) (sym size) h.within;
       indexed = subst (λ (n : ℕ). IsOfSize n s.index) (sym size) h.indexed;
       marks = h.marks ∙ sym size;
       unmarked = h.unmarked;
-      order = order;
-      implied = implied;
+      on = trail_goes log s.atoms s.bounds s.trail h.on t order g implied (subst (All N) (sym g.joined) (All-append N es g.more h.on.on_trail more_named));
       reasons = reasons;
     }
 

@@ -93,8 +93,8 @@ module _ (size : ℕ) (es : List Assigned) (order : EachBehind (IsNext size) es)
       all_from (λ (x : Assigned). x.level ≤ k) (take (suc n) es)
       (λ x has. let less = lower size es order (suc n) n (omega arith) (entry n) (at n inside) x has in omega (arith, less, low))
 
-  drops : (n k : ℕ) → n < length es → k < (entry n).level → DropsLast k (take (suc n) es) (take n es)
-  drops n k inside high = record { last = entry n; joined = one_more n inside; higher = high }
+  drops : (n k : ℕ) → n < length es → k < (entry n).level → DropsLast k (take (suc n) es) (take n es) (entry n).literal
+  drops n k inside high = record { last = entry n; is = refl; joined = one_more n inside; higher = high }
 
   front_to : (k n : ℕ) → n ≤ length es → IsFrontOf (below k (take n es)) (take n es)
   front_to k zero inside = record { more = []; joined = refl }

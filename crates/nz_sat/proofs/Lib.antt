@@ -9,11 +9,13 @@ pub mod Cutting
 pub mod DeadEnds
 pub mod Deciding
 pub mod Following
+pub mod Growing
 pub mod Indexing
 pub mod Keeping
 pub mod LearnedClauses
 pub mod Learning
 pub mod Levels
+pub mod Listing
 pub mod Marks
 pub mod Newness
 pub mod Noting
@@ -25,6 +27,8 @@ pub mod Returning
 pub mod Running
 pub mod Solving
 pub mod Staying
+pub mod Taking
 pub mod Telling
+pub mod Tracking
 pub mod Trailing
 pub mod Visiting

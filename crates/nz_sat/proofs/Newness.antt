@@ -2,11 +2,10 @@
 use Rattle.std.proofs.Common.{◌≡◌, ◌≢◌, ℕ, ◌<◌, ◌≤◌, Bool, true, false, not, List, [], ◌∷◌, length, map, Some, None, inl, inr, refl, sym, ap, subst, ◌∙◌, arith}
 use Rattle.std.specs.Prelude.{Contains, slice_get, option_map, unwrap_or}
 use Rattle.std.proofs.Math.Bool.{not-not}
-use Rattle.std.proofs.lemmas.List.{get_or-map, length-map}
+use Rattle.std.proofs.lemmas.List.{length-map}
 use Rattle.std.proofs.lemmas.Option.{same_Some, slice_get-map, slice_get_within}
 use Rattle.nz_spec.specs.Legal.{AreNamed}
-use Rattle.nz_spec.specs.Literal.{AreSameSet, StandOnce}
-use Rattle.nz_spec.specs.Term.{Term}
+use Rattle.nz_spec.specs.Literal.{AreSameSet, Literal, StandOnce}
 use Rattle.nz_log.specs.declared.lits.Lit.{Lit}
 use Rattle.nz_log.specs.Atoms.{TellsLits}
 use Rattle.nz_log.specs.Lits.{are_same_lit}
@@ -14,7 +13,7 @@ use Rattle.nz_sat.specs.declared.trail.Assigned.{Assigned}
 use Rattle.nz_sat.specs.Clauses.{IsFalsified, IsOpen, by_true, by_two}
 use Rattle.nz_sat.specs.Numbers.{number_of, numbered}
 use Rattle.nz_sat.specs.Trails.{EachBehind, IsFreeOn, IsNext, below, level_on, truth_on}
-use Rattle.nz_sat.proofs.Chains.{has_cases, has_first, has_found, has_more, lit_is}
+use Rattle.nz_sat.proofs.Chains.{has_cases, has_first, has_found, has_more, lit_is, map_has}
 use Rattle.nz_sat.proofs.Clausal.{other_lit}
 use Rattle.nz_sat.proofs.DeadEnds.{number_at}
 use Rattle.nz_sat.proofs.LearnedClauses.{all_from}
@@ -24,10 +23,7 @@ use Rattle.nz_sat.proofs.Marks.{not_itself}
 -- ---- Maps
 
 module _ {X Y : Type 0} (f : X → Y) where
-  map_has : (xs : List X) (x : X) → Contains xs x → Contains (map f xs) (f x)
-  map_has xs x has = (has.0, omega (arith, has.1, length-map xs f), get_or-map f xs has.0 x (f x) has.1 ∙ ap f has.2)
-
-  map_from : (xs : List X) (y : Y) → Contains (map f xs) y → (x : X) × Contains xs x × (f x ≡ y)
+  pub map_from : (xs : List X) (y : Y) → Contains (map f xs) y → (x : X) × Contains xs x × (f x ≡ y)
   map_from [] y h = absurd (omega (arith, h.1))
   map_from (x ∷ xs) y h =
       elim (has_cases (f x) y (map f xs) h) [
@@ -45,7 +41,7 @@ module _ {X Y : Type 0} (f : X → Y) where
 -- ---- Numbers
 
 module _ (atoms : List ℕ) where
-  same_atom : (t u : ℕ) → Contains atoms t → Contains atoms u → unwrap_or (number_of atoms t) 0 ≡ unwrap_or (number_of atoms u) 0 → t ≡ u
+  pub same_atom : (t u : ℕ) → Contains atoms t → Contains atoms u → unwrap_or (number_of atoms t) 0 ≡ unwrap_or (number_of atoms u) 0 → t ≡ u
   same_atom t u has_t has_u same = same_Some t u (sym (number_at atoms t has_t) ∙ ap (slice_get atoms) same ∙ number_at atoms u has_u)
 
   numbered_same : (l m : Lit) → Contains atoms l.atom → Contains atoms m.atom → numbered atoms l ≡ numbered atoms m → l ≡ m
@@ -59,15 +55,15 @@ module _ (atoms : List ℕ) where
       let w = map_from (numbered atoms) c (numbered atoms l) ((same (numbered atoms l)).0 (map_has (numbered atoms) d l has)) in
       subst (Contains c) (numbered_same w.0 l (named_c w.0 w.1) (named_d l has) w.2) w.1
 
-  pub numbers_within : (term_of : ℕ → Term) (c : List Lit) → ((l : Lit) → Contains c l → Contains atoms l.atom) → AreNamed (map term_of atoms) (map (numbered atoms) c)
-  numbers_within term_of c named =
-      all_from (λ (p : ℕ × Bool). p.0 < length (map term_of atoms)) (map (numbered atoms) c)
+  pub numbers_within : (says : ℕ → Literal) (c : List Lit) → ((l : Lit) → Contains c l → Contains atoms l.atom) → AreNamed (map says atoms) (map (numbered atoms) c)
+  numbers_within says c named =
+      all_from (λ (p : ℕ × Bool). p.0 < length (map says atoms)) (map (numbered atoms) c)
       (λ p has.
       let w = map_from (numbered atoms) c p has in
       let n = unwrap_or (number_of atoms w.0.atom) 0 in
       let inside : n < length atoms = slice_get_within atoms n w.0.atom (number_at atoms w.0.atom (named w.0 w.1)) in
       let same : n ≡ p.0 = ap (λ (q : ℕ × Bool). q.0) w.2 in
-      omega (arith, inside, same, length-map atoms term_of))
+      omega (arith, inside, same, length-map atoms says))
 
   -- ---- Clauses in which each literal is false
 

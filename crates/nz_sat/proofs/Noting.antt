@@ -1,24 +1,29 @@
 -- What a search knows of a learned clause, and that its line may follow.
-use Rattle.std.proofs.Common.{◌≡◌, ℕ, ◌-◌, ◌<◌, ◌≤◌, ◌++◌, Bool, not, List, [], ◌∷◌, length, map, refl, sym, ap, subst, ◌∙◌, arith, inl, inr}
+use Rattle.std.proofs.Common.{◌≡◌, ℕ, ◌-◌, ◌<◌, ◌≤◌, ◌++◌, Bool, not, List, [], length, map, refl, sym, ap, subst, ◌∙◌, arith, inl, inr}
 use Rattle.std.specs.Prelude.{⊤, All, Contains, IsTrue, filter}
 use Rattle.std.specs.List.{AllByRecursion}
+use Rattle.std.specs.declared.result.Result.{Result}
+use Rattle.std.specs.declared.result.Result.TheVariants.{Err}
 use Rattle.std.proofs.lemmas.List.{length-append, length-map, map-append}
 use Rattle.std.proofs.lemmas.List.Elements.{All-contains, All-weaker, filter-append}
 use Rattle.std.proofs.lemmas.List.Sums.{length-filter}
 use Rattle.std.proofs.lemmas.Option.{same_Some}
-use Rattle.nz_spec.specs.Legal.{AreLegal, LegalWorkGoesOn, MayLearn, Task, Search, IsDeadEnd, after_lines, at_first, literal_by, literals_by}
-use Rattle.nz_spec.specs.Literal.{AreSameSet, AreTrueLiterals, IsClauseTrue, Literal, is_literal_true}
+use Rattle.nz_spec.specs.Bland.{Point}
+use Rattle.nz_spec.specs.Legal.{IsDeadEnd, Lead, MayLearn, Search, Task, at_first, literal_by, literals_by, no_point}
+use Rattle.nz_spec.specs.Literal.{AreSameSet, AreTrueLiterals, IsClauseTrue, Literal, NegationIsOther, is_literal_true}
 use Rattle.nz_spec.specs.Model.{IsModel}
 use Rattle.nz_spec.specs.Table.{Node}
-use Rattle.nz_spec.specs.Term.{Term, Assignment, IsTrueUnder}
-use Rattle.nz_spec.specs.Work.{WorkLine, WorkList, UnitLine, LearnedEntry, with_line}
-use Rattle.nz_spec.specs.Reply as reply
+use Rattle.nz_spec.specs.Term.{Assignment, IsTrueUnder}
+use Rattle.nz_spec.specs.Work.{WorkList, with_line}
 use Rattle.nz_log.specs.declared.lits.Lit.{Lit}
 use Rattle.nz_log.specs.declared.note.Note.{Note}
-use Rattle.nz_log.specs.Atoms.{IsLitIn, TellsLits}
+use Rattle.nz_log.specs.declared.stop.Stop.{Stop}
+use Rattle.nz_log.specs.declared.stop.Stop.TheVariants.{Memory}
+use Rattle.nz_log.specs.Atoms.{TellsLits}
 use Rattle.nz_log.specs.Logs.{LogState, literals_at}
-use Rattle.nz_log.specs.Notes.{noted_line, noted_list}
+use Rattle.nz_log.specs.Notes.{noted_list}
 use Rattle.nz_log.specs.Sound.{ClausesAreTrue, IsLog}
+use Rattle.nz_log.specs.Standing.{search_after}
 use Rattle.nz_sat.specs.declared.analyze.Learned.{Learned}
 use Rattle.nz_sat.specs.declared.clauses.Held.{Held}
 use Rattle.nz_sat.specs.declared.search.Search as state
@@ -26,19 +31,21 @@ use Rattle.nz_sat.specs.declared.trail.Assigned.{Assigned}
 use Rattle.nz_sat.specs.Clauses.{IsAssumed, IsFalsified, IsOpen, by_true, by_two}
 use Rattle.nz_log.specs.Theories.{Grows}
 use Rattle.nz_sat.specs.Conflicts.{HasTwoLast, IsLearned, IsLearnable, StaysSound}
-use Rattle.nz_sat.specs.Numbers.{IsTermAtom, atom_term, numbered}
+use Rattle.nz_sat.specs.Numbers.{IsAtomAt, atom_literal, numbered}
 use Rattle.nz_sat.specs.Sats.{AreOn, HoldsMore, IsAsked}
-use Rattle.nz_sat.specs.Searching.{Advances, IsConflict, IsSearch, StaysInOrder, StaysLegal, WasNoted, WereOpen, ids, learned_line}
+use Rattle.nz_sat.specs.Searching.{Advances, IsConflict, IsSearch, StaysInOrder, WasNoted, WereOpen, ids, learned_line}
+use Rattle.nz_sat.specs.Theories.{EndsLegally, Keeps, TellsTrail, TheoryState, told_lits}
 use Rattle.nz_sat.specs.Trails.{EachBehind, IsFreeOn, IsFrontOf, IsNext, below, depth, is_decision, level_on}
-use Rattle.nz_sat.proofs.Advancing.{on_kept}
+use Rattle.nz_sat.proofs.Growing.{on_kept, order_over}
 use Rattle.nz_sat.proofs.Chains.{has_found}
-use Rattle.nz_sat.proofs.DeadEnds.{clause_true, literals_numbered, none_falsified, recursion_left}
+use Rattle.nz_sat.proofs.DeadEnds.{clause_true, literals_numbered, recursion_left, task_falsified}
 use Rattle.nz_sat.proofs.LearnedClauses.{all_from}
-use Rattle.nz_sat.proofs.Levels.{below_true, free_high}
+use Rattle.nz_sat.proofs.Levels.{below_front, below_true, free_high}
+use Rattle.nz_sat.proofs.Listing.{adds_line, line_lead}
 use Rattle.nz_sat.proofs.Marks.{false_entry, level_found, not_itself}
-use Rattle.nz_sat.proofs.Numbering.{unit_noted}
 use Rattle.nz_sat.proofs.Newness.{numbers_once, numbers_within, open_differs}
-use Rattle.nz_sat.proofs.Staying.{atoms_stay, lit_within, terms_stay}
+use Rattle.nz_sat.proofs.Staying.{atoms_stay, names_stay}
+use Rattle.nz_sat.proofs.Tracking.{names_some}
 use Rattle.nz_sat.proofs.Trailing.{assigned_place, level_within}
 
 -- A clause that is falsified, and was open when the last decision was taken, has two literals of the last level.
@@ -83,14 +90,14 @@ pub record IsTaught (log log' : LogState) (held : List Held) (s : state.Search) 
   pub were_open : WereOpen log held s.trail.entries
   pub conflict : IsConflict log held s.trail.entries falsified
   pub decided : 0 < depth s.trail.entries
-  pub noted : WasNoted log held s.atoms s.trail.entries work
+  pub noted : WasNoted log held s work
   pub grows : Grows log log'
   pub sound : StaysSound s.trail.entries log log'
   pub learned : IsLearned log' s.trail.entries l
 
 pub taught : {log log' : LogState} {held : List Held} {s : state.Search} {work : WorkList Note} {l : Learned} (falsified : ℕ) → IsSearch log held s
     → WereOpen log held s.trail.entries → IsConflict log held s.trail.entries falsified → 0 < depth s.trail.entries
-    → WasNoted log held s.atoms s.trail.entries work → Grows log log' → StaysSound s.trail.entries log log' → IsLearned log' s.trail.entries l
+    → WasNoted log held s work → Grows log log' → StaysSound s.trail.entries log log' → IsLearned log' s.trail.entries l
     → IsTaught log log' held s work falsified l
 taught falsified search were_open conflict decided noted grows sound learned =
     record {
@@ -119,14 +126,6 @@ held_named atoms log us named i has l there =
     All-contains (λ (m : Lit). Contains atoms m.atom) (literals_at log i) l
     (All-contains (λ (j : ℕ). All (λ (m : Lit). Contains atoms m.atom) (literals_at log j)) us i named has) there
 
--- the log stays in order
-pub stays_in_order : (over : List Node → Type 0) (atoms : List ℕ) (es : List Assigned) → All (λ (e : Assigned). Contains atoms e.literal.atom) es → (log log' : LogState) → StaysSound es log log'
-    → StaysInOrder over atoms log log'
-stays_in_order over atoms es on_trail log log' sound ns levels known within =
-    sound ns levels
-    (All-weaker (λ (e : Assigned). Contains atoms e.literal.atom) (λ (e : Assigned). IsLitIn ns log.atoms e.literal)
-    (λ e has. lit_within ns log.atoms e.literal (All-contains (IsTermAtom ns log.atoms) atoms e.literal.atom within has)) es on_trail)
-
 -- ---- Decisions of a trail that goes on
 
 pub decisions_on : (es all : List Assigned) → (f : IsFrontOf es all) → filter is_decision all ≡ filter is_decision es ++ filter is_decision f.more
@@ -140,7 +139,7 @@ front_depth es all f =
     omega (arith, parts, mine, whole)
 
 -- the first decisions are true where all are
-front_decided : (a : Assignment) (ts : List Term) (f : Assigned → ℕ × Bool) (es all : List Assigned) → IsFrontOf es all
+front_decided : (a : Assignment) (ts : List Literal) (f : Assigned → ℕ × Bool) (es all : List Assigned) → IsFrontOf es all
     → AreTrueLiterals a (literals_by ts (map f (filter is_decision all))) → AreTrueLiterals a (literals_by ts (map f (filter is_decision es)))
 front_decided a ts f es all front hold =
     let P : Literal → Type 0 = λ l. IsTrue (is_literal_true a l) in
@@ -160,14 +159,32 @@ module _ (log log' : LogState) (held : List Held) (s : state.Search) (work : Wor
   lits = literals_at log' l.clause
 
   pub learned_named : (m : Lit) → Contains lits m → Contains s.atoms m.atom
-  learned_named = false_named s.atoms es h.search.on_trail lits h.learned.falsified
+  learned_named = false_named s.atoms es h.search.on.on_trail lits h.learned.falsified
 
   -- each literal of the clause
   pub lits_named : All (λ (m : Lit). Contains s.atoms m.atom) lits
   lits_named = all_from (λ (m : Lit). Contains s.atoms m.atom) lits learned_named
 
   pub stays : (over : List Node → Type 0) → StaysInOrder over s.atoms log log'
-  stays over = stays_in_order over s.atoms es h.search.on_trail log log' h.sound
+  stays over = order_over over s.atoms es h.search.on.on_trail log log' (λ ns levels known. h.sound ns levels)
+
+  -- the trail before the search went back
+  abbrev pub all : List Assigned
+  all = h.noted.before.trail.entries
+
+  pub front : IsFrontOf es all
+  front =
+      let old = h.noted.before in
+      subst (λ (xs : List Assigned). IsFrontOf xs all) (sym h.noted.cut) (below_front old.trail.size all h.noted.search.on.order h.noted.level)
+
+  -- what the list tells of it, over these atoms
+  pub was_told : TellsTrail log s.atoms h.noted.before.bounds all work
+  was_told = subst (λ (us : List ℕ). TellsTrail log us h.noted.before.bounds all work) (sym h.noted.atoms) h.noted.noted.trail
+
+  pub was_learned : (ns : List Node) → All (λ (c : List (ℕ × Bool)). (i : ℕ) × Contains (ids held) i × (map (numbered s.atoms) (literals_at log i) ≡ c)) (search_after ns work).learned
+  was_learned ns =
+      subst (λ (us : List ℕ). All (λ (c : List (ℕ × Bool)). (i : ℕ) × Contains (ids held) i × (map (numbered us) (literals_at log i) ≡ c)) (search_after ns work).learned) (sym h.noted.atoms)
+      (h.noted.noted.learned ns)
 
   -- it isn't the same as a clause that is held
   learned_new : TellsLits → (i : ℕ) → Contains (ids held) i → AreSameSet (map (numbered s.atoms) (literals_at log i)) (map (numbered s.atoms) lits) → ⊥
@@ -175,81 +192,83 @@ module _ (log log' : LogState) (held : List Held) (s : state.Search) (work : Wor
       let k = depth es - 1 in
       let less : k < depth es = omega (arith, h.decided) in
       let opened = All-contains (λ (j : ℕ). IsOpen (below k es) (literals_at log j)) (ids held) i (h.were_open k less) has in
-      open_differs s.atoms es lits learned_named h.learned.falsified tells s.trail.size h.search.order k l.literal
+      open_differs s.atoms es lits learned_named h.learned.falsified tells s.trail.size h.search.on.order k l.literal
       (λ m there other. let low = h.learned.others m there other in let earlier = h.learned.earlier in omega (arith, low, earlier))
       (literals_at log i) (held_named s.atoms log (ids held) h.search.named i has) opened same
 
-  module _ (tells : TellsLits) (clauses : ClausesAreTrue) (ns : List Node) (levels : List (List ℕ)) (assumed : List Lit) (q : Task) (only : All (IsAssumed assumed) es)
-      (asked : IsAsked ns levels log s.atoms assumed q) where
+  module _ (tells : TellsLits) (clauses : ClausesAreTrue) (other : NegationIsOther) (ns : List Node) (levels : List (List ℕ)) (assumed : List Lit) (q : Task)
+      (only : All (IsAssumed assumed) es) (asked : IsAsked ns levels log s.atoms assumed q) where
     abbrev at : Search
-    at = after_lines at_first (noted_list ns work).lines
+    at = search_after ns work
 
-    order' : IsLog ns levels log'
-    order' = stays (λ ns. ⊤) ns levels tt asked.within asked.order
+    abbrev names : List Literal
+    names = map (atom_literal ns log.atoms) s.atoms
 
-    within' : All (IsTermAtom ns log'.atoms) s.atoms
-    within' = atoms_stay log.atoms log'.atoms h.grows.atoms ns s.atoms asked.within
+    pub learned_order : IsLog ns levels log'
+    learned_order = stays (λ ns. ⊤) ns levels tt asked.within asked.order
 
-    terms_same : map (atom_term ns log.atoms) s.atoms ≡ map (atom_term ns log'.atoms) s.atoms
-    terms_same = sym (terms_stay log.atoms log'.atoms h.grows.atoms ns s.atoms h.search.there)
+    pub learned_within : All (IsAtomAt ns log'.atoms) s.atoms
+    learned_within = atoms_stay log.atoms log'.atoms h.grows.atoms ns s.atoms asked.within
+
+    names_same : names ≡ map (atom_literal ns log'.atoms) s.atoms
+    names_same = sym (names_stay log.atoms log'.atoms h.grows.atoms ns s.atoms (names_some log s.atoms h.search.on.there))
 
     dead_end : IsDeadEnd q at
     dead_end a model assumed_hold decided_hold =
-        let hold = subst (AllByRecursion (IsTrueUnder a)) asked.asserted model.asserted_hold in
-        let assumed' = subst (AreTrueLiterals a) asked.assumed_literals assumed_hold in
-        let noted = h.noted.noted in
-        let named' = subst (λ (ts : List Term). AreTrueLiterals a (literals_by ts at.decided)) (noted.named ns) decided_hold in
-        let decided' = subst (λ (ps : List (ℕ × Bool)). AreTrueLiterals a (literals_by (map (atom_term ns log.atoms) s.atoms) ps)) (noted.decided ns) named' in
-        none_falsified clauses ns asked.table levels log asked.order a model.sorts hold tells s.atoms asked.within assumed es h.search.implied h.search.on_trail only assumed'
-        (front_decided a (map (atom_term ns log.atoms) s.atoms) (λ (e : Assigned). numbered s.atoms e.literal) es h.noted.all h.noted.front decided')
-        falsified h.conflict.live h.conflict.falsified
+        let named' = subst (λ (ts : List Literal). AreTrueLiterals a (literals_by ts at.decided)) (was_told.named ns) decided_hold in
+        let decided' = subst (λ (ps : List (ℕ × Bool)). AreTrueLiterals a (literals_by names ps)) (was_told.decided ns) named' in
+        task_falsified tells clauses other ns levels assumed q log s.atoms asked s.bounds s.trail h.search.on only a model assumed_hold
+        (front_decided a names (λ (e : Assigned). numbered s.atoms e.literal) es all front decided') falsified h.conflict.live h.conflict.falsified
 
     follows : (a : Assignment) → IsModel q.asserted [] a → IsClauseTrue a (literals_by at.atoms (map (numbered s.atoms) lits))
     follows a model =
         let hold = subst (AllByRecursion (IsTrueUnder a)) asked.asserted model.asserted_hold in
-        let holds = clause_true clauses ns asked.table levels log' order' a model.sorts hold l.clause h.learned.live in
-        subst (λ (ts : List Term). IsClauseTrue a (literals_by ts (map (numbered s.atoms) lits))) (sym (h.noted.noted.named ns))
-        (subst (IsClauseTrue a) (sym (ap (λ (ts : List Term). literals_by ts (map (numbered s.atoms) lits)) terms_same ∙ literals_numbered ns log'.atoms s.atoms within' lits learned_named)) holds)
+        let holds = clause_true clauses other ns asked.table levels log' learned_order a model.sorts hold l.clause h.learned.live in
+        subst (λ (ts : List Literal). IsClauseTrue a (literals_by ts (map (numbered s.atoms) lits))) (sym (was_told.named ns))
+        (subst (IsClauseTrue a)
+        (sym (ap (λ (ts : List Literal). literals_by ts (map (numbered s.atoms) lits)) names_same ∙ literals_numbered ns log'.atoms s.atoms learned_within lits learned_named)) holds)
 
-    may_learn : MayLearn q at l.level (map (numbered s.atoms) lits)
+    pub may_learn : MayLearn q at l.level (map (numbered s.atoms) lits)
     may_learn =
-        let all = h.noted.all in
-        let noted = h.noted.noted in
         let long : length at.decided ≡ depth all =
-        ap length (noted.decided ns) ∙ length-map (filter is_decision all) (λ (e : Assigned). numbered s.atoms e.literal) ∙ length-filter is_decision all in
-        let deeper = front_depth es all h.noted.front in
+        ap length (was_told.decided ns) ∙ length-map (filter is_decision all) (λ (e : Assigned). numbered s.atoms e.literal) ∙ length-filter is_decision all in
+        let deeper = front_depth es all front in
         let earlier = h.learned.earlier in
         record {
           fewer = omega (arith, long, deeper, earlier);
           dead_end = dead_end;
           follows = follows;
-          named = subst (λ (ts : List Term). All (λ (p : ℕ × Bool). p.0 < length ts) (map (numbered s.atoms) lits)) (sym (h.noted.noted.named ns))
-              (numbers_within s.atoms (atom_term ns log.atoms) lits learned_named);
+          named = subst (λ (ts : List Literal). All (λ (p : ℕ × Bool). p.0 < length ts) (map (numbered s.atoms) lits)) (sym (was_told.named ns))
+              (numbers_within s.atoms (atom_literal ns log.atoms) lits learned_named);
           once = numbers_once s.atoms es lits learned_named h.learned.falsified h.learned.once;
           new = All-weaker (λ (c : List (ℕ × Bool)). (i : ℕ) × Contains (ids held) i × (map (numbered s.atoms) (literals_at log i) ≡ c))
               (λ (c : List (ℕ × Bool)). AreSameSet c (map (numbered s.atoms) lits) → ⊥)
               (λ c w same. learned_new tells w.0 w.1 (subst (λ (d : List (ℕ × Bool)). AreSameSet d (map (numbered s.atoms) lits)) (sym w.2) same))
-              at.learned (noted.learned ns);
+              at.learned (was_learned ns);
         }
 
-  -- the list stays legal with its line
-  pub line_legal : TellsLits → ClausesAreTrue → LegalWorkGoesOn → (over : List Node → Type 0) → StaysLegal over s.atoms log es work (with_line work (learned_line s.atoms log' l))
-  line_legal tells clauses goes_on over ns levels assumed q known only asked legal =
-      let line : WorkLine reply.Note = UnitLine (LearnedEntry l.level (map (numbered s.atoms) lits)) in
-      subst (λ (lines : List (WorkLine reply.Note)). AreLegal q at_first lines) (sym (map-append (noted_line ns) work.lines (learned_line s.atoms log' l ∷ [])))
-      (goes_on q at_first (noted_list ns work).lines line legal (may_learn tells clauses ns levels assumed q only asked))
+    -- the list stays legal with its line, at the same point
+    pub line_legal : (x : Point) → Lead q at_first no_point (noted_list ns work).lines x → Lead q at_first no_point (noted_list ns (with_line work (learned_line s.atoms log' l))).lines x
+    line_legal x lead = line_lead ns q work (learned_line s.atoms log' l) x x lead (may_learn, refl)
 
   -- a step that adds it
-  pub line_advances : TellsLits → ClausesAreTrue → LegalWorkGoesOn → (over : List Node → Type 0) (held' : List Held) → HoldsMore log' held held' → (AreOn log' s.atoms held → AreOn log' s.atoms held')
-      → (work' : WorkList Note) → work' ≡ with_line work (learned_line s.atoms log' l) → Advances over s.atoms es log log' held held' work work'
-  line_advances tells clauses goes_on over held' more on work' is =
-      subst (Advances over s.atoms es log log' held held' work) (sym is)
+  pub line_advances : {A : Type 0} → (m m' : TheoryState) → Keeps m m' → (held' : List Held) → HoldsMore log' held held' → (AreOn log' s.atoms held → AreOn log' s.atoms held')
+      → (work' : WorkList Note) → work' ≡ with_line work (learned_line s.atoms log' l) → (result : Result A Stop)
+      → EndsLegally m m' log s.atoms (told_lits s.bounds es) es work (with_line work (learned_line s.atoms log' l)) result → Advances m m' s es log log' held held' work work' result
+  line_advances m m' keeps held' more on work' is result ends =
+      subst (λ (w : WorkList Note). Advances m m' s es log log' held held' work w result) (sym is)
       (record {
+        keeps = keeps;
         grows = h.grows;
-        sound = stays over;
+        sound = stays m.over;
         holds_more = more;
         named = λ named. on (on_kept log log' s.atoms held h.grows h.search.are_held named);
-        legal = line_legal tells clauses goes_on over;
-        notes = unit_noted work.lines (LearnedEntry l.level (map (numbered s.atoms) (literals_at log' l.clause)));
-        limit = refl;
+        adds = adds_line work (learned_line s.atoms log' l) tt;
+        ends = ends;
       })
+
+  -- where it can't be held
+  pub line_memory : (A : Type 0) → TellsLits → ClausesAreTrue → NegationIsOther → (m m' : TheoryState)
+      → EndsLegally {A = A} m m' log s.atoms (told_lits s.bounds es) es work (with_line work (learned_line s.atoms log' l)) (Err Memory)
+  line_memory A tells clauses other m m' ns levels assumed q known only asked st =
+      (st.point, line_legal tells clauses other ns levels assumed q only asked st.point st.legal)

@@ -1,15 +1,17 @@
 -- Atoms by their numbers, and the lines that name them.
-use Rattle.std.proofs.Common.{◌≡◌, ◌≢◌, ℕ, zero, suc, ◌+◌, ◌<◌, ◌==◌, Bool, true, false, if◌then◌else◌, List, [], ◌∷◌, ◌++◌, length, take, get_or, Option, Some, None, inl, inr, refl, sym, ap, ◌∙◌, arith, ne_eqb, true≢false}
+use Rattle.std.proofs.Common.{◌≡◌, ◌≢◌, ℕ, zero, suc, ◌+◌, ◌<◌, ◌==◌, Bool, true, false, if◌then◌else◌, List, [], ◌∷◌, ◌++◌, length, get_or, Option, Some, None, inl, inr, refl, sym, ap, ◌∙◌, arith, ne_eqb, true≢false}
 use Rattle.std.specs.Prelude.{Contains, is_some, slice_get, slice_index_or, option_map}
 use Rattle.std.proofs.lemmas.Bool.{cases_eq, eq-eqb}
 use Rattle.std.proofs.lemmas.Bool.Decides.{eqb_tells}
-use Rattle.std.proofs.lemmas.List.{append-nil, take_more}
-use Rattle.std.proofs.lemmas.Option.{get_or_from_slice_get, same_Some, slice_get-get_or, slice_get_within}
-use Rattle.nz_spec.specs.Work.{WorkEntry, WorkLine, UnitLine, NoteLine}
+use Rattle.std.proofs.lemmas.Option.{same_Some, slice_get-get_or}
+use Rattle.std.specs.List.{AllByRecursion}
+use Rattle.nz_spec.specs.Work.{WorkLine, UnitLine, NoteLine}
+use Rattle.nz_log.specs.declared.atoms.Atom as log
 use Rattle.nz_log.specs.declared.note.Note.{Note}
-use Rattle.nz_log.specs.declared.note.Note.TheVariants.{Atom}
+use Rattle.nz_log.specs.declared.note.Note.TheVariants.{Atom, Bound, Form, Told}
 use Rattle.nz_sat.proofs.Chains.{has_found}
 use Rattle.nz_sat.specs.Numbers.{IsNumbered, noted_atoms, number_of, number_or}
+use Rattle.nz_sat.specs.Theories.{IsOfSearch}
 
 -- ---- Numbers
 
@@ -88,18 +90,22 @@ numbered_push us u old new table here others t =
 
 -- ---- Lines
 
+-- lines that name no atom
+pub none_named : (lines : List (WorkLine Note)) → AllByRecursion IsOfSearch lines → noted_atoms lines ≡ []
+none_named [] h = refl
+none_named (UnitLine entry ∷ lines) h = none_named lines h.1
+none_named (NoteLine (Atom t) ∷ lines) h = absurd h.0
+none_named (NoteLine (Bound b) ∷ lines) h = absurd h.0
+none_named (NoteLine (Form atom) ∷ lines) h = absurd h.0
+none_named (NoteLine (Told atom sign) ∷ lines) h = none_named lines h.1
+
 pub noted-append : (xs ys : List (WorkLine Note)) → noted_atoms (xs ++ ys) ≡ noted_atoms xs ++ noted_atoms ys
 noted-append [] ys = refl
 noted-append (UnitLine entry ∷ xs) ys = noted-append xs ys
-noted-append (NoteLine (Atom t) ∷ xs) ys = ap (λ (us : List ℕ). t ∷ us) (noted-append xs ys)
-
-pub noted_more : (lines : List (WorkLine Note)) (i : ℕ) (line : WorkLine Note) → slice_get lines i ≡ Some line
-    → noted_atoms (take (i + 1) lines) ≡ noted_atoms (take i lines) ++ noted_atoms (line ∷ [])
-noted_more lines i line at =
-    let inside : i < length lines = slice_get_within lines i line at in
-    ap noted_atoms
-    (take_more lines i line inside ∙ ap (λ (x : WorkLine Note). take i lines ++ x ∷ []) (get_or_from_slice_get lines i line line at))
-    ∙ noted-append (take i lines) (line ∷ [])
+noted-append (NoteLine (Atom t) ∷ xs) ys = ap (λ (us : List log.Atom). log.TheVariants.Term t ∷ us) (noted-append xs ys)
+noted-append (NoteLine (Bound b) ∷ xs) ys = ap (λ (us : List log.Atom). log.TheVariants.AtMost b ∷ us) (noted-append xs ys)
+noted-append (NoteLine (Form atom) ∷ xs) ys = noted-append xs ys
+noted-append (NoteLine (Told atom sign) ∷ xs) ys = noted-append xs ys
 
 -- an atom is found under its number
 pub unnamed : (us : List ℕ) (t : ℕ) → Contains us t → number_of us t ≡ None → ⊥
@@ -108,10 +114,6 @@ unnamed us t has none =
     let found = number_found us t has.0 at in
     let clash : Some found.0 ≡ None = sym found.1 ∙ none in
     cc
-
--- a line that is no note names no atom
-pub unit_noted : (lines : List (WorkLine Note)) (x : WorkEntry) → noted_atoms (lines ++ UnitLine x ∷ []) ≡ noted_atoms lines
-unit_noted lines x = noted-append lines (UnitLine x ∷ []) ∙ append-nil (noted_atoms lines)
 
 -- what has a number is one of the atoms
 pub has_numbered : (us : List ℕ) (t : ℕ) (o : Option ℕ) → number_of us t ≡ o → is_some o ≡ true → Contains us t

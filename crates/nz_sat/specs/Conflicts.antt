@@ -111,9 +111,8 @@ pub record IsGreatest (es : List Assigned) (c : List Lit) (level : ℕ) : Type 0
   pub most : (m : Lit) → Contains c m → level_on es m.atom ≤ level
   pub reached : 0 < level → (m : Lit) × Contains c m × (level_on es m.atom ≡ level)
 
--- The trail is cut at the greatest level of the literals of a clause.
-pub record GoesBackTo (c : List Lit) (es es' : List Assigned) : Type 0 where
-  pub level : ℕ
+-- The trail is cut at this level, the greatest of the literals of a clause.
+pub record GoesBackTo (c : List Lit) (es es' : List Assigned) (level : ℕ) : Type 0 where
   pub greatest : IsGreatest es c level
   pub cut : es' ≡ below level es
 

@@ -1,22 +1,38 @@
 -- Atoms by the numbers that a work list gives them.
-use Rattle.std.specs.Prelude.{◌≡◌, ℕ, suc, ◌==◌, ◌<◌, Bool, true, false, List, [], ◌∷◌, map, length, slice_get, Option, Some, None, option_map, unwrap_or, slice_index_or, if◌then◌else◌}
-use Rattle.nz_spec.specs.Table.{Node, term_in}
-use Rattle.nz_spec.specs.Term.{Term}
+use Rattle.std.specs.Prelude.{◌≡◌, ℕ, suc, ◌==◌, Bool, true, false, List, [], ◌∷◌, map, slice_get, Option, Some, None, option_map, unwrap_or, slice_index_or, if◌then◌else◌, ⊤}
+use Rattle.std.specs.List.{AllByRecursion}
+use Rattle.nz_spec.specs.Literal.{Literal}
+use Rattle.nz_spec.specs.Table.{Node}
 use Rattle.nz_spec.specs.Work.{WorkLine, UnitLine, NoteLine}
 use Rattle.nz_log.specs.declared.atoms.Atom as log
 use Rattle.nz_log.specs.declared.lits.Lit.{Lit}
 use Rattle.nz_log.specs.declared.note.Note.{Note}
-use Rattle.nz_log.specs.declared.note.Note.TheVariants.{Atom}
+use Rattle.nz_log.specs.declared.note.Note.TheVariants.{Atom, Bound, Form, Told}
+use Rattle.nz_log.specs.Atoms.{IsLitIn, literal_in}
 
--- the terms of the atoms that these lines name, in their order
-abbrev pub noted_atoms : List (WorkLine Note) → List ℕ
+-- the atoms that these lines name, in their order
+abbrev pub noted_atoms : List (WorkLine Note) → List log.Atom
 noted_atoms [] = []
-noted_atoms (NoteLine (Atom t) ∷ lines) = t ∷ noted_atoms lines
+noted_atoms (NoteLine (Atom t) ∷ lines) = log.TheVariants.Term t ∷ noted_atoms lines
+noted_atoms (NoteLine (Bound b) ∷ lines) = log.TheVariants.AtMost b ∷ noted_atoms lines
+noted_atoms (NoteLine (Form atom) ∷ lines) = noted_atoms lines
+noted_atoms (NoteLine (Told atom sign) ∷ lines) = noted_atoms lines
 noted_atoms (UnitLine entry ∷ lines) = noted_atoms lines
 
--- the atoms of a log are those that these lines name, in their order
+-- these atoms of a log are those that the lines name, in their order
 abbrev pub AreNotedIn : List log.Atom → List (WorkLine Note) → List ℕ → Type 0
-AreNotedIn all lines atoms = map (slice_get all) atoms ≡ map (λ t. Some (log.TheVariants.Term t)) (noted_atoms lines)
+AreNotedIn all lines atoms = map (slice_get all) atoms ≡ map Some (noted_atoms lines)
+
+-- a note of an atom, or of a form
+abbrev pub IsBeginning : WorkLine Note → Type 0
+IsBeginning (NoteLine (Atom t)) = ⊤
+IsBeginning (NoteLine (Bound b)) = ⊤
+IsBeginning (NoteLine (Form atom)) = ⊤
+IsBeginning (NoteLine (Told atom sign)) = ⊥
+IsBeginning (UnitLine entry) = ⊥
+
+abbrev pub AreBeginnings : List (WorkLine Note) → Type 0
+AreBeginnings lines = AllByRecursion IsBeginning lines
 
 -- the number of an atom
 abbrev pub number_of : List ℕ → ℕ → Option ℕ
@@ -29,15 +45,13 @@ number_or (Some n) here next = Some n
 number_or None true next = Some next
 number_or None false next = None
 
--- the term of an atom; where there is none, the first one
-abbrev pub atom_term : List Node → List log.Atom → ℕ → Term
-atom_term ns all i = term_in ns (elim (slice_get all i) [ None ↦ 0 | Some (log.TheVariants.Term t) ↦ t | Some (log.TheVariants.AtMost b) ↦ 0 ])
+-- what an atom says; a number past the end stands for the first term
+abbrev pub atom_literal : List Node → List log.Atom → ℕ → Literal
+atom_literal ns all i = literal_in ns all (record { atom = i; sign = true })
 
--- The atom of a number is that a term of the table is true.
-pub record IsTermAtom (ns : List Node) (all : List log.Atom) (i : ℕ) : Type 0 where
-  pub term : ℕ
-  pub at : slice_get all i ≡ Some (log.TheVariants.Term term)
-  pub within : term < length ns
+-- the atom of a number is there, and over the table
+abbrev pub IsAtomAt : List Node → List log.Atom → ℕ → Type 0
+IsAtomAt ns all i = IsLitIn ns all (record { atom = i; sign = true })
 
 -- a literal by the number of its atom
 abbrev pub numbered : List ℕ → Lit → ℕ × Bool

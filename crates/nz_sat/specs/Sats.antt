@@ -1,19 +1,17 @@
 -- A search over clauses of a log, as its callers see it.
-use Rattle.std.specs.Prelude.{◌≡◌, ℕ, ◌<◌, ◌++◌, Bool, All, Contains, List, length, map, filter, nat_le, Option, Some, None, IsSome, option_map, slice_index_or}
+use Rattle.std.specs.Prelude.{◌≡◌, ℕ, ◌++◌, Bool, All, Contains, List, map, filter, nat_le, Option, Some, None, IsSome, option_map, slice_index_or}
 use Rattle.nz_spec.specs.Table.{Node, IsTable}
 use Rattle.nz_spec.specs.Decide.{asserted_terms}
-use Rattle.nz_spec.specs.Legal.{Task, AreLegal, at_first}
+use Rattle.nz_spec.specs.Legal.{Task}
 use Rattle.nz_spec.specs.Literal.{are_same_sign, StandOnce}
-use Rattle.nz_spec.specs.Work.{WorkList}
 use Rattle.nz_log.specs.declared.lits.Lit.{Lit}
-use Rattle.nz_log.specs.declared.note.Note.{Note}
 use Rattle.nz_log.specs.Atoms.{literal_in}
 use Rattle.nz_log.specs.Lits.{negated_lit}
 use Rattle.nz_log.specs.Logs.{LogState, IsLive, literals_at, level_at}
-use Rattle.nz_log.specs.Notes.{noted_list}
 use Rattle.nz_log.specs.Sound.{IsLog}
+use Rattle.nz_log.specs.Theories.{IsBoundIn}
 use Rattle.nz_sat.specs.declared.clauses.Held.{Held}
-use Rattle.nz_sat.specs.Numbers.{IsTermAtom}
+use Rattle.nz_sat.specs.Numbers.{IsAtomAt}
 
 -- The clauses, by the numbers of atoms in the log the truths that the last search left, and the theory.
 pub record SatState (T : Type 0) : Type 0 where
@@ -44,13 +42,14 @@ module _ {T : Type 0} where
     pub assumed_hold : All (IsTrueLit s) assumed
     pub atoms_decided : All (λ (t : ℕ). IsSome (truth_of s t)) atoms
 
-  -- The theory was told just the literals of the atoms that are true, and some values meet them.
-  pub record IsTheoryMet (has_told : List Lit → Type 0) (is_feasible : Type 0) (s : SatState T) (atoms : List ℕ) : Type 0 where
+  -- The theory was told just the literals of the atoms that are bounds and true, and some values meet them.
+  pub record IsTheoryMet (log : LogState) (has_told : List Lit → Type 0) (is_feasible : Type 0) (s : SatState T) (atoms : List ℕ) : Type 0 where
     pub literals : List Lit
     pub told : has_told literals
     pub feasible : is_feasible
+    pub bounds : All (IsBoundIn log) literals
     pub hold : All (IsTrueLit s) literals
-    pub all : (l : Lit) → Contains atoms l.atom → IsTrueLit s l → Contains literals l
+    pub all : (l : Lit) → Contains atoms l.atom → IsBoundIn log l → IsTrueLit s l → Contains literals l
 
 -- ---- Clauses
 
@@ -88,15 +87,11 @@ pub record AreNamed (log : LogState) (held : List Held) (assumed : List Lit) (at
   pub assumed_named : All (λ (l : Lit). Contains atoms l.atom) assumed
   pub once : StandOnce atoms
 
--- The task of a search: over a table that has the terms of the atoms, and levels of assertions, of which all are asserted.
+-- The task of a search: over a table that has what the atoms name, and levels of assertions, of which all are asserted.
 pub record IsAsked (ns : List Node) (levels : List (List ℕ)) (log : LogState) (atoms : List ℕ) (assumed : List Lit) (q : Task) : Type 0 where
   pub table : IsTable ns
-  pub within : All (IsTermAtom ns log.atoms) atoms
+  pub within : All (IsAtomAt ns log.atoms) atoms
   pub named : All (λ (l : Lit). Contains atoms l.atom) assumed
   pub order : IsLog ns levels log
   pub asserted : q.asserted ≡ asserted_terms ns levels
   pub assumed_literals : q.assumed ≡ map (literal_in ns log.atoms) assumed
-
--- the lines of a work list, over a table, are legal
-abbrev pub IsLegalWork : List Node → Task → WorkList Note → Type 0
-IsLegalWork ns q work = AreLegal q at_first (noted_list ns work).lines

@@ -1,48 +1,43 @@
 -- A search under way.
-use Rattle.std.specs.Prelude.{◌≡◌, ℕ, suc, ◌<◌, ◌≤◌, ◌++◌, ◌⊎◌, Bool, All, Contains, List, [], ◌∷◌, length, map, filter, slice_get, Option, Some, None, IfErr, IfOk, IfSome, IsSome, OnOk, unwrap_or}
+use Rattle.std.specs.Prelude.{◌≡◌, ℕ, suc, ◌<◌, ◌≤◌, ◌++◌, ◌⊎◌, Bool, All, Contains, List, [], ◌∷◌, length, map, Option, Some, None, IfErr, IfOk, IfSome, IsSome, unwrap_or}
 use Rattle.std.specs.declared.result.Result.{Result}
 use Rattle.nz_spec.specs.Table.{Node}
 use Rattle.nz_spec.specs.Literal.{StandOnce}
-use Rattle.nz_spec.specs.Legal.{after_lines, at_first, Task}
 use Rattle.nz_spec.specs.Work.{DecisionEntry, IsSpent, LearnedEntry, UnitLine, WorkLine, WorkList, unit_count, with_line}
 use Rattle.nz_log.specs.declared.lits.Lit.{Lit}
 use Rattle.nz_log.specs.declared.note.Note.{Note}
 use Rattle.nz_log.specs.declared.stop.Stop.{Stop}
 use Rattle.nz_log.specs.declared.stop.Stop.TheVariants.{Spent}
 use Rattle.nz_log.specs.Logs.{LogState, IsLive, literals_at}
-use Rattle.nz_log.specs.Notes.{noted_list}
 use Rattle.nz_sat.specs.declared.clauses.Held.{Held}
 use Rattle.nz_sat.specs.declared.analyze.Learned.{Learned}
 use Rattle.nz_sat.specs.declared.search.Search.{Search}
 use Rattle.nz_sat.specs.declared.trail.Assigned.{Assigned}
 use Rattle.nz_log.specs.Sound.{IsLog}
-use Rattle.nz_sat.specs.Trails.{EachBehind, GoesOn, IsFrontOf, IsTrail, IsTrueOn, assigned, below, decided, depth, implied, is_decision, with_entry}
-use Rattle.nz_sat.specs.Clauses.{HasReasonOf, IsAssumed, IsFalsified, IsImplied, IsListed, IsOfSize, IsOpen, Waits, ids_of}
+use Rattle.nz_log.specs.Standing.{search_after}
+use Rattle.nz_sat.specs.Trails.{GoesOn, IsTrueOn, assigned, below, decided, depth, implied, with_entry}
+use Rattle.nz_sat.specs.Clauses.{HasReasonOf, IsAssumed, IsFalsified, IsListed, IsOfSize, IsOpen, Waits, ids_of}
 use Rattle.nz_log.specs.Theories.{Grows}
 use Rattle.nz_sat.specs.Conflicts.{AreUnmarked, IsFalsifiedUnder}
-use Rattle.nz_sat.specs.Numbers.{IsTermAtom, atom_term, noted_atoms, number_of, numbered}
-use Rattle.nz_sat.specs.Sats.{AreConsistent, AreHeld, AreOn, HoldsMore, IsAsked, IsLegalWork}
-use Rattle.nz_sat.specs.Theories.{IsMet, IsTold}
+use Rattle.nz_sat.specs.Numbers.{IsAtomAt, number_of, numbered}
+use Rattle.nz_sat.specs.Sats.{AreConsistent, AreHeld, AreOn, HoldsMore}
+use Rattle.nz_sat.specs.Theories.{AddsLines, EndsLegally, IsMet, IsOfSearch, IsTrailOn, Keeps, TellsTrail, TheoryState, told_lits}
 
 abbrev pub ids : List Held → List ℕ
 ids held = map (λ (h : Held). h.id) held
 
--- Each clause that is held is in the index, and no other; clauses and trail are over its atoms, which the log has, and which have their
--- places in each table; each
--- entry of the trail that has a reason follows by it.
+-- Each clause that is held is in the index, and no other; clauses are over its atoms, which have their places in each table; its trail is over
+-- them, and the reasons on it are clauses that are held.
 pub record IsSearch (log : LogState) (held : List Held) (s : Search) : Type 0 where
   pub are_held : AreHeld log held
   pub listed : All (IsListed log s.index) (ids held)
   pub only : (l : Lit) (i : ℕ) → Contains (ids_of s.index l) i → Contains (ids held) i
   pub named : All (λ (i : ℕ). All (λ (l : Lit). Contains s.atoms l.atom) (literals_at log i)) (ids held)
-  pub there : All (λ (t : ℕ). IsSome (slice_get log.atoms t)) s.atoms
-  pub on_trail : All (λ (e : Assigned). Contains s.atoms e.literal.atom) s.trail.entries
   pub within : All (λ (t : ℕ). t < s.trail.size) s.atoms
   pub indexed : IsOfSize s.trail.size s.index
   pub marks : length s.seen.items ≡ s.trail.size
   pub unmarked : AreUnmarked s.seen.items
-  pub order : IsTrail s.trail
-  pub implied : EachBehind (IsImplied log) s.trail.entries
+  pub on : IsTrailOn log s.atoms s.bounds s.trail
   pub reasons : All (HasReasonOf (ids held)) s.trail.entries
 
 -- each clause is open
@@ -57,17 +52,20 @@ AreWaiting log held es head = All (λ (i : ℕ). Waits es head (literals_at log 
 abbrev pub WereOpen : LogState → List Held → List Assigned → Type 0
 WereOpen log held es = (k : ℕ) → k < depth es → AreOpen log held (below k es)
 
--- The work list, over each table, tells the atoms, the decisions of the trail, and what was learned: clauses that are held.
-pub record IsNoted (log : LogState) (held : List Held) (atoms : List ℕ) (es : List Assigned) (work : WorkList Note) : Type 0 where
-  pub named : (ns : List Node) → (after_lines at_first (noted_list ns work).lines).atoms ≡ map (atom_term ns log.atoms) atoms
-  pub decided : (ns : List Node) → (after_lines at_first (noted_list ns work).lines).decided ≡ map (λ (e : Assigned). numbered atoms e.literal) (filter is_decision es)
-  pub learned : (ns : List Node) → All (λ (c : List (ℕ × Bool)). (i : ℕ) × Contains (ids held) i × (map (numbered atoms) (literals_at log i) ≡ c)) (after_lines at_first (noted_list ns work).lines).learned
+-- The work list tells the trail, and what was learned: clauses that are held.
+pub record IsNoted (log : LogState) (held : List Held) (s : Search) (work : WorkList Note) : Type 0 where
+  pub trail : TellsTrail log s.atoms s.bounds s.trail.entries work
+  pub learned : (ns : List Node) → All (λ (c : List (ℕ × Bool)). (i : ℕ) × Contains (ids held) i × (map (numbered s.atoms) (literals_at log i) ≡ c)) (search_after ns work).learned
 
--- The work list tells the decisions of a trail of which this one is a front.
-pub record WasNoted (log : LogState) (held : List Held) (atoms : List ℕ) (es : List Assigned) (work : WorkList Note) : Type 0 where
-  pub all : List Assigned
-  pub front : IsFrontOf es all
-  pub noted : IsNoted log held atoms all work
+-- The search went back, to a level, from one that the work list tells.
+pub record WasNoted (log : LogState) (held : List Held) (s : Search) (work : WorkList Note) : Type 0 where
+  pub before : Search
+  pub search : IsSearch log held before
+  pub noted : IsNoted log held before work
+  pub level : ℕ
+  pub cut : s.trail.entries ≡ below level before.trail.entries
+  pub atoms : s.atoms ≡ before.atoms
+  pub marks : s.bounds.marks ≡ before.bounds.marks
 
 -- ---- Before the first decision
 
@@ -109,38 +107,33 @@ pub record AssumesAll (log : LogState) (held : List Held) (assumed : List Lit) (
 
 -- ---- Steps
 
--- where the atoms are terms of a table of these, the log stays in order
+-- where the atoms are over a table of these, the log stays in order
 abbrev pub StaysInOrder : (List Node → Type 0) → List ℕ → LogState → LogState → Type 0
 StaysInOrder over atoms old new =
-    (ns : List Node) (levels : List (List ℕ)) → over ns → All (IsTermAtom ns old.atoms) atoms → IsLog ns levels old → IsLog ns levels new
-
--- where the old lines are legal, so are the new ones
-abbrev pub StaysLegal : (List Node → Type 0) → List ℕ → LogState → List Assigned → (old new : WorkList Note) → Type 0
-StaysLegal over atoms log es old new = (ns : List Node) (levels : List (List ℕ)) (assumed : List Lit) (q : Task) → over ns → All (IsAssumed assumed) es
-    → IsAsked ns levels log atoms assumed q → IsLegalWork ns q old → IsLegalWork ns q new
+    (ns : List Node) (levels : List (List ℕ)) → over ns → All (IsAtomAt ns old.atoms) atoms → IsLog ns levels old → IsLog ns levels new
 
 -- the entries that these assumed literals are
 abbrev pub assumed_entries : List Lit → List Assigned
 assumed_entries assumed = map (λ (l : Lit). record { literal = l; level = 0; reason = None }) assumed
 
--- What each step of a search keeps, also one that ends with no answer, over tables in which what the theory knows of terms is so.
-pub record Advances (over : List Node → Type 0) (atoms : List ℕ) (es : List Assigned) (log log' : LogState) (held held' : List Held) (work work' : WorkList Note) : Type 0 where
+-- What each step of a search keeps, also one that ends with no answer, over tables in which what the theory knows of terms is so, where the entries
+-- before it without a reason are assumed ones.
+pub record Advances {A : Type 0} (theory theory' : TheoryState) (s : Search) (es : List Assigned) (log log' : LogState) (held held' : List Held) (work work' : WorkList Note)
+    (result : Result A Stop) : Type 0 where
+  pub keeps : Keeps theory theory'
   pub grows : Grows log log'
-  pub sound : StaysInOrder over atoms log log'
+  pub sound : StaysInOrder theory.over s.atoms log log'
   pub holds_more : HoldsMore log' held held'
-  pub named : AreOn log atoms held → AreOn log' atoms held'
-  pub legal : StaysLegal over atoms log es work work'
-  pub notes : noted_atoms work'.lines ≡ noted_atoms work.lines
-  pub limit : work'.limit ≡ work.limit
+  pub named : AreOn log s.atoms held → AreOn log' s.atoms held'
+  pub adds : AddsLines IsOfSearch work work'
+  pub ends : EndsLegally theory theory' log s.atoms (told_lits s.bounds s.trail.entries) es work work' result
 
--- What a step of a search keeps, and its answer: what the theory was told of the trail, the whole of it where no clause is answered, which
--- some values meet then; and that no unit is left where one more was wanted.
-pub record Steps (over over' : List Node → Type 0) (has_told : List Lit → Type 0) (is_feasible : Type 0) (atoms : List ℕ) (es es' : List Assigned) (log log' : LogState)
-    (held held' : List Held) (work work' : WorkList Note) (answer : Result (Option ℕ) Stop) : Type 0 where
-  pub advances : Advances over atoms es log log' held held' work work'
-  pub known : (ns : List Node) → over ns → over' ns
-  pub told : OnOk answer (IsTold has_told es')
-  pub met : IfOk answer (λ found. found ≡ None → IsMet has_told is_feasible es')
+-- What a step of a search keeps, and its answer: where no clause is answered, some values meet the bounds of the trail, and no unit is left where
+-- one more was wanted.
+pub record Steps (theory theory' : TheoryState) (s : Search) (es : List Assigned) (s' : Search) (log log' : LogState) (held held' : List Held) (work work' : WorkList Note)
+    (answer : Result (Option ℕ) Stop) : Type 0 where
+  pub advances : Advances theory theory' s es log log' held held' work work' answer
+  pub met : IfOk answer (λ found. found ≡ None → IsMet theory' s'.bounds s'.trail.entries)
   pub spent : IfErr answer (λ stop. stop ≡ Spent → IsSpent work')
 
 -- what is true under no decision stays so
@@ -205,7 +198,7 @@ pub record Learns (log : LogState) (held : List Held) (s s' : Search) (work work
   pub were_open : WereOpen log held s'.trail.entries
   pub inside : place ≤ length s'.trail.entries
   pub waits : AreWaiting log held s'.trail.entries place
-  pub noted : IsNoted log held s'.atoms s'.trail.entries work'
+  pub noted : IsNoted log held s' work'
   pub carries : Carries s s' work work'
   pub unit : unit_count work'.lines ≡ suc (unit_count work.lines)
   pub within : unit_count work'.lines ≤ work'.limit
@@ -215,7 +208,7 @@ pub record Turns (log : LogState) (held : List Held) (s s' : Search) (work work'
   pub search : IsSearch log held s'
   pub were_open : WereOpen log held s'.trail.entries
   pub told_so : OpenOrConflict log held s'.trail.entries told
-  pub noted : IsNoted log held s'.atoms s'.trail.entries work'
+  pub noted : IsNoted log held s' work'
   pub carries : Carries s s' work work'
 
 -- The same after a clause was learned.
@@ -229,7 +222,7 @@ pub record Settles (log : LogState) (held : List Held) (s s' : Search) (work wor
   pub search : IsSearch log held s'
   pub all_open : AreOpen log held s'.trail.entries
   pub were_open : WereOpen log held s'.trail.entries
-  pub noted : IsNoted log held s'.atoms s'.trail.entries work'
+  pub noted : IsNoted log held s' work'
   pub carries : Carries s s' work work'
 
 -- The same after an atom was decided.
@@ -243,7 +236,7 @@ pub record Runs (log : LogState) (held : List Held) (assumed : List Lit) (start 
   pub search : IsSearch log held s
   pub all_open : AreOpen log held s.trail.entries
   pub were_open : WereOpen log held s.trail.entries
-  pub noted : IsNoted log held s.atoms s.trail.entries work
+  pub noted : IsNoted log held s work
   pub same : s.atoms ≡ start.atoms
   pub assumed_only : All (IsAssumed assumed) s.trail.entries
   pub hold : All (IsTrueOn (below 0 s.trail.entries)) assumed

@@ -92,9 +92,10 @@ IsTrail s = EachBehind (IsNext s.size) s.entries
 abbrev pub AreUpTo : ℕ → List Assigned → Type 0
 AreUpTo k es = All (λ (e : Assigned). e.level ≤ k) es
 
--- The last entry, which is above a level, is taken off.
-pub record DropsLast (level : ℕ) (old new : List Assigned) : Type 0 where
+-- The last entry, of this literal, which is above a level, is taken off.
+pub record DropsLast (level : ℕ) (old new : List Assigned) (literal : Lit) : Type 0 where
   pub last : Assigned
+  pub is : last.literal ≡ literal
   pub joined : old ≡ new ++ last ∷ []
   pub higher : level < last.level
 

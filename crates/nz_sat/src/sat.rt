@@ -1,19 +1,21 @@
 //! The search as its callers see it.
-ghost use Rattle.std.specs.Prelude.{◌≡◌, ℕ, ◌<◌, ◌∷◌, ◌++◌, [], All, List, nat_le, None, length, map, IfErr, IfOk, IfSome, OnErr, OnOk};
+ghost use Rattle.std.specs.Prelude.{◌≡◌, ℕ, ◌≤◌, ◌∷◌, ◌++◌, [], All, List, nat_le, None, IfErr, IfOk, IfSome, OnErr, OnOk};
 ghost use Rattle.nz_spec.specs.Legal.{Task};
 ghost use Rattle.nz_spec.specs.Table.{Node};
 ghost use Rattle.nz_spec.specs.Work.{IsSpent, unit_count};
 ghost use Rattle.nz_log.specs.declared.lits.Lit.{Lit};
 ghost use Rattle.nz_log.specs.declared.stop.Stop.TheVariants as stop;
+ghost use Rattle.nz_log.specs.declared.atoms.Atom.{Atom};
+ghost use Rattle.nz_log.specs.Leveled.{AreToldAtoms};
 ghost use Rattle.nz_log.specs.Logs.{IsLive, literals_at};
 ghost use Rattle.nz_log.specs.Sound.{IsLog};
+ghost use Rattle.nz_log.specs.Standing.{Ends, Stands, search_after};
 ghost use Rattle.nz_log.specs.Theories.{Grows};
 ghost use Rattle.nz_sat.specs.Conflicts.{Refutes};
-ghost use Rattle.nz_sat.specs.Numbers.{AreNotedIn, IsTermAtom, noted_atoms};
-ghost use Rattle.nz_sat.specs.Sats.{AreConsistent, AreHeld, AreNamed, AreOn, HoldsMore, IsAsked, IsLegalWork, IsSatisfied, IsTheoryMet, held_of, held_up_to, literal_truth};
+ghost use Rattle.nz_sat.specs.Numbers.{AreBeginnings, AreNotedIn, IsAtomAt, noted_atoms};
+ghost use Rattle.nz_sat.specs.Sats.{AreConsistent, AreHeld, AreNamed, AreOn, HoldsMore, IsAsked, IsSatisfied, IsTheoryMet, held_of, held_up_to, literal_truth};
 
 use crate::clauses::Held;
-use crate::consult::take_back;
 use crate::search::Search;
 use nz_base::{Memory, Work};
 use nz_log::{AtomId, ClauseId, Lit, Log, Note, Stop, Theory};
@@ -27,7 +29,7 @@ pub struct Sat<T> {
     clauses: Vec<Held>,
     // By the numbers of atoms.
     truths: Vec<Option<bool>>,
-    /// What it was told last are the literals that are true.
+    /// What it was told last are the bounds that are true.
     pub theory: T,
 }
 
@@ -71,13 +73,13 @@ impl<T: Theory> Sat<T> {
     }
 
     /// Searches for truths of these atoms, which are those that the work list notes, under which each clause has a true literal, each assumed
-    /// literal is true, and the theory is feasible. Answers `None` where it found them, and otherwise a clause of the log whose literals are
-    /// negations of assumed ones.
+    /// literal is true, and the theory is feasible, which was told nothing yet. Answers `None` where it found them, and otherwise a clause of the
+    /// log whose literals are negations of assumed ones.
     ///
     /// # Errors
     ///
-    /// `Spent` where one more unit was wanted than the work list has, and `Memory`. Then the clauses that were learned are kept, the search has
-    /// no truths, and nothing is known of what the theory was told.
+    /// `Spent` where one more unit was wanted than the work list has, `Wide` where the theory stops at a number, and `Memory`. Then the clauses that
+    /// were learned are kept, the search has no truths, and nothing is known of what the theory was told.
     pub fn solve(
         &mut self,
         log: &mut Log,
@@ -88,33 +90,41 @@ impl<T: Theory> Sat<T> {
         requires held { AreHeld log.old self.old.clauses }
         requires noted { AreNotedIn log.old.atoms work.old.lines atoms.now }
         requires named { AreNamed log.old self.old.clauses assumed.now atoms.now }
+        requires told_terms { AreToldAtoms log.old atoms.now }
         requires consistent { AreConsistent assumed.now }
-        requires notes { unit_count work.old.lines ≡ 0 }
-        requires told { (ls : List Lit) × T.has_told self.old.theory ls }
+        // Atoms and forms are noted, and nothing else yet.
+        requires notes { AreBeginnings work.old.lines }
+        requires of { T.is_of self.old.theory log.old.atoms atoms.now }
+        requires untold { T.has_told self.old.theory [] }
         ensures satisfied { IfOk result (λ r. r ≡ None → IsSatisfied log.new self.new assumed.now atoms.now) }
-        // The theory was told just the literals of atoms that are true, and some values meet them.
-        ensures feasible { IfOk result (λ r. r ≡ None → IsTheoryMet (T.has_told self.new.theory) (T.is_feasible self.new.theory) self.new atoms.now) }
-        ensures told { OnOk result ((ls : List Lit) × T.has_told self.new.theory ls) }
+        // The theory was told just the bounds that are true, and some values meet them.
+        ensures feasible { IfOk result (λ r. r ≡ None → IsTheoryMet log.new (T.has_told self.new.theory) (T.is_feasible self.new.theory) self.new atoms.now) }
         ensures refuted { IfOk result (λ r. IfSome r (λ id. IsLive log.new id × Refutes assumed.now (literals_at log.new id))) }
         ensures grows { Grows log.old log.new }
         ensures held { HoldsMore log.new self.old.clauses self.new.clauses }
         // What was learned is over the same atoms.
         ensures named { AreOn log.new atoms.now self.new.clauses }
         ensures over { (ns : List Node) → T.is_over self.old.theory ns → T.is_over self.new.theory ns }
-        // Where the atoms are terms of a table in which what the theory knows of terms is so, the log stays in order.
-        ensures sound { (ns : List Node) (levels : List (List ℕ)) → T.is_over self.old.theory ns → All (IsTermAtom ns log.old.atoms) atoms.now → IsLog ns levels log.old → IsLog ns levels log.new }
-        // Where the notes are legal, so is the whole list.
-        ensures legal { (ns : List Node) (levels : List (List ℕ)) (q : Task) → T.is_over self.old.theory ns → IsAsked ns levels log.old atoms.now assumed.now q → IsLegalWork ns q work.old → IsLegalWork ns q work.new }
-        // No atom is named that wasn't.
+        ensures of { (all : List Atom) (ids : List ℕ) → T.is_of self.old.theory all ids → T.is_of self.new.theory all ids }
+        // Where the atoms are over a table in which what the theory knows of terms is so, the log stays in order.
+        ensures sound { (ns : List Node) (levels : List (List ℕ)) → T.is_over self.old.theory ns → All (IsAtomAt ns log.old.atoms) atoms.now → IsLog ns levels log.old → IsLog ns levels log.new }
+        // Where the notes are legal and lead to where the theory stands, so is the whole list, and leads to where it stands at the end.
+        ensures ends { (ns : List Node) (levels : List (List ℕ)) (q : Task) → T.is_over self.old.theory ns → IsAsked ns levels log.old atoms.now assumed.now q
+            → Stands (T.is_at self.old.theory ns) ns q work.old → Ends (T.is_at self.new.theory ns) ns q work.new result }
+        // No atom is named that wasn't, and no form joins.
         ensures notes { noted_atoms work.new.lines ≡ noted_atoms work.old.lines }
+        ensures forms { (ns : List Node) → (search_after ns work.new).forms ≡ (search_after ns work.old).forms }
         ensures limit { work.new.limit ≡ work.old.limit }
+        ensures within { unit_count work.new.lines ≤ work.new.limit }
         ensures spent { IfErr result (λ e. e ≡ stop.Spent → IsSpent work.new) }
     {
         self.truths.clear();
-        take_back(&mut self.theory, 0);
         let alloc = *self.clauses.allocator();
         let mut search = Search::new(alloc, log, &self.clauses, atoms)?;
-        let refuted = search.run(log, &mut self.clauses, &mut self.theory, assumed, work)?;
+        let refuted = search.run(log, &mut self.clauses, &mut self.theory, assumed, work);
+        // No more units are used than the limit.
+        let _left = work.left();
+        let refuted = refuted?;
         if refuted.is_none() {
             self.truths = search.trail.truths(alloc)?;
         }

@@ -1,5 +1,8 @@
 //! The search: decisions, what follows from them, and what each conflict teaches.
-ghost use Rattle.std.specs.Prelude.{◌≡◌, ℕ, ◌<◌, ◌≤◌, ◌++◌, ◌∷◌, [], All, Contains, List, None, Some, length, map, slice_get, IfErr, IfOk, IfSome, IsSome, OnErr, OnOk};
+ghost use Rattle.std.specs.Prelude.{◌≡◌, ℕ, ◌<◌, ◌≤◌, ◌+◌, ◌++◌, ◌∷◌, [], All, Contains, List, None, length, map, min, take, IfErr, IfOk, IfSome, IsSome, OnErr, OnOk};
+ghost use Rattle.nz_spec.specs.Bland.{Point};
+ghost use Rattle.nz_spec.specs.Form as form;
+ghost use Rattle.nz_spec.specs.Literal as spec;
 ghost use Rattle.nz_spec.specs.Table.{Node};
 ghost use Rattle.nz_spec.specs.Work.{IsSpent, UnitLine, unit_count, with_line};
 ghost use Rattle.nz_base.specs.Entries.{entry_of};
@@ -8,25 +11,27 @@ ghost use Rattle.nz_log.specs.declared.stop.Stop.TheVariants as stop;
 ghost use Rattle.nz_log.specs.Logs.{IsLive, literals_at};
 ghost use Rattle.nz_sat.specs.declared.clauses.Held.{Held};
 ghost use Rattle.nz_sat.specs.Clauses.{Adds, AreUsable, IsImplied, IsWithin};
-ghost use Rattle.nz_log.specs.Theories.{AddsUnits, Grows};
+ghost use Rattle.nz_log.specs.Places.{OnWide};
+ghost use Rattle.nz_log.specs.Theories.{Grows};
 ghost use Rattle.nz_sat.specs.Conflicts.{GoesBackTo, HasLast, RefutesFrom, StaysSound};
 ghost use Rattle.nz_sat.specs.Numbers.{numbered};
+ghost use Rattle.nz_log.specs.Leveled.{AreToldAtoms};
 ghost use Rattle.nz_sat.specs.Sats.{AreConsistent, AreHeld, AreOn, HoldsMore, held_of};
-ghost use Rattle.nz_sat.specs.Searching.{Advances, Assumes, AssumesAll, ComesTo, Follows, MayAssume, MayFollow, Starts, Decides, IsConflict, IsSearch, Learns, WasNoted, WereOpen, after_learned, learned_line};
-ghost use Rattle.nz_sat.specs.Theories.{IsMet, IsTold};
+ghost use Rattle.nz_sat.specs.Searching.{Advances, Assumes, AssumesAll, ComesTo, Decides, Follows, IsConflict, IsSearch, Learns, MayAssume, MayFollow, Starts, WasNoted, WereOpen, after_learned, learned_line};
+ghost use Rattle.nz_sat.specs.Theories.{AddsLines, IsMet, IsOfTheory, Keeps, TellsTrail, state_of, told_lits, told_on};
 ghost use Rattle.nz_sat.specs.Trails.{EachBehind, GoesOn, IsFrontOf, IsTrail, assigned, below, depth};
 
 use crate::analyze::{Learned, greatest_level, learned_clause, refutation};
 use crate::atoms::Atoms;
 use crate::clauses::{Held, Index};
-use crate::consult::{consult, take_back};
+use crate::consult::{Bounds, consult};
 use crate::order::Order;
 use crate::propagate::{propagate, visit_held};
 use crate::trail::Trail;
 use nz_base::{Entry, Literals, Memory, Work};
 use nz_log::laws::{clauses_are_true, tells_lits};
 use nz_log::{AtomId, ClauseId, Lit, Log, Note, Stop, Theory};
-use nz_spec::work::legal_work_goes_on;
+use nz_spec::derivation::negation_is_other;
 use std::alloc::Global;
 
 /// A search under way.
@@ -38,6 +43,7 @@ pub struct Search {
     order: Order,
     // By the numbers of atoms, the marks of the conflict analysis: none between two conflicts.
     seen: Vec<bool>,
+    bounds: Bounds,
 }
 
 impl Search {
@@ -45,13 +51,14 @@ impl Search {
     pub fn new(alloc: Global, log: &Log, held: &[Held], atoms: &[AtomId]) -> Result<Search, Memory>
         requires held { AreHeld log.now held.now }
         requires named { All (λ h. All (λ l. Contains atoms.now l.atom) (literals_at log.now h.id)) held.now }
-        requires there { All (λ t. IsSome (slice_get log.now.atoms t)) atoms.now }
+        requires there { AreToldAtoms log.now atoms.now }
         ensures search { IfOk result (λ s. IsSearch log.now held.now s) }
         ensures atoms { IfOk result (λ s. s.atoms ≡ atoms.now) }
         ensures none { IfOk result (λ s. s.trail.entries ≡ []) }
     {
         let atoms = Atoms::of(alloc, atoms)?;
         let size = atoms.size();
+        let bounds = Bounds::among(alloc, log, atoms.ids(), size)?;
         let order = Order::new(alloc, &atoms)?;
         let mut index = Index::new(alloc, size)?;
         for clause in held {
@@ -63,6 +70,7 @@ impl Search {
             index,
             order,
             seen: vec![in alloc; false; size]?,
+            bounds,
         })
     }
 
@@ -156,42 +164,69 @@ impl Search {
         )
     }
 
-    /// Takes the literals above a level off the trail.
-    fn jump(&mut self, level: usize)
-        ensures rest { self.new ≡ record self.old { trail = self.new.trail; order = self.new.order } }
+    /// Takes the literals above a level off the trail. Answers how many of them the theory was told.
+    fn jump(&mut self, level: usize) -> usize
+        ensures rest { self.new ≡ record self.old { trail = self.new.trail; order = self.new.order; bounds = self.new.bounds } }
         ensures size { self.new.trail.size ≡ self.old.trail.size }
         ensures below { self.new.trail.entries ≡ below level self.old.trail.entries }
         ensures front { IsFrontOf self.new.trail.entries self.old.trail.entries }
+        ensures bounds { self.new.bounds ≡ record self.old.bounds { told = min self.old.bounds.told (length self.new.trail.entries) } }
+        ensures untold { length (told_on self.old.bounds self.old.trail.entries) ≡ length (told_on self.new.bounds self.new.trail.entries) + result }
     {
+        let mut untold = 0;
         while let Some(literal) = self.trail.pop_above(level) {
+            untold += self.bounds.told_at(self.trail.len(), literal.atom);
             self.order.keep(literal);
         }
+        self.bounds.cut(self.trail.len());
+        untold
     }
 
     /// Takes the literals above a level off the trail, and back from the theory.
     fn cut<T: Theory>(&mut self, theory: &mut T, level: usize)
-        ensures rest { self.new ≡ record self.old { trail = self.new.trail; order = self.new.order } }
+        requires told { T.has_told theory.old (told_lits self.old.bounds self.old.trail.entries) }
+        ensures rest { self.new ≡ record self.old { trail = self.new.trail; order = self.new.order; bounds = self.new.bounds } }
         ensures size { self.new.trail.size ≡ self.old.trail.size }
         ensures below { self.new.trail.entries ≡ below level self.old.trail.entries }
         ensures front { IsFrontOf self.new.trail.entries self.old.trail.entries }
-        ensures told { IsTold (T.has_told theory.old) self.old.trail.entries → IsTold (T.has_told theory.new) self.new.trail.entries }
-        ensures over { (ns : List Node) → T.is_over theory.old ns → T.is_over theory.new ns }
+        ensures bounds { self.new.bounds ≡ record self.old.bounds { told = min self.old.bounds.told (length self.new.trail.entries) } }
+        ensures told { T.has_told theory.new (told_lits self.new.bounds self.new.trail.entries) }
+        ensures keeps { Keeps (state_of T.is_over T.has_told T.is_feasible T.is_of T.is_at theory.old) (state_of T.is_over T.has_told T.is_feasible T.is_of T.is_at theory.new) }
+        // The theory stands where it stood, at what it is still told.
+        ensures at { (ns : List Node) (fs : List (List form.Part)) (ls : List spec.Literal) (x : Point) → T.is_at theory.old ns fs ls x → length ls ≡ length (told_lits self.old.bounds self.old.trail.entries)
+            → T.is_at theory.new ns fs (take (length (told_lits self.new.bounds self.new.trail.entries)) ls) x }
     {
-        self.jump(level);
-        take_back(theory, self.trail.len());
+        let untold = self.jump(level);
+        theory.undo(theory.mark() - untold);
     }
 
-    /// Goes back to the last level of which a clause has a literal.
-    pub(crate) fn back_to<T: Theory>(&mut self, log: &Log, theory: &mut T, clause: ClauseId)
+    /// Goes back to the last level of which a clause has a literal, and answers it. At the first one, where the search ends, the theory is left as it
+    /// is.
+    pub(crate) fn back_to<T: Theory>(
+        &mut self,
+        log: &Log,
+        theory: &mut T,
+        clause: ClauseId,
+    ) -> usize
         requires live { IsLive log.now clause }
-        ensures rest { self.new ≡ record self.old { trail = self.new.trail; order = self.new.order } }
+        requires told { T.has_told theory.old (told_lits self.old.bounds self.old.trail.entries) }
+        ensures rest { self.new ≡ record self.old { trail = self.new.trail; order = self.new.order; bounds = self.new.bounds } }
         ensures size { self.new.trail.size ≡ self.old.trail.size }
-        ensures back { GoesBackTo (literals_at log.now clause) self.old.trail.entries self.new.trail.entries }
-        ensures told { IsTold (T.has_told theory.old) self.old.trail.entries → IsTold (T.has_told theory.new) self.new.trail.entries }
-        ensures over { (ns : List Node) → T.is_over theory.old ns → T.is_over theory.new ns }
+        ensures back { GoesBackTo (literals_at log.now clause) self.old.trail.entries self.new.trail.entries result }
+        ensures bounds { self.new.bounds ≡ record self.old.bounds { told = min self.old.bounds.told (length self.new.trail.entries) } }
+        ensures left { result ≡ 0 → theory.new ≡ theory.old }
+        ensures told { 0 < result → T.has_told theory.new (told_lits self.new.bounds self.new.trail.entries) }
+        ensures keeps { Keeps (state_of T.is_over T.has_told T.is_feasible T.is_of T.is_at theory.old) (state_of T.is_over T.has_told T.is_feasible T.is_of T.is_at theory.new) }
+        ensures at { 0 < result → (ns : List Node) (fs : List (List form.Part)) (ls : List spec.Literal) (x : Point) → T.is_at theory.old ns fs ls x → length ls ≡ length (told_lits self.old.bounds self.old.trail.entries)
+            → T.is_at theory.new ns fs (take (length (told_lits self.new.bounds self.new.trail.entries)) ls) x }
     {
         let level = greatest_level(&self.trail, log.clause(clause));
+        if level == 0 {
+            self.jump(level);
+            return level;
+        }
         self.cut(theory, level);
+        level
     }
 
     /// Makes true what the clauses make true by the literals from a place of the trail on, up to the first falsified clause.
@@ -214,23 +249,33 @@ impl Search {
         work: &mut Work<Note>,
         from: usize,
     ) -> Result<Option<ClauseId>, Stop>
-        requires usable { AreUsable log.old self.old.trail.size self.old.index }
+        requires follow { (held : List Held) × MayFollow log.old held self.old from }
         requires from { from ≤ length self.old.trail.entries }
-        requires told { IsTold (T.has_told theory.old) self.old.trail.entries }
-        ensures rest { self.new ≡ record self.old { trail = self.new.trail } }
-        ensures advances { (held : List Held) → MayFollow log.old held self.old from → Advances (T.is_over theory.old) self.old.atoms self.old.trail.entries log.old log.new held held work.old work.new }
+        requires of { T.is_of theory.old log.old.atoms self.old.atoms }
+        requires told { T.has_told theory.old (told_lits self.old.bounds self.old.trail.entries) }
+        requires noted { TellsTrail log.old self.old.atoms self.old.bounds self.old.trail.entries work.old }
+        ensures rest { self.new ≡ record self.old { trail = self.new.trail; bounds = self.new.bounds } }
+        ensures advances { (held : List Held) → MayFollow log.old held self.old from → Advances (state_of T.is_over T.has_told T.is_feasible T.is_of T.is_at theory.old) (state_of T.is_over T.has_told T.is_feasible T.is_of T.is_at theory.new)
+            self.old self.old.trail.entries log.old log.new held held work.old work.new result }
         ensures comes { (held : List Held) → MayFollow log.old held self.old from → IfOk result (ComesTo log.new held self.old self.new) }
-        ensures units { AddsUnits work.old work.new }
-        ensures told { OnOk result (IsTold (T.has_told theory.new) self.new.trail.entries) }
-        ensures met { IfOk result (λ r. r ≡ None → IsMet (T.has_told theory.new) (T.is_feasible theory.new) self.new.trail.entries) }
-        ensures over { (ns : List Node) → T.is_over theory.old ns → T.is_over theory.new ns }
+        ensures adds { AddsLines IsOfTheory work.old work.new }
+        ensures told { OnOk result (T.has_told theory.new (told_lits self.new.bounds self.new.trail.entries)) }
+        ensures noted { OnOk result (TellsTrail log.new self.new.atoms self.new.bounds self.new.trail.entries work.new) }
+        ensures met { IfOk result (λ r. r ≡ None → IsMet (state_of T.is_over T.has_told T.is_feasible T.is_of T.is_at theory.new) self.new.bounds self.new.trail.entries) }
         ensures spent { IfErr result (λ e. e ≡ stop.Spent → IsSpent work.new) }
     {
         let falsified = self.follow(log, from);
         if falsified.is_some() {
             return Ok(falsified);
         }
-        consult(log, &self.trail, theory, work)
+        consult(
+            log,
+            &self.atoms,
+            &self.trail,
+            &mut self.bounds,
+            theory,
+            work,
+        )
     }
 
     /// Notes a learned clause.
@@ -247,6 +292,7 @@ impl Search {
         ensures free { OnOk result (unit_count work.old.lines < work.old.limit) }
         ensures err { OnErr result (work.new ≡ work.old) }
         ensures spent { IfErr result (λ e. e ≡ stop.Spent → IsSpent work.new) }
+        ensures narrow { IfErr result (λ e. OnWide e (λ _. ⊥)) }
     {
         let lits = by_numbers(alloc, &self.atoms, log.clause(learned.clause))?;
         note(
@@ -280,14 +326,17 @@ impl Search {
     fn go_back<T: Theory>(&mut self, theory: &mut T, learned: Learned) -> usize
         requires free { assigned (below learned.level self.old.trail.entries) learned.literal.atom ≡ None }
         requires within { learned.literal.atom < self.old.trail.size }
-        requires told { IsTold (T.has_told theory.old) self.old.trail.entries }
-        ensures rest { self.new ≡ record self.old { trail = self.new.trail; order = self.new.order } }
+        requires told { T.has_told theory.old (told_lits self.old.bounds self.old.trail.entries) }
+        ensures rest { self.new ≡ record self.old { trail = self.new.trail; order = self.new.order; bounds = self.new.bounds } }
         ensures size { self.new.trail.size ≡ self.old.trail.size }
         ensures order { IsTrail self.new.trail }
         ensures place { result ≡ length (below learned.level self.old.trail.entries) }
         ensures entries { self.new.trail.entries ≡ after_learned self.old.trail.entries learned }
-        ensures told { IsTold (T.has_told theory.new) self.new.trail.entries }
-        ensures over { (ns : List Node) → T.is_over theory.old ns → T.is_over theory.new ns }
+        ensures bounds { self.new.bounds ≡ record self.old.bounds { told = min self.old.bounds.told (length (below learned.level self.old.trail.entries)) } }
+        ensures told { T.has_told theory.new (told_lits self.new.bounds self.new.trail.entries) }
+        ensures keeps { Keeps (state_of T.is_over T.has_told T.is_feasible T.is_of T.is_at theory.old) (state_of T.is_over T.has_told T.is_feasible T.is_of T.is_at theory.new) }
+        ensures at { (ns : List Node) (fs : List (List form.Part)) (ls : List spec.Literal) (x : Point) → T.is_at theory.old ns fs ls x → length ls ≡ length (told_lits self.old.bounds self.old.trail.entries)
+            → T.is_at theory.new ns fs (take (length (told_lits self.new.bounds self.new.trail.entries)) ls) x }
     {
         self.cut(theory, learned.level);
         let place = self.trail.len();
@@ -310,17 +359,16 @@ impl Search {
         requires conflict { IsConflict log.old held.old.items self.old.trail.entries falsified }
         requires last { HasLast self.old.trail.entries (literals_at log.old falsified) }
         requires decided { 0 < depth self.old.trail.entries }
-        requires noted { WasNoted log.old held.old.items self.old.atoms self.old.trail.entries work.old }
-        requires told { IsTold (T.has_told theory.old) self.old.trail.entries }
-        ensures advances { Advances (T.is_over theory.old) self.old.atoms self.old.trail.entries log.old log.new held.old.items held.new.items work.old work.new }
+        requires noted { WasNoted log.old held.old.items self.old work.old }
+        requires told { T.has_told theory.old (told_lits self.old.bounds self.old.trail.entries) }
+        ensures advances { Advances (state_of T.is_over T.has_told T.is_feasible T.is_of T.is_at theory.old) (state_of T.is_over T.has_told T.is_feasible T.is_of T.is_at theory.new) self.old self.old.trail.entries log.old log.new held.old.items held.new.items work.old work.new result }
         ensures learned { IfOk result (λ from. Learns log.new held.new.items self.old self.new work.old work.new from) }
-        ensures told { OnOk result (IsTold (T.has_told theory.new) self.new.trail.entries) }
-        ensures over { (ns : List Node) → T.is_over theory.old ns → T.is_over theory.new ns }
+        ensures told { OnOk result (T.has_told theory.new (told_lits self.new.bounds self.new.trail.entries)) }
         ensures spent { IfErr result (λ e. e ≡ stop.Spent → IsSpent work.new) }
     {
         tells_lits();
         clauses_are_true();
-        legal_work_goes_on();
+        negation_is_other();
         let alloc = *held.allocator();
         let learned = learned_clause(
             alloc,
@@ -355,6 +403,7 @@ impl Search {
         ensures free { OnOk result (unit_count work.old.lines < work.old.limit) }
         ensures err { OnErr result (work.new ≡ work.old) }
         ensures spent { IfErr result (λ e. e ≡ stop.Spent → IsSpent work.new) }
+        ensures narrow { IfErr result (λ e. OnWide e (λ _. ⊥)) }
     {
         let Some(number) = self.atoms.number(atom) else {
             unreachable!()
@@ -373,6 +422,7 @@ fn note(work: &mut Work<Note>, entry: Entry) -> Result<(), Stop>
     ensures free { OnOk result (unit_count work.old.lines < work.old.limit) }
     ensures err { OnErr result (work.new ≡ work.old) }
     ensures spent { IfErr result (λ e. e ≡ stop.Spent → IsSpent work.new) }
+    ensures narrow { IfErr result (λ e. OnWide e (λ _. ⊥)) }
 {
     if work.left() == 0 {
         return Err(Stop::Spent);

@@ -167,7 +167,7 @@ impl Trail {
     /// Takes the last literal off, if it is above a level.
     pub fn pop_above(&mut self, level: usize) -> Option<Lit>
         ensures size { self.new.size ≡ self.old.size }
-        ensures taken { MatchOption result (self.new ≡ self.old) (λ _. DropsLast level self.old.entries self.new.entries) }
+        ensures taken { MatchOption result (self.new ≡ self.old) (DropsLast level self.old.entries self.new.entries) }
         ensures below { result ≡ None → AreUpTo level self.new.entries }
     {
         let last = *self.entries.last()?;

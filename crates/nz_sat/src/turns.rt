@@ -1,19 +1,18 @@
 //! The search from its start to its end.
-ghost use Rattle.std.specs.Prelude.{◌≡◌, ◌<◌, ◌≤◌, [], All, Contains, List, None, length, IfOk, IfSome};
+ghost use Rattle.std.specs.Prelude.{◌≡◌, ◌<◌, ◌≤◌, [], All, Contains, List, None, length, IfOk, IfSome, OnOk};
 ghost use Rattle.nz_log.specs.declared.lits.Lit.{Lit};
 ghost use Rattle.nz_log.specs.Logs.{IsLive, literals_at};
 ghost use Rattle.nz_sat.specs.Clauses.{IsAssumed};
 ghost use Rattle.nz_sat.specs.Conflicts.{HasLast, Refutes};
 ghost use Rattle.nz_sat.specs.Sats.{AreConsistent};
 ghost use Rattle.nz_sat.specs.Searching.{AreOpen, AreWaiting, IsConflict, IsNoted, IsSearch, Runs, Satisfies, Settles, SettlesOn, Steps, TurnsOn, WasNoted, WereOpen, assumed_entries};
-ghost use Rattle.nz_sat.specs.Theories.{IsTold};
+ghost use Rattle.nz_sat.specs.Theories.{state_of, told_lits};
 ghost use Rattle.nz_sat.specs.Trails.{assigned, depth};
 
 use crate::clauses::Held;
 use crate::search::Search;
 use nz_base::Work;
 use nz_log::{AtomId, ClauseId, Lit, Log, Note, Stop, Theory};
-use nz_spec::work::legal_work_goes_on;
 
 impl Search {
     /// Learns from a clause in which each literal is false, one of them of the last level, makes true what the clauses make true with that, and
@@ -31,9 +30,12 @@ impl Search {
         requires conflict { IsConflict log.old held.old.items self.old.trail.entries falsified }
         requires last { HasLast self.old.trail.entries (literals_at log.old falsified) }
         requires decided { 0 < depth self.old.trail.entries }
-        requires noted { WasNoted log.old held.old.items self.old.atoms self.old.trail.entries work.old }
-        requires told { IsTold (T.has_told theory.old) self.old.trail.entries }
-        ensures steps { Steps (T.is_over theory.old) (T.is_over theory.new) (T.has_told theory.new) (T.is_feasible theory.new) self.old.atoms self.old.trail.entries self.new.trail.entries log.old log.new held.old.items held.new.items work.old work.new result }
+        requires noted { WasNoted log.old held.old.items self.old work.old }
+        requires of { T.is_of theory.old log.old.atoms self.old.atoms }
+        requires told { T.has_told theory.old (told_lits self.old.bounds self.old.trail.entries) }
+        ensures steps { Steps (state_of T.is_over T.has_told T.is_feasible T.is_of T.is_at theory.old) (state_of T.is_over T.has_told T.is_feasible T.is_of T.is_at theory.new)
+            self.old self.old.trail.entries self.new log.old log.new held.old.items held.new.items work.old work.new result }
+        ensures told { OnOk result (T.has_told theory.new (told_lits self.new.bounds self.new.trail.entries)) }
         ensures turns { IfOk result (TurnsOn log.new held.new.items self.old self.new work.old work.new) }
     {
         let from = self.learn(log, held, theory, work, falsified)?;
@@ -54,16 +56,17 @@ impl Search {
         requires all_open { WereOpen log.old held.old.items self.old.trail.entries }
         requires from { from ≤ length self.old.trail.entries }
         requires waits { AreWaiting log.old held.old.items self.old.trail.entries from }
-        requires noted { IsNoted log.old held.old.items self.old.atoms self.old.trail.entries work.old }
-        requires told { IsTold (T.has_told theory.old) self.old.trail.entries }
-        ensures steps { Steps (T.is_over theory.old) (T.is_over theory.new) (T.has_told theory.new) (T.is_feasible theory.new) self.old.atoms self.old.trail.entries self.new.trail.entries log.old log.new held.old.items held.new.items work.old work.new result }
+        requires noted { IsNoted log.old held.old.items self.old work.old }
+        requires of { T.is_of theory.old log.old.atoms self.old.atoms }
+        requires told { T.has_told theory.old (told_lits self.old.bounds self.old.trail.entries) }
+        ensures steps { Steps (state_of T.is_over T.has_told T.is_feasible T.is_of T.is_at theory.old) (state_of T.is_over T.has_told T.is_feasible T.is_of T.is_at theory.new)
+            self.old self.old.trail.entries self.new log.old log.new held.old.items held.new.items work.old work.new result }
         ensures settled { IfOk result (λ r. r ≡ None → Settles log.new held.new.items self.old self.new work.old work.new) }
         ensures refuted { IfOk result (λ r. IfSome r (λ id. IsLive log.new id × ((assumed : List Lit) → All (IsAssumed assumed) self.old.trail.entries → Refutes assumed (literals_at log.new id)))) }
     {
         let mut conflict = self.conflict(log, theory, work, from)?;
         while let Some(falsified) = conflict {
-            self.back_to(log, theory, falsified);
-            if self.trail.level() == 0 {
+            if self.back_to(log, theory, falsified) == 0 {
                 return Ok(Some(self.refute(*held.allocator(), log, falsified)?));
             }
             conflict = self.learn_on(log, held, theory, work, falsified)?;
@@ -83,15 +86,17 @@ impl Search {
         requires search { IsSearch log.old held.old.items self.old }
         requires all_open { AreOpen log.old held.old.items self.old.trail.entries }
         requires were_open { WereOpen log.old held.old.items self.old.trail.entries }
-        requires noted { IsNoted log.old held.old.items self.old.atoms self.old.trail.entries work.old }
-        requires told { IsTold (T.has_told theory.old) self.old.trail.entries }
+        requires noted { IsNoted log.old held.old.items self.old work.old }
+        requires of { T.is_of theory.old log.old.atoms self.old.atoms }
+        requires told { T.has_told theory.old (told_lits self.old.bounds self.old.trail.entries) }
+        requires whole { self.old.bounds.told ≡ length self.old.trail.entries }
         requires free { assigned self.old.trail.entries atom ≡ None }
         requires named { Contains self.old.atoms atom }
-        ensures steps { Steps (T.is_over theory.old) (T.is_over theory.new) (T.has_told theory.new) (T.is_feasible theory.new) self.old.atoms self.old.trail.entries self.new.trail.entries log.old log.new held.old.items held.new.items work.old work.new result }
+        ensures steps { Steps (state_of T.is_over T.has_told T.is_feasible T.is_of T.is_at theory.old) (state_of T.is_over T.has_told T.is_feasible T.is_of T.is_at theory.new)
+            self.old self.old.trail.entries self.new log.old log.new held.old.items held.new.items work.old work.new result }
         ensures settled { IfOk result (λ r. r ≡ None → SettlesOn log.new held.new.items self.old self.new work.old work.new) }
         ensures refuted { IfOk result (λ r. IfSome r (λ id. IsLive log.new id × ((assumed : List Lit) → All (IsAssumed assumed) self.old.trail.entries → Refutes assumed (literals_at log.new id)))) }
     {
-        legal_work_goes_on();
         let from = self.decide(work, atom)?;
         self.settle(log, held, theory, work, from)
     }
@@ -109,9 +114,11 @@ impl Search {
         requires none { self.old.trail.entries ≡ [] }
         requires named { All (λ l. Contains self.old.atoms l.atom) assumed.now }
         requires consistent { AreConsistent assumed.now }
-        requires noted { IsNoted log.old held.old.items self.old.atoms [] work.old }
+        requires noted { IsNoted log.old held.old.items self.old work.old }
+        requires of { T.is_of theory.old log.old.atoms self.old.atoms }
         requires told { T.has_told theory.old [] }
-        ensures steps { Steps (T.is_over theory.old) (T.is_over theory.new) (T.has_told theory.new) (T.is_feasible theory.new) self.old.atoms (assumed_entries assumed.now) self.new.trail.entries log.old log.new held.old.items held.new.items work.old work.new result }
+        ensures steps { Steps (state_of T.is_over T.has_told T.is_feasible T.is_of T.is_at theory.old) (state_of T.is_over T.has_told T.is_feasible T.is_of T.is_at theory.new)
+            self.old (assumed_entries assumed.now) self.new log.old log.new held.old.items held.new.items work.old work.new result }
         ensures runs { IfOk result (λ r. r ≡ None → Runs log.new held.new.items assumed.now self.old self.new work.new) }
         ensures refuted { IfOk result (λ r. IfSome r (λ id. IsLive log.new id × Refutes assumed.now (literals_at log.new id))) }
     {
@@ -136,9 +143,11 @@ impl Search {
         requires none { self.old.trail.entries ≡ [] }
         requires named { All (λ l. Contains self.old.atoms l.atom) assumed.now }
         requires consistent { AreConsistent assumed.now }
-        requires noted { IsNoted log.old held.old.items self.old.atoms [] work.old }
+        requires noted { IsNoted log.old held.old.items self.old work.old }
+        requires of { T.is_of theory.old log.old.atoms self.old.atoms }
         requires told { T.has_told theory.old [] }
-        ensures steps { Steps (T.is_over theory.old) (T.is_over theory.new) (T.has_told theory.new) (T.is_feasible theory.new) self.old.atoms (assumed_entries assumed.now) self.new.trail.entries log.old log.new held.old.items held.new.items work.old work.new result }
+        ensures steps { Steps (state_of T.is_over T.has_told T.is_feasible T.is_of T.is_at theory.old) (state_of T.is_over T.has_told T.is_feasible T.is_of T.is_at theory.new)
+            self.old (assumed_entries assumed.now) self.new log.old log.new held.old.items held.new.items work.old work.new result }
         ensures satisfied { IfOk result (λ r. r ≡ None → Satisfies log.new held.new.items assumed.now self.old.atoms self.new) }
         ensures refuted { IfOk result (λ r. IfSome r (λ id. IsLive log.new id × Refutes assumed.now (literals_at log.new id))) }
     {

@@ -1,5 +1,6 @@
 -- Problems for the search.
 use Rattle.std.specs.Prelude.{ℕ, List}
+use Rattle.nz_log.specs.Leveled.{AreToldAtoms}
 use Rattle.nz_log.specs.Logs.{LogState}
 use Rattle.nz_log.specs.declared.theory.NoNumbers.{NoNumbers}
 use Rattle.nz_sat.specs.Sats.{SatState, AreHeld, AreOn}
@@ -9,7 +10,8 @@ pub record HeldState : Type 0 where
   pub sat : SatState NoNumbers
   pub atoms : List ℕ
 
--- The search holds clauses of the log over these atoms.
+-- The search holds clauses of the log over these atoms. A level was told of each term that they name.
 pub record IsPosed (log : LogState) (sat : SatState NoNumbers) (atoms : List ℕ) : Type 0 where
   pub held : AreHeld log sat.clauses
   pub named : AreOn log atoms sat.clauses
+  pub told : AreToldAtoms log atoms

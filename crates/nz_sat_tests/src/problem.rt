@@ -5,11 +5,10 @@ ghost use Rattle.std.specs.Bool.{OnTrue};
 ghost use Rattle.nz_spec.specs.Literal.{StandOnce};
 ghost use Rattle.nz_spec.specs.Table.{HasItsArguments};
 ghost use Rattle.nz_spec.specs.Term.{head_fits};
-ghost use Rattle.nz_spec.specs.Work.{unit_count};
 ghost use Rattle.nz_term.specs.Heads.{head_of};
 ghost use Rattle.nz_log.specs.Logs.{IsLive};
 ghost use Rattle.nz_log.specs.TermLits.{gates_at};
-ghost use Rattle.nz_sat.specs.Numbers.{AreNotedIn};
+ghost use Rattle.nz_sat.specs.Numbers.{AreBeginnings, AreNotedIn};
 ghost use Rattle.nz_sat.specs.Sats.{AreConsistent};
 
 use nz_base::{Memory, Text, Work};
@@ -137,8 +136,9 @@ impl Problem {
 }
 
 impl Held {
-    /// A term is an atom.
+    /// A term is an atom, at the lowest level.
     fn name(&mut self, term: TermId) -> Result<(), Memory> {
+        self.log.place(term, 0)?;
         let atom = self.log.term_atom(term)?;
         if !self.atoms.contains(&atom) {
             self.atoms.push(atom)?;
@@ -181,14 +181,23 @@ impl Held {
     {
         let literals = self.log.lits_of(assumed)?;
         note_question(&self.log, &self.atoms, &literals, work)?;
+        begin_anew(&mut self.sat);
         let refuted = self.sat.solve(&mut self.log, &self.atoms, &literals, work)?;
         Ok(on_terms(*self.atoms.allocator(), &self.log, refuted)?)
     }
 }
 
+/// Takes back what the theory of a search was told.
+fn begin_anew(sat: &mut Sat<NoNumbers>)
+    ensures clauses { sat.new.clauses ≡ sat.old.clauses }
+    ensures none { sat.new.theory.told ≡ 0 }
+{
+    sat.theory = NoNumbers::new();
+}
+
 /// Adds the clauses of a term of the gate table that holds no number.
 fn add_gates(held: &mut Held, terms: &Terms, term: TermId) -> Result<(), Memory> {
-    if terms.len() <= term || terms.holds_number(term) {
+    if terms.len() <= term || terms.holds_integer(term) {
         return Err(Memory);
     }
     for j in 0..gate_count(terms, term) {
@@ -226,7 +235,7 @@ fn note_question(
 ) -> Result<(), Memory>
     requires empty { work.old.lines ≡ [] }
     ensures noted { OnOk result (AreNotedIn log.now.atoms work.new.lines atoms.now) }
-    ensures units { OnOk result (unit_count work.new.lines ≡ 0) }
+    ensures notes { OnOk result (AreBeginnings work.new.lines) }
     ensures once { OnOk result (StandOnce atoms.now) }
     ensures among { OnOk result (All (λ l. Contains atoms.now l.atom) assumed.now) }
     ensures consistent { OnOk result (AreConsistent assumed.now) }
@@ -243,7 +252,7 @@ fn note_question(
 fn note_atoms(log: &Log, atoms: &[AtomId], work: &mut Work<Note>) -> Result<bool, Memory>
     requires empty { work.old.lines ≡ [] }
     ensures noted { IfOk result (λ b. OnTrue b (AreNotedIn log.now.atoms work.new.lines atoms.now)) }
-    ensures units { IfOk result (λ b. OnTrue b (unit_count work.new.lines ≡ 0)) }
+    ensures notes { IfOk result (λ b. OnTrue b (AreBeginnings work.new.lines)) }
 {
     for atom in atoms {
         if log.atom_count() <= *atom {

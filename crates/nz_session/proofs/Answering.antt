@@ -60,6 +60,7 @@ live_still ns l s x y o p h =
       companions = h.companions;
       within = h.within;
       terms = h.terms;
+      linear = h.linear;
       items = h.items;
       next = h.next;
       unpushed = h.unpushed;

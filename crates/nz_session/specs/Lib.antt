@@ -2,4 +2,5 @@ pub mod Completed
 pub mod Desk
 pub mod Serve
 pub mod Told
+pub mod Undecided
 pub mod Valued

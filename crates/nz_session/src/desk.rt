@@ -1,41 +1,47 @@
 //! The desk: what a command acts on, and the answer to it.
-ghost use Rattle.std.specs.Prelude.{◌≡◌, ◌<◌, [], ◌∷◌, ◌++◌, length, map, slice_get, All, Some, IfOk, IfErr, OnOk, false};
+ghost use Rattle.std.specs.Prelude.{◌≡◌, ◌<◌, List, [], ◌∷◌, ◌++◌, length, map, slice_get, All, Some, IfOk, IfErr, IfSome, OnOk, false};
 ghost use Rattle.nz_sexpr.specs.View.{view, what_view};
 ghost use Rattle.nz_spec.specs.Text as text;
 ghost use Rattle.nz_spec.specs.Text.{intact};
 ghost use Rattle.nz_spec.specs.Term as term;
-ghost use Rattle.nz_spec.specs.Gates.{IsGated};
 ghost use Rattle.nz_spec.specs.Decide.{IsFrontOfTable, AreModelValues};
 ghost use Rattle.nz_spec.specs.Model.{IsUnsatisfiable};
-ghost use Rattle.nz_spec.specs.Live.{items_of, items_hold_numbers};
+ghost use Rattle.nz_spec.specs.Live.{items_of, items_hold_integers};
 ghost use Rattle.nz_spec.specs.Request.{Request};
 ghost use Rattle.nz_spec.specs.Parse.{request_of};
 ghost use Rattle.nz_spec.specs.Command.{Command};
 ghost use Rattle.nz_spec.specs.Right.{Context, done as done_by};
-ghost use Rattle.nz_spec.specs.Legal.{IsSpentLegally};
-ghost use Rattle.nz_spec.specs.Table.{term_in};
-ghost use Rattle.nz_log.specs.Notes.{noted_list, AreNotedWithin};
-ghost use Rattle.nz_log.specs.Verdicts.{IfSat, OnUnsat, OnSpent, task_in};
+ghost use Rattle.nz_spec.specs.Order.{HasCompanions};
+ghost use Rattle.nz_spec.specs.Table.{Node, term_in};
+ghost use Rattle.nz_spec.specs.Taken.{IsTakenBoolean};
+ghost use Rattle.nz_log.specs.Notes.{AreNotedWithin};
+ghost use Rattle.nz_log.specs.Places.{IsSiteWithin};
+ghost use Rattle.nz_log.specs.Verdicts.{IfSat, OnUnsat};
 ghost use Rattle.nz_reply.specs.Infos.{info_of};
-ghost use Rattle.nz_reply.specs.Replies.{reply_of};
+ghost use Rattle.nz_reply.specs.Reasons.{reason_of};
+ghost use Rattle.nz_reply.specs.Replies.{IsCauseWithin, cause_of as meant, reply_of};
 ghost use Rattle.nz_sort.specs.Acts.{info_meaning};
 ghost use Rattle.nz_sort.specs.Items.{table_numbers};
 ghost use Rattle.nz_sort.specs.Live.{AsksValues};
 ghost use Rattle.nz_elaborate.specs.Typed.{AreTyped};
 ghost use Rattle.nz_session.specs.Completed.{bound_at, completed};
 ghost use Rattle.nz_session.specs.Told.{IsTold};
+ghost use Rattle.nz_session.specs.Undecided.{IfUndecided, IsUndecided, cause_by, reason_by};
 
 use crate::values::values_shown;
 use nz_base::{Error, Memory, Work};
 use nz_elaborate::Typed;
-use nz_log::{Decide, Note, Stop, Verdict};
-use nz_reply::{Binding, Bindings, Cause, Info, Reason, Reply, SpentList};
+use nz_log::{Decide, Note, Place, Stop, Verdict};
+use nz_reply::{Binding, Bindings, Cause, Info, Reason, Reply, Stopped, WorkDone};
 use nz_sexpr::{Tree, What};
 use nz_sort::{Accepted, Act, Info as InfoAsked, Live};
+use nz_spec::deciding::normal_terms_are_taken;
 use nz_spec::script::argument_tells;
 use nz_spec::table::{assigns_by_number, term_of_node};
-use nz_spec::term::{decimals_are_numbers, normal_keeps_value, numerals_are_whole};
-use nz_spec::transcript::{assertions_are_gated, states_stay_sorted};
+use nz_spec::term::{
+    decimals_are_numbers, normal_keeps_value, normal_stays_sorted, numerals_are_whole,
+};
+use nz_spec::transcript::states_stay_sorted;
 use nz_term::{Assign, Head, TermId, Terms, known_table};
 use nz_truth::default_value;
 use std::alloc::{AllocError, Global};
@@ -159,12 +165,13 @@ impl<E: Decide> Desk<E> {
 
     /// The answer to `check-sat`.
     fn check(&mut self) -> Answer
-        requires { (c : Context) × Holds E.levels E.table self.old c × (items_hold_numbers (items_of c.state.levels) ≡ false) }
+        requires { (c : Context) × Holds E.levels E.table self.old c × (items_hold_integers (items_of c.state.levels) ≡ false) }
         ensures right { (c : Context) (tree : script.Tree) → Holds E.levels E.table self.old c → outcome_of c.state tree ≡ accepted (check_sat []) → IsAnswer E.levels E.table c (intact tree) result self.new }
         ensures terms { table_of self.new ≡ table_of self.old }
     {
         normal_keeps_value();
-        assertions_are_gated();
+        normal_stays_sorted();
+        normal_terms_are_taken();
         let decided = decide(
             &mut self.engine,
             &mut self.told,
@@ -179,23 +186,33 @@ impl<E: Decide> Desk<E> {
                 self.last = Some(LastAnswer::Refutation);
                 said(Reply::Unsat)
             }
-            Err(Stop::Spent) => {
-                let list = SpentList {
-                    limit: self.limit,
-                    work: self.work.take(),
-                };
-                let Ok(list) = Box::new(self.alloc, list) else {
-                    return said(Reply::Error(Error::OutOfMemory));
-                };
-                let reason = Reason::UnitsSpent(self.limit);
-                self.last = Some(LastAnswer::Undecided(reason));
-                Answer {
-                    reply: Reply::Unknown(reason),
-                    cause: Cause::Spent(list),
-                    exits: false,
-                }
-            }
+            Err(Stop::Spent) => self.undecided(None),
+            Err(Stop::Wide(place)) => self.undecided(Some(place)),
             Err(Stop::Memory) => said(Reply::Error(Error::OutOfMemory)),
+        }
+    }
+
+    /// The answer where a check wasn't decided, which is kept for `get-info`.
+    fn undecided(&mut self, place: Option<Place>) -> Answer
+        ensures right { (c : Context) (tree : script.Tree) → Holds E.levels E.table self.old c → outcome_of c.state tree ≡ accepted (check_sat []) → IsUndecided self.old.terms self.old.live.asserted self.old.limit self.old.work place → IsAnswer E.levels E.table c (intact tree) result self.new }
+        ensures terms { table_of self.new ≡ table_of self.old }
+    {
+        normal_keeps_value();
+        let Ok((reason, shown)) = reasons_at(self.alloc, self.limit, &place) else {
+            return said(Reply::Error(Error::OutOfMemory));
+        };
+        let done = WorkDone {
+            limit: self.limit,
+            work: self.work.take(),
+        };
+        let Ok(cause) = cause_of(self.alloc, place, done) else {
+            return said(Reply::Error(Error::OutOfMemory));
+        };
+        self.last = Some(LastAnswer::Undecided(reason));
+        Answer {
+            reply: Reply::Unknown(shown),
+            cause,
+            exits: false,
         }
     }
 
@@ -253,7 +270,10 @@ impl<E: Decide> Desk<E> {
         ensures right { (c : Context) (tree : script.Tree) → Holds E.levels E.table self.now c → outcome_of c.state tree ≡ accepted get_reason → IsAnswer E.levels E.table c (intact tree) result self.now }
     {
         match &self.last {
-            Some(LastAnswer::Undecided(reason)) => said(Reply::Reason(*reason)),
+            Some(LastAnswer::Undecided(reason)) => match reason.share() {
+                Ok(shown) => said(Reply::Reason(shown)),
+                Err(AllocError) => said(Reply::Error(Error::OutOfMemory)),
+            },
             _ => said(Reply::Error(Error::NothingToShow)),
         }
     }
@@ -278,6 +298,34 @@ impl<E: Decide> Desk<E> {
         drop(work);
         drop(last);
         terms
+    }
+}
+
+/// Why a check wasn't decided that ended at this place, or had each unit of this limit used: once to be kept, and once to be shown.
+fn reasons_at(
+    alloc: Global,
+    limit: u64,
+    place: &Option<Place>,
+) -> Result<(Reason, Reason), AllocError>
+    ensures kept { IfOk result (λ p. reason_of p.0 ≡ reason_by limit place.now) }
+    ensures shown { IfOk result (λ p. reason_of p.1 ≡ reason_by limit place.now) }
+{
+    let reason = match place {
+        Some(place) => Reason::Wide(Rc::new(alloc, place.wide)?),
+        None => Reason::UnitsSpent(limit),
+    };
+    let shown = reason.share()?;
+    Ok((reason, shown))
+}
+
+/// Why a check wasn't decided: its work, and the place where it ended, if each unit wasn't used.
+fn cause_of(alloc: Global, place: Option<Place>, done: WorkDone) -> Result<Cause, AllocError>
+    ensures cause { IfOk result (λ cause. (ns : List Node) → meant ns cause ≡ cause_by ns done place) }
+    ensures within { IfOk result (λ cause. (ns : List Node) → AreNotedWithin ns done.work → IfSome place (λ p. IsSiteWithin ns p.site) → IsCauseWithin ns cause) }
+{
+    match place {
+        Some(place) => Ok(Cause::Stopped(Box::new(alloc, Stopped { place, done })?)),
+        None => Ok(Cause::Spent(Box::new(alloc, done)?)),
     }
 }
 
@@ -354,13 +402,12 @@ fn decide<E: Decide>(
     requires told { IsTold (E.levels engine.old) told.old (table_numbers assertions.now) }
     requires within { All (λ i. i < length terms.now) (table_numbers assertions.now) }
     requires front { IsFrontOfTable (E.table engine.old) terms.now }
-    requires gated { All (λ i. IsGated (term_in terms.now i)) (table_numbers assertions.now) }
+    requires taken { All (λ i. IsTakenBoolean (term_in terms.now i)) (table_numbers assertions.now) }
+    requires companions { HasCompanions terms.now }
     ensures told { IsTold (E.levels engine.new) told.new (table_numbers assertions.now) }
     ensures sat { IfOk result (λ v. IfSat v (AreModelValues terms.now (map (term_in terms.now) (table_numbers assertions.now)) [])) }
     ensures unsat { IfOk result (λ v. OnUnsat v (IsUnsatisfiable (map (term_in terms.now) (table_numbers assertions.now)) [])) }
-    ensures spent { IfErr result (λ s. OnSpent s (IsSpentLegally (task_in terms.now (table_numbers assertions.now ∷ []) []) (noted_list terms.now work.new))) }
-    ensures limit { IfErr result (λ s. OnSpent s (work.new.limit ≡ limit)) }
-    ensures within { IfErr result (λ s. OnSpent s (AreNotedWithin terms.now work.new.lines)) }
+    ensures undecided { IfErr result (λ s. IfUndecided s (IsUndecided terms.now (table_numbers assertions.now) limit work.new)) }
     ensures front { IsFrontOfTable (E.table engine.new) terms.now }
 {
     tell(engine, told, assertions)?;

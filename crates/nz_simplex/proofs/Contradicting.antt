@@ -9,23 +9,24 @@ use Rattle.std.proofs.lemmas.List.{append-nil, length-map, map-append}
 use Rattle.nz_ints.proofs.Ring.{Atom, Literal as Number, ◌⊕◌, ◌⊗◌, Minus}
 use Rattle.nz_fractions.specs.Fraction.{Fraction, whole, ◌=ℚ◌, ◌<ℚ◌, ◌+ℚ◌, ◌*ℚ◌, neg_ℚ, fraction_cmp, fraction_lt, denominator}
 use Rattle.nz_fractions.proofs.Laws.{=ℚ_refl, =ℚ-from_same, =ℚ_sym, ≤ℚ-from_eq, <ℚ-≤ℚ_trans, ≤ℚ-<ℚ_trans, <ℚ_irrefl}
-use Rattle.nz_fractions.proofs.Order.{fraction_eq-same, fraction_ranked, same-fraction_eq}
+use Rattle.nz_fractions.proofs.Order.{fraction_eq-same, fraction_ranked, lt_is, same-fraction_eq}
 use Rattle.nz_fractions.proofs.Arithmetic.{+ℚ-neg, +ℚ-same, +ℚ-zero, *ℚ_assoc, cmp-+ℚ, cmp-*ℚ_pos, cmp-same, neg_ℚ-same}
-use Rattle.nz_spec.specs.Infinitesimal.{Infinitesimal, infinitesimal_cmp}
+use Rattle.nz_fractions.proofs.Identities.{one_times, zero_left, zero_times}
+use Rattle.nz_fractions.proofs.Solver.{◌∙ℚ◌, plus_left, plus_right, solve, times_left, times_right}
+use Rattle.nz_fractions.proofs.Bounds.{lt-carried}
+use Rattle.nz_fractions.proofs.Signs.{above_told, below_told}
+use Rattle.nz_spec.specs.Infinitesimal.{Infinitesimal, infinitesimal_cmp, InfinitesimalsAreOrdered}
 use Rattle.nz_spec.specs.Term.{is_zero}
+use Rattle.nz_spec.specs.Same.{TellsTerms}
 use Rattle.nz_spec.specs.Form.{Numbering, Part}
 use Rattle.nz_spec.specs.Literal.{Literal}
 use Rattle.nz_spec.specs.LinearLiteral.{is_without_units}
 use Rattle.nz_spec.specs.Farkas.{Bound, Multiple, bound_of, empty_bound, is_linear_literal, is_multiple, sum_of_multiples}
-use Rattle.nz_spec.specs.Basis.{Coefficients, Valuation, form_at, weighted, worth}
+use Rattle.nz_spec.specs.Basis.{Coefficients, Valuation, form_at, weighted, worth, WorthIsByUnits}
 use Rattle.nz_spec.specs.BasisMoves.{numbers}
 use Rattle.nz_spec.specs.Bland as bland
 use Rattle.nz_spec.specs.Bland.{IsOutside, Position, bound_on, sum_at, zero_infinitesimal}
 use Rattle.nz_spec.specs.Table.{Node}
-use Rattle.nz_spec.proofs.FormValues.{one_times, zero_left, zero_times}
-use Rattle.nz_spec.proofs.FractionSolver.{◌∙ℚ◌, plus_left, plus_right, solve, times_left, times_right}
-use Rattle.nz_spec.proofs.InfinitesimalLaws.{lt-carried}
-use Rattle.nz_spec.proofs.InfinitesimalOrder.{infinitesimal_total}
 use Rattle.nz_lin.specs.Forms.{parts_over}
 use Rattle.nz_trail.specs.Bounds as trails
 use Rattle.nz_trail.specs.Bounds.{AreApart, ClashesWith, asserted}
@@ -37,7 +38,6 @@ use Rattle.nz_simplex.specs.Contradictions.{AreMultiplesFor, AreSaid, AreSum, Cl
 use Rattle.nz_simplex.specs.Standing.{Held, bound_in, half, is_bound_of, is_news, is_side, reason_in, standing, standing_with}
 use Rattle.nz_simplex.specs.State.{State, nonbasic_in, value_in, position_over}
 use Rattle.nz_simplex.proofs.Helping.{bound_told, half_other}
-use Rattle.nz_simplex.proofs.Signs.{above_told, below_told}
 use Rattle.nz_simplex.proofs.SumsInOrder.{no_units, onto_sum}
 use Rattle.nz_simplex.proofs.Totals.{onto-lax, onto-limit, onto-worth, total}
 
@@ -45,14 +45,6 @@ use Rattle.nz_simplex.proofs.Totals.{onto-lax, onto-limit, onto-worth, total}
 
 abbrev none : Fraction
 none = whole (pos 0)
-
-lt_true : (p q : Fraction) → p <ℚ q → fraction_lt p q ≡ true
-unfolding fraction_lt
-lt_true p q h = by_test (fraction_lt p q) refl
-  where
-    by_test : (b : Bool) → fraction_lt p q ≡ b → b ≡ true
-    by_test true e = refl
-    by_test false e = absurd (omega (arith, ints, e, h.cross))
 
 one_above : none <ℚ whole (pos 1)
 unfolding denominator
@@ -188,7 +180,7 @@ module _ (number : Numbering) (literal : ℕ → Literal) (factor : ℕ → Frac
   all_multiples (h ∷ hs) (m ∷ ms) counts are =
       let said = counts.0.0 in
       let above : none <ℚ m.multiplier = positive_left m.multiplier (factor h.0.reason) h.1 said.positive are.1 counts.0.1 in
-      let one : is_multiple m ≡ true = ap₂ (λ (b c : Bool). b && c) (ap is_linear_literal are.0 ∙ said.linear) (lt_true none m.multiplier above) in
+      let one : is_multiple m ≡ true = ap₂ (λ (b c : Bool). b && c) (ap is_linear_literal are.0 ∙ said.linear) (lt_is none m.multiplier above) in
       ap₂ (λ (b c : Bool). b && c) one (all_multiples hs ms counts.1 are.2)
 
   all_sums : (hs : List (Held × Fraction)) (ms : List Multiple) → Counts hs → AreFor hs ms → AllByRecursion (λ (m : Multiple). AreSum number (bound_of m.literal).parts) ms
@@ -215,11 +207,11 @@ module _ (number : Numbering) (literal : ℕ → Literal) (factor : ℕ → Frac
   either_true false = refl
 
   by_limit : (b : Fraction) (strict : Bool) → (b <ℚ none) ⊎ ((b =ℚ none) × (strict ≡ true)) → (fraction_lt b none || is_zero b && strict) ≡ true
-  by_limit b strict (inl h) = ap (λ (t : Bool). t || is_zero b && strict) (lt_true b none h)
+  by_limit b strict (inl h) = ap (λ (t : Bool). t || is_zero b && strict) (lt_is b none h)
   by_limit b strict (inr h) =
       ap₂ (λ (t u : Bool). fraction_lt b none || t && u) (fraction_eq-same b none h.0) h.1 ∙ either_true (fraction_lt b none)
 
-  module _ (hs : List (Held × Fraction)) (ms : List Multiple) (counts : Counts hs) (are : AreFor hs ms) where
+  module _ (terms : TellsTerms) (by_units : WorthIsByUnits) (hs : List (Held × Fraction)) (ms : List Multiple) (counts : Counts hs) (are : AreFor hs ms) where
     abbrev sum : Bound
     sum = (sum_of_multiples number ms).result
 
@@ -231,10 +223,10 @@ module _ (number : Numbering) (literal : ℕ → Literal) (factor : ℕ → Frac
 
     without : ((v : Valuation) → total_of (λ (b : Held). worth v (form_at forms b.var)) hs =ℚ none) → sum.parts ≡ []
     without nothing =
-        no_units number sum.parts
-        (onto_sum number empty_bound ms (record { rising = tt; nonzero = tt }) (all_sums hs ms counts are))
+        no_units terms number by_units sum.parts
+        (onto_sum terms number empty_bound ms (record { rising = tt; nonzero = tt }) (all_sums hs ms counts are))
         (λ v.
-        onto-worth v number empty_bound ms
+        onto-worth v terms number empty_bound ms
         ∙ℚ zero_left (total (λ (l : Literal). worth v (bound_of l).parts) ms)
         ∙ℚ total_is (λ (l : Literal). worth v (bound_of l).parts) (λ (b : Held). worth v (form_at forms b.var)) (λ b said. said.parts v) hs ms counts are
         ∙ℚ nothing v)
@@ -401,7 +393,7 @@ size_above c nonzero = by_sign (is_below_zero c) refl
 
 -- ---- Clashes
 
-module _ (number : Numbering) (literal : ℕ → Literal) (factor : ℕ → Fraction) (ns : List Node) (s : State) (said : AreSaid number literal factor ns s) where
+module _ (terms : TellsTerms) (by_units : WorthIsByUnits) (order : InfinitesimalsAreOrdered) (number : Numbering) (literal : ℕ → Literal) (factor : ℕ → Fraction) (ns : List Node) (s : State) (said : AreSaid number literal factor ns s) where
   abbrev place : Position
   place = position_over ns s
 
@@ -478,7 +470,7 @@ module _ (number : Numbering) (literal : ℕ → Literal) (factor : ℕ → Frac
 
     pub check_contradicts : (ms : List Multiple) → AreMultiplesFor literal factor s.why ms → Contradicts number ms
     check_contradicts ms are =
-        contradicts number literal factor ns s clashing ms counts (subst (λ (ws : List (ℕ × Fraction)). AreMultiplesFor literal factor ws ms) (sym told) are)
+        contradicts number literal factor ns s terms by_units clashing ms counts (subst (λ (ws : List (ℕ × Fraction)). AreMultiplesFor literal factor ws ms) (sym told) are)
         form_total
         (below_same
         (apart side r.bound.standard (sum_at (length place.forms) row r.bounds).standard)
@@ -495,8 +487,8 @@ module _ (number : Numbering) (literal : ℕ → Literal) (factor : ℕ → Frac
   middle P (z ∷ zs) x ys h = middle P zs x ys h.1
 
   outside_by : (side : Side) (x y : Infinitesimal) → AreApart infinitesimal_cmp side x y → IsOutside (half side) x y
-  outside_by Lower x y h = infinitesimal_total.antisymm y x ∙ ap ordering_reverse h
-  outside_by Upper x y h = infinitesimal_total.antisymm x y ∙ ap ordering_reverse h
+  outside_by Lower x y h = order.total.antisymm y x ∙ ap ordering_reverse h
+  outside_by Upper x y h = order.total.antisymm x y ∙ ap ordering_reverse h
 
   module _ (b : Held) (other : ℕ) (clash : ClashesWith infinitesimal_cmp s.asserted b other) (b_said : IsSaid number literal factor ns s b) where
     abbrev against : Held
@@ -516,7 +508,7 @@ module _ (number : Numbering) (literal : ℕ → Literal) (factor : ℕ → Frac
 
     pub assert_contradicts : (ms : List Multiple) → AreMultiplesFor literal factor (both_once b.reason other) ms → Contradicts number ms
     assert_contradicts ms are =
-        contradicts number literal factor ns s both ms ((b_said, one_above), ((against_said, one_above), tt)) are
+        contradicts number literal factor ns s terms by_units both ms ((b_said, one_above), ((against_said, one_above), tt)) are
         (λ v.
         two_total (λ (h : Held). worth v (form_at place.forms h.var))
         ∙ℚ apart_none b.side (worth v (form_at place.forms b.var)) (worth v (form_at place.forms b.var)) (=ℚ_refl (worth v (form_at place.forms b.var))))
@@ -528,8 +520,8 @@ module _ (number : Numbering) (literal : ℕ → Literal) (factor : ℕ → Frac
         (two_total (λ (h : Held). h.value.standard)) (two_total (λ (h : Held). h.value.coefficient))
         (apart_below b.side b.value clash.value (outside_by b.side b.value clash.value clash.apart)))
 
-pub clashes_contradict : ClashesContradict
-clashes_contradict = record {
-  check = λ number literal factor ns s ms refuted said are. check_contradicts number literal factor ns s said refuted ms are;
-  assert = λ number literal factor ns s b other ms clash said b_said are. assert_contradicts number literal factor ns s said b other clash b_said ms are;
+pub clashes_contradict : TellsTerms → WorthIsByUnits → InfinitesimalsAreOrdered → ClashesContradict
+clashes_contradict terms by_units order = record {
+  check = λ number literal factor ns s ms refuted said are. check_contradicts terms by_units order number literal factor ns s said refuted ms are;
+  assert = λ number literal factor ns s b other ms clash said b_said are. assert_contradicts terms by_units order number literal factor ns s said b other clash b_said ms are;
 }

@@ -4,6 +4,7 @@ use Rattle.std.specs.Prelude.{option_map, unwrap_or, if◌then◌else◌}
 use Rattle.std.specs.Ordering.{is_lt}
 use Rattle.std.proofs.lemmas.List.{length-map}
 use Rattle.nz_fractions.specs.Fraction.{Fraction, whole, ◌<ℚ◌}
+use Rattle.nz_fractions.proofs.Signs.{above_back, above_nonzero, above_told, below_back, below_nonzero, below_told}
 use Rattle.nz_spec.specs.Infinitesimal.{Infinitesimal}
 use Rattle.nz_spec.specs.Term.{is_zero}
 use Rattle.nz_spec.specs.Bland as bland
@@ -22,7 +23,6 @@ use Rattle.nz_simplex.specs.State.{State, nonbasic_in, point_in, IsOver, IsSound
 use Rattle.nz_simplex.specs.Stored.{has_room_in, is_helping, state_of}
 use Rattle.nz_simplex.specs.Tabled.{rows_in}
 use Rattle.nz_simplex.proofs.Pointed.{numbers_at, point_marks, rows_told}
-use Rattle.nz_simplex.proofs.Signs.{above_back, above_nonzero, above_told, below_back, below_nonzero, below_told}
 use Rattle.nz_simplex.proofs.Undoing.{outside_told}
 
 -- ---- Sides

@@ -1,9 +1,10 @@
 -- Forms that join: units at 0, and a sum whose value isn't known yet. Nothing else changes.
-use Rattle.std.proofs.Common.{◌≡◌, ℕ, ◌+◌, ◌<◌, ◌≤◌, ◌⊎◌, inl, inr, Bool, true, false, List, [], ◌∷◌, ◌++◌, length, take, Option, Some, None, refl, sym, ap, ◌∙◌, subst, arith, append_assoc, length-append}
+use Rattle.std.proofs.Common.{◌≡◌, ℕ, ◌<◌, ◌≤◌, ◌⊎◌, inl, inr, Bool, true, false, List, [], ◌∷◌, ◌++◌, length, take, Option, Some, None, refl, sym, ap, ◌∙◌, subst, arith, append_assoc, length-append}
 use Rattle.std.specs.Prelude.{IsSome, nat_lt, is_some, option_map, slice_index_or, unwrap_or, if◌then◌else◌}
 use Rattle.std.specs.List.{AllByRecursion}
 use Rattle.std.proofs.Math.Path.{fun_ext}
 use Rattle.std.proofs.lemmas.List.{get_or-take, get_or_past, length-map}
+use Rattle.nz_lists.proofs.Numbers.{below, below_or_past, not_below}
 use Rattle.nz_lists.proofs.Places.{slice_index_or-map}
 use Rattle.nz_fractions.specs.Fraction.{Fraction}
 use Rattle.nz_spec.specs.Infinitesimal.{Infinitesimal, ◌=δ◌}
@@ -25,19 +26,7 @@ use Rattle.nz_simplex.specs.State.{State, nonbasic_in, value_in, point_in, IsOve
 use Rattle.nz_simplex.specs.Stored.{state_of}
 use Rattle.nz_simplex.specs.Tabled.{marks_in, rows_in}
 use Rattle.nz_simplex.proofs.Pointed.{AreKnown, known_marks, known_row, row_told}
-use Rattle.nz_simplex.proofs.SumsLonger.{sum_longer}
 use Rattle.nz_simplex.proofs.ValuesAfter.{point_is_value}
-
--- ---- Numbers
-
-pub below_or_past : (k n : ℕ) → (k < n) ⊎ (n ≤ k)
-below_or_past k n = grind arith
-
-pub lt_below : (k n : ℕ) → k < n → nat_lt k n ≡ true
-lt_below k n h = grind (arith, h)
-
-pub lt_past : (k n : ℕ) → n ≤ k → nat_lt k n ≡ false
-lt_past k n h = grind (arith, h)
 
 -- ---- What a table of forms becomes
 
@@ -87,10 +76,10 @@ module _ {S : Type 0} (stands_for : S → Infinitesimal) (origin : S) (zero_is :
   count_old = sym (length-map old (option_map stands_for)) ∙ sound.valued
 
   pub old_marks : (k : ℕ) → k < length old_tab.forms → nonbasic_in there k ≡ nonbasic_in here k
-  old_marks k h = joined.nonbasic k ∙ ap (λ (b : Bool). if b then nonbasic_in here k else nat_lt k (length (with_units old_tab.forms f))) (lt_below k (length old_tab.forms) h)
+  old_marks k h = joined.nonbasic k ∙ ap (λ (b : Bool). if b then nonbasic_in here k else nat_lt k (length (with_units old_tab.forms f))) (below k (length old_tab.forms) h)
 
   pub new_marks : (k : ℕ) → length old_tab.forms ≤ k → nonbasic_in there k ≡ nat_lt k (length (with_units old_tab.forms f))
-  new_marks k h = joined.nonbasic k ∙ ap (λ (b : Bool). if b then nonbasic_in here k else nat_lt k (length (with_units old_tab.forms f))) (lt_past k (length old_tab.forms) h)
+  new_marks k h = joined.nonbasic k ∙ ap (λ (b : Bool). if b then nonbasic_in here k else nat_lt k (length (with_units old_tab.forms f))) (not_below k (length old_tab.forms) h)
 
   pub old_values : (k : ℕ) → k < length old_tab.forms → value_in there k ≡ value_in here k
   old_values k h =
@@ -113,7 +102,7 @@ module _ {S : Type 0} (stands_for : S → Infinitesimal) (origin : S) (zero_is :
       by_place (inr past) =
           let few = (front_forms old_tab new_tab f joined).2 in
           ap (option_map stands_for) (get_or_past new k None (omega (arith, past, long)))
-          ∙ sym (ap (λ (b : Bool). if b then Some zero_infinitesimal else None) (lt_past k (length (with_units old_tab.forms f)) (omega (arith, past, few))))
+          ∙ sym (ap (λ (b : Bool). if b then Some zero_infinitesimal else None) (not_below k (length (with_units old_tab.forms f)) (omega (arith, past, few))))
 
   pub known_joined : AreKnown there
   known_joined k e = by_place (below_or_past k (length old_tab.forms))
@@ -206,7 +195,7 @@ module _ {S : Type 0} (stands_for : S → Infinitesimal) (origin : S) (zero_is :
           let equal : x =δ sum =
           values.one before k x sum ready.basis (omega (arith, inside, before_count)) (sound.right ns k x over_old (sym (old_values k inside) ∙ e)) sum_value in
           let longer : sum_at (length after.forms) c (bland.value_in after.point) =δ sum =
-          sum_longer (length before.forms) (length after.forms) c (bland.value_in before.point) (bland.value_in after.point) (omega (arith, more, before_count, after_count))
+          values.longer (length before.forms) (length after.forms) c (bland.value_in before.point) (bland.value_in after.point) (omega (arith, more, before_count, after_count))
           (λ m h. ap (λ (o : Option Infinitesimal). unwrap_or o zero_infinitesimal) (point_old m (omega (arith, h, before_count))))
           (λ m h. zero_new m (omega (arith, h, before_count))) in
           record {

@@ -3,6 +3,7 @@ use Rattle.std.proofs.Common.{◌≡◌, ℕ, suc, ◌+◌, ◌<◌, ◌≤◌, 
 use Rattle.std.specs.Prelude.{◌==◌, is_some, nat_lt, slice_index_or, if◌then◌else◌}
 use Rattle.std.proofs.Math.Path.{fun_ext}
 use Rattle.std.proofs.lemmas.List.{append-nil, get_or_past, length-map, length_push, map-append}
+use Rattle.nz_lists.proofs.Numbers.{below, below_or_past, not_below}
 use Rattle.nz_fractions.specs.Fraction.{Fraction}
 use Rattle.nz_spec.specs.Infinitesimal.{Infinitesimal}
 use Rattle.nz_spec.specs.Bland.{Point, Position, zero_infinitesimal}
@@ -20,7 +21,7 @@ use Rattle.nz_simplex.specs.Moves.{joined_over, unit_terms, with_all_units}
 use Rattle.nz_simplex.specs.State.{State, value_in, point_in, IsSound, position_over}
 use Rattle.nz_simplex.specs.Stored.{state_of}
 use Rattle.nz_simplex.specs.Tabled.{marks_in}
-use Rattle.nz_simplex.proofs.JoinedForms.{IsTabJoined, below_or_past, lt_below, lt_past, point_new, point_old}
+use Rattle.nz_simplex.proofs.JoinedForms.{IsTabJoined, point_new, point_old}
 use Rattle.nz_simplex.proofs.ValuesAfter.{equal_number, other_number}
 
 -- ---- Units
@@ -46,8 +47,8 @@ no_more p =
     either k false true e f = absurd (apart (below_or_past k (length p.forms)))
       where
         apart : (k < length p.forms) ⊎ (length p.forms ≤ k) → ⊥
-        apart (inl h) = true≢false (sym (lt_below k (length p.forms) h) ∙ e)
-        apart (inr h) = true≢false (sym f ∙ lt_past k (length p.forms + 0) (omega (arith, h)))
+        apart (inl h) = true≢false (sym (below k (length p.forms) h) ∙ e)
+        apart (inr h) = true≢false (sym f ∙ not_below k (length p.forms + 0) (omega (arith, h)))
 
 -- one unit first
 one_first : (p : Position) (u : Term) (us : List Term) → units_at (with_unit p u) us ≡ units_at p (u ∷ us)
@@ -67,21 +68,21 @@ one_first p u us =
     same : (k : ℕ) → (k < length p.forms) ⊎ ((k ≡ length p.forms) ⊎ (suc (length p.forms) ≤ k)) → point_with (with_unit p u) (length us) k ≡ point_with p (suc (length us)) k
     same k (inl h) =
         ap (λ (b : Bool). if b then (with_unit p u).point k else if nat_lt k (length (p.forms ++ parts_of u ∷ []) + length us) then Some zero_infinitesimal else (with_unit p u).point k)
-        (lt_below k (length (p.forms ++ parts_of u ∷ [])) (omega (arith, h, count)))
+        (below k (length (p.forms ++ parts_of u ∷ [])) (omega (arith, h, count)))
         ∙ ap (λ (b : Bool). if b then Some zero_infinitesimal else p.point k) (other_number k (length p.forms) (omega (arith, h)))
-        ∙ sym (ap (λ (b : Bool). if b then p.point k else if nat_lt k (length p.forms + suc (length us)) then Some zero_infinitesimal else p.point k) (lt_below k (length p.forms) h))
+        ∙ sym (ap (λ (b : Bool). if b then p.point k else if nat_lt k (length p.forms + suc (length us)) then Some zero_infinitesimal else p.point k) (below k (length p.forms) h))
     same k (inr (inl e)) =
         ap (λ (b : Bool). if b then (with_unit p u).point k else if nat_lt k (length (p.forms ++ parts_of u ∷ []) + length us) then Some zero_infinitesimal else (with_unit p u).point k)
-        (lt_below k (length (p.forms ++ parts_of u ∷ [])) (omega (arith, e, count)))
+        (below k (length (p.forms ++ parts_of u ∷ [])) (omega (arith, e, count)))
         ∙ ap (λ (b : Bool). if b then Some zero_infinitesimal else p.point k) (equal_number k (length p.forms) e)
         ∙ sym
-        (ap (λ (b : Bool). if b then p.point k else if nat_lt k (length p.forms + suc (length us)) then Some zero_infinitesimal else p.point k) (lt_past k (length p.forms) (omega (arith, e)))
-        ∙ ap (λ (b : Bool). if b then Some zero_infinitesimal else p.point k) (lt_below k (length p.forms + suc (length us)) (omega (arith, e))))
+        (ap (λ (b : Bool). if b then p.point k else if nat_lt k (length p.forms + suc (length us)) then Some zero_infinitesimal else p.point k) (not_below k (length p.forms) (omega (arith, e)))
+        ∙ ap (λ (b : Bool). if b then Some zero_infinitesimal else p.point k) (below k (length p.forms + suc (length us)) (omega (arith, e))))
     same k (inr (inr h)) =
         ap (λ (b : Bool). if b then (with_unit p u).point k else if nat_lt k (length (p.forms ++ parts_of u ∷ []) + length us) then Some zero_infinitesimal else (with_unit p u).point k)
-        (lt_past k (length (p.forms ++ parts_of u ∷ [])) (omega (arith, h, count)))
+        (not_below k (length (p.forms ++ parts_of u ∷ [])) (omega (arith, h, count)))
         ∙ ap₂ (λ (b c : Bool). if b then Some zero_infinitesimal else if c then Some zero_infinitesimal else p.point k) sums (other_number k (length p.forms) (omega (arith, h)))
-        ∙ sym (ap (λ (b : Bool). if b then p.point k else if nat_lt k (length p.forms + suc (length us)) then Some zero_infinitesimal else p.point k) (lt_past k (length p.forms) (omega (arith, h))))
+        ∙ sym (ap (λ (b : Bool). if b then p.point k else if nat_lt k (length p.forms + suc (length us)) then Some zero_infinitesimal else p.point k) (not_below k (length p.forms) (omega (arith, h))))
       where
         more : length (p.forms ++ parts_of u ∷ []) + length us ≡ length p.forms + suc (length us)
         more = omega (arith, count)
@@ -147,13 +148,13 @@ module _ {S : Type 0} (stands_for : S → Infinitesimal) (origin : S) (zero_is :
       by_place (inl h) =
           point_old stands_for origin zero_is old_tab new_tab trail old new why f joined long front fresh sound k h
           ∙ sym (ap (λ (b : Bool). if b then point_in here k else if nat_lt k (length before.forms + length terms) then Some zero_infinitesimal else point_in here k)
-          (lt_below k (length before.forms) (omega (arith, h, before_count))))
+          (below k (length before.forms) (omega (arith, h, before_count))))
       by_place (inr h) =
           point_new stands_for origin zero_is old_tab new_tab trail old new why f joined long front fresh sound k h
           ∙ ap (λ (n : ℕ). if nat_lt k n then Some zero_infinitesimal else None) (sym units)
           ∙ ap (λ (o : Option Infinitesimal). if nat_lt k (length before.forms + length terms) then Some zero_infinitesimal else o) (sym (past_none k h))
           ∙ sym (ap (λ (b : Bool). if b then point_in here k else if nat_lt k (length before.forms + length terms) then Some zero_infinitesimal else point_in here k)
-          (lt_past k (length before.forms) (omega (arith, h, before_count))))
+          (not_below k (length before.forms) (omega (arith, h, before_count))))
 
   forms_units : map (parts_over ns) (with_units old_tab.forms f) ≡ before.forms ++ map parts_of terms
   forms_units =

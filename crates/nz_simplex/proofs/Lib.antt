@@ -22,11 +22,9 @@ pub mod Renewing
 pub mod RowValues
 pub mod Saying
 pub mod Settling
-pub mod Signs
 pub mod Standings
 pub mod Stepping
 pub mod SumsInOrder
-pub mod SumsLonger
 pub mod Totals
 pub mod Undoing
 pub mod ValuesAfter

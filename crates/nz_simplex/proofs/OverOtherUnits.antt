@@ -4,14 +4,15 @@ use Rattle.std.specs.Prelude.{◌&&◌, ◌||◌}
 use Rattle.std.specs.List.{list_all, AllByRecursion}
 use Rattle.nz_fractions.specs.Fraction.{Fraction, whole, ◌=ℚ◌, ◌+ℚ◌, ◌*ℚ◌, Sum, Product, fraction_lt, outcome}
 use Rattle.nz_fractions.proofs.Laws.{=ℚ-from_same, =ℚ_sym}
+use Rattle.nz_fractions.proofs.Identities.{zero_left}
+use Rattle.nz_fractions.proofs.Solver.{◌∙ℚ◌}
 use Rattle.nz_spec.specs.Term.{Term, is_zero}
 use Rattle.nz_spec.specs.Form.{Numbering, Part}
 use Rattle.nz_spec.specs.Literal.{Literal, term_literal, is_at_most, is_below}
 use Rattle.nz_spec.specs.LinearLiteral.{is_without_units}
-use Rattle.nz_spec.specs.Basis.{Valuation, worth}
+use Rattle.nz_spec.specs.Same.{TellsTerms}
+use Rattle.nz_spec.specs.Basis.{Valuation, worth, WorthIsByUnits}
 use Rattle.nz_spec.specs.Farkas.{Bound, Multiple, bound_of, bound_scaled, bounds_joined, empty_bound, is_linear_literal, is_multiple, multiples_onto, sum_of_multiples}
-use Rattle.nz_spec.proofs.FormValues.{zero_left}
-use Rattle.nz_spec.proofs.FractionSolver.{◌∙ℚ◌}
 use Rattle.nz_simplex.specs.Contradictions.{AreSum, Contradicts}
 use Rattle.nz_simplex.specs.OtherUnits.{ContradictionsStay, other_literal, other_multiple, other_part}
 use Rattle.nz_simplex.proofs.SumsInOrder.{no_units, onto_sum}
@@ -83,7 +84,7 @@ module _ (other : Term → Term) where
     other_sums [] h = tt
     other_sums (m ∷ ms) h = (h.0, other_sums ms h.1)
 
-    module _ (ms : List Multiple) (c : Contradicts number ms) (sums : AllByRecursion (λ (m : Multiple). AreSum later (bound_of (other_literal other m.literal)).parts) ms) where
+    module _ (terms : TellsTerms) (units : WorthIsByUnits) (ms : List Multiple) (c : Contradicts number ms) (sums : AllByRecursion (λ (m : Multiple). AreSum later (bound_of (other_literal other m.literal)).parts) ms) where
       abbrev sum : Bound
       sum = (sum_of_multiples number ms).result
 
@@ -96,15 +97,15 @@ module _ (other : Term → Term) where
       -- the units come to nothing
       nothing : (v : Valuation) → total (λ (l : Literal). worth v (bound_of l).parts) ms =ℚ whole (pos 0)
       nothing v =
-          =ℚ_sym (onto-worth v number empty_bound ms ∙ℚ zero_left (total (λ (l : Literal). worth v (bound_of l).parts) ms))
+          =ℚ_sym (onto-worth v terms number empty_bound ms ∙ℚ zero_left (total (λ (l : Literal). worth v (bound_of l).parts) ms))
           ∙ℚ =ℚ-from_same (ap (worth v) (no_parts sum.parts both.0))
 
       without : sum_then.parts ≡ []
       without =
-          no_units later sum_then.parts
-          (onto_sum later empty_bound (map (other_multiple other) ms) (record { rising = tt; nonzero = tt }) (other_sums ms sums))
+          no_units terms later units sum_then.parts
+          (onto_sum terms later empty_bound (map (other_multiple other) ms) (record { rising = tt; nonzero = tt }) (other_sums ms sums))
           (λ v.
-          onto-worth v later empty_bound (map (other_multiple other) ms)
+          onto-worth v terms later empty_bound (map (other_multiple other) ms)
           ∙ℚ zero_left (total (λ (l : Literal). worth v (bound_of l).parts) (map (other_multiple other) ms))
           ∙ℚ =ℚ-from_same (total_worth v ms)
           ∙ℚ nothing (λ t. v (other t)))
@@ -117,5 +118,5 @@ module _ (other : Term → Term) where
             (ap₂ (λ (q : Fraction) (b : Bool). fraction_lt q (whole (pos 0)) || is_zero q && b) (same_limits empty_bound empty_bound ms refl) (all_strict empty_bound empty_bound ms refl) ∙ both.1);
       }
 
-pub contradictions_stay : ContradictionsStay
-contradictions_stay number later other ms c sums = stays other number later ms c sums
+pub contradictions_stay : TellsTerms → WorthIsByUnits → ContradictionsStay
+contradictions_stay terms units number later other ms c sums = stays other number later terms units ms c sums

@@ -3,15 +3,15 @@ use Rattle.std.proofs.Common.{◌≡◌, ℕ, ◌<◌, Bool, true, false, List, 
 use Rattle.std.specs.Prelude.{IsSome, option_map, unwrap_or, if◌then◌else◌}
 use Rattle.std.proofs.Math.Path.{fun_ext}
 use Rattle.nz_fractions.specs.Fraction.{Fraction, whole}
+use Rattle.nz_fractions.proofs.Signs.{above_told, below_told}
 use Rattle.nz_spec.specs.Infinitesimal.{Infinitesimal}
 use Rattle.nz_spec.specs.Term.{is_zero}
 use Rattle.nz_spec.specs.Basis.{Coefficients}
 use Rattle.nz_spec.specs.BasisMoves.{numbers}
 use Rattle.nz_spec.specs.Bland as bland
-use Rattle.nz_spec.specs.Bland.{Breaks, CanHelp, HasValue, IsRefutation, Position, PositionsHaveValues, bound_on, other_side, sum_at, value_in}
+use Rattle.nz_spec.specs.Bland.{Breaks, CanHelp, HasValue, IsRefutation, NoHelpRefutes, Position, PositionsHaveValues, bound_on, other_side, sum_at, value_in}
 use Rattle.nz_spec.specs.InfinitesimalMoves.{InfinitesimalsMove}
 use Rattle.nz_spec.specs.Table.{Node}
-use Rattle.nz_spec.proofs.BlandRefutes.{held_back, held_down, held_up, outside-equal, outside-sum}
 use Rattle.nz_tab.specs.Tables.{IsTableau, Table}
 use Rattle.nz_trail.specs.Bounds as trails
 use Rattle.nz_trail.specs.Bounds.{TrailState}
@@ -26,25 +26,6 @@ use Rattle.nz_simplex.specs.Stored.{nonbasic_numbers, one_or_none, state_of}
 use Rattle.nz_simplex.specs.Tabled.{rows_in}
 use Rattle.nz_simplex.proofs.Helping.{bound_told, half_other}
 use Rattle.nz_simplex.proofs.Pointed.{row_told}
-use Rattle.nz_simplex.proofs.Signs.{above_told, below_told}
-
--- the row by which a form has its value refutes its bound
-pub refuted : (p : Position) (side : bland.Side) (bound : Infinitesimal) (i : ℕ) (breaks : Breaks p side bound i) → ((j : ℕ) → CanHelp p i (other_side side) j → ⊥)
-    → IsRefutation p i side bound breaks.has.row (held_back p side breaks.has.row)
-refuted p side bound i breaks none =
-    let row = breaks.has.row in
-    record {
-      listed = breaks.listed;
-      is_row = breaks.has.is_row;
-      bounded = breaks.bounded;
-      above_zero = λ k h. (held_up p side bound i breaks k (none k) h).0;
-      below_zero = λ k h. (held_down p side bound i breaks k (none k) h).0;
-      short =
-          outside-sum side (length p.forms) row (value_in p.point) (held_back p side row) bound
-          (λ k inside h. (held_up p side bound i breaks k (none k) h).1)
-          (λ k inside h. (held_down p side bound i breaks k (none k) h).1)
-          (outside-equal side bound breaks.value (sum_at (length p.forms) row (value_in p.point)) breaks.has.at breaks.outside);
-    }
 
 -- ---- The multipliers
 
@@ -56,23 +37,29 @@ stands_there : (o : Option Held) (x : Infinitesimal) → option_map (λ (b : Hel
 stands_there None x e = absurd (cc)
 stands_there (Some b) x e = refl
 
-module _ (ns : List Node) (s : State) (side : Side) (bound : Infinitesimal) (i : ℕ) (breaks : Breaks (position_over ns s) (half side) bound i) (none : (j : ℕ) → CanHelp (position_over ns s) i (other_side (half side)) j → ⊥) where
+module _ (law : NoHelpRefutes) (ns : List Node) (s : State) (side : Side) (bound : Infinitesimal) (i : ℕ) (breaks : Breaks (position_over ns s) (half side) bound i)
+    (none : (j : ℕ) → CanHelp (position_over ns s) i (other_side (half side)) j → ⊥) where
   abbrev row : Coefficients
   row = breaks.has.row
 
   abbrev place : Position
   place = position_over ns s
 
+  abbrev bounds : ℕ → Infinitesimal
+  bounds = (law.found place (half side) bound i breaks none).0
+
+  refuted : IsRefutation place i (half side) bound row bounds
+  refuted = (law.found place (half side) bound i breaks none).1
+
   -- what holds a form back stands
   held_stands : (k : ℕ) (b : Bool) → is_zero (row k) ≡ false → is_below_zero (row k) ≡ b → IsSome (standing s.asserted k (if b then side else trails.other_side side))
   held_stands k true nonzero below =
-      stands_there (standing s.asserted k side) (held_back place (half side) row k)
-      (sym (bound_told ns s side k) ∙ (held_down place (half side) bound i breaks k (none k) (below_told (row k) below)).0)
+      stands_there (standing s.asserted k side) (bounds k) (sym (bound_told ns s side k) ∙ refuted.below_zero k (below_told (row k) below))
   held_stands k false nonzero above =
-      stands_there (standing s.asserted k (trails.other_side side)) (held_back place (half side) row k)
+      stands_there (standing s.asserted k (trails.other_side side)) (bounds k)
       (sym (bound_told ns s (trails.other_side side) k)
       ∙ ap (λ (h : bland.Side). bound_on h place k) (sym (half_other side))
-      ∙ (held_up place (half side) bound i breaks k (none k) (above_told (row k) nonzero above)).0)
+      ∙ refuted.above_zero k (above_told (row k) nonzero above))
 
   told_multiplier : (k : ℕ) → stored.held_back s.asserted side row k ≡ multiplier s.asserted side row k
   told_multiplier k = by_test (is_zero (row k)) refl
@@ -96,8 +83,8 @@ module _ (ns : List Node) (s : State) (side : Side) (bound : Infinitesimal) (i :
     side = side;
     bound = bound;
     row = row;
-    bounds = held_back place (half side) row;
-    refutes = refuted place (half side) bound i breaks none;
+    bounds = bounds;
+    refutes = refuted;
     why = e;
   }
 
@@ -113,7 +100,7 @@ sound_why s why sound = record {
 }
 
 module _ {S : Type 0} (stands_for : S → Infinitesimal) (tab : Table) (trail : TrailState S) (values : List (Option S)) (why : List (ℕ × Fraction)) (sound : IsSound (state_of stands_for tab trail values why))
-    (law : PositionsHaveValues) (infinitesimals : InfinitesimalsMove) (tableau : IsTableau tab) (i : ℕ) (listed : i < length tab.forms) (basic : nonbasic_in (state_of stands_for tab trail values why) i ≡ false) (ns : List Node) (over : IsOver ns (state_of stands_for tab trail values why)) where
+    (values_law : PositionsHaveValues) (refutes : NoHelpRefutes) (infinitesimals : InfinitesimalsMove) (tableau : IsTableau tab) (i : ℕ) (listed : i < length tab.forms) (basic : nonbasic_in (state_of stands_for tab trail values why) i ≡ false) (ns : List Node) (over : IsOver ns (state_of stands_for tab trail values why)) where
   abbrev here : State
   here = state_of stands_for tab trail values why
 
@@ -136,7 +123,7 @@ module _ {S : Type 0} (stands_for : S → Infinitesimal) (tab : Table) (trail : 
     has = record {
       row = rows_in tab i;
       is_row = row_told stands_for tab trail values why sound tableau ns over i listed basic;
-      at = law.one spot i breaks.value own_sum (sound.ready ns over).basis breaks.listed breaks.has own_value;
+      at = values_law.one spot i breaks.value own_sum (sound.ready ns over).basis breaks.listed breaks.has own_value;
     };
     outside = breaks.outside;
   }
@@ -146,5 +133,5 @@ module _ {S : Type 0} (stands_for : S → Infinitesimal) (tab : Table) (trail : 
       → told_why ≡ (limit.reason, whole (pos 1)) ∷ flat_map (stored.held_back here.asserted side (rows_in tab i)) (nonbasic_numbers here)
       → IsRefuted ns (state_of stands_for tab trail values told_why)
   explained side limit told_why stands breaks none e =
-      is_refuted ns here side (stands_for limit.value) i (breaks_by_row (half side) (stands_for limit.value) breaks) none told_why
-      (e ∙ told_multipliers ns here side (stands_for limit.value) i (breaks_by_row (half side) (stands_for limit.value) breaks) none (told_on stands_for i side limit) stands)
+      is_refuted refutes ns here side (stands_for limit.value) i (breaks_by_row (half side) (stands_for limit.value) breaks) none told_why
+      (e ∙ told_multipliers refutes ns here side (stands_for limit.value) i (breaks_by_row (half side) (stands_for limit.value) breaks) none (told_on stands_for i side limit) stands)

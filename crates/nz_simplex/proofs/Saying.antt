@@ -1,16 +1,16 @@
 -- Literals that say bounds of forms.
-use Rattle.std.proofs.Common.{◌≡◌, Bool, true, false, true≢false, List, [], ◌∷◌, map, pos, negsuc, refl, sym, ◌∙◌}
+use Rattle.std.proofs.Common.{◌≡◌, false, List, [], ◌∷◌, map, pos, negsuc, refl}
 use Rattle.std.specs.List.{AllByRecursion}
 use Rattle.nz_ints.proofs.Ring.{Atom, Literal, ◌⊕◌, ◌⊗◌, Minus}
 use Rattle.nz_fractions.specs.Fraction.{Fraction, whole, ◌=ℚ◌, ◌*ℚ◌, neg_ℚ}
-use Rattle.nz_fractions.proofs.Laws.{=ℚ_refl, =ℚ_sym}
-use Rattle.nz_fractions.proofs.Order.{fraction_eq-same, same-fraction_eq}
+use Rattle.nz_fractions.proofs.Laws.{=ℚ_refl}
 use Rattle.nz_fractions.proofs.Arithmetic.{+ℚ-same, neg_ℚ-same}
+use Rattle.nz_fractions.proofs.Identities.{neg-nonzero}
+use Rattle.nz_fractions.proofs.Solver.{◌∙ℚ◌, solve}
 use Rattle.nz_spec.specs.Term.{is_zero}
 use Rattle.nz_spec.specs.Form.{Numbering, Part, AreRising, MayPrecede, negated_part}
+use Rattle.nz_spec.specs.FormOf.{FormsAreSums}
 use Rattle.nz_spec.specs.Basis.{Valuation, worth}
-use Rattle.nz_spec.proofs.FormSums.{forms_are_sums, neg-neg}
-use Rattle.nz_spec.proofs.FractionSolver.{◌∙ℚ◌, solve}
 use Rattle.nz_simplex.specs.Contradictions.{AreSum}
 use Rattle.nz_simplex.specs.SaidBounds.{LiteralsSayBounds, SumsStay}
 use Rattle.nz_simplex.proofs.SumsInOrder.{scaled_sum}
@@ -24,15 +24,6 @@ negated_worth v (p ∷ ps) =
     +ℚ-same (=ℚ_refl (neg_ℚ p.coefficient *ℚ v p.unit)) (negated_worth v ps)
     ∙ℚ solve (p.coefficient ∷ v p.unit ∷ worth v ps ∷ []) (Minus (Atom 0) ⊗ Atom 1 ⊕ Minus (Atom 2)) (Minus (Atom 0 ⊗ Atom 1 ⊕ Atom 2)) refl
 
-negated_nonzero : (q : Fraction) → is_zero q ≡ false → is_zero (neg_ℚ q) ≡ false
-negated_nonzero q h = by_test (is_zero (neg_ℚ q)) refl
-  where
-    by_test : (b : Bool) → is_zero (neg_ℚ q) ≡ b → b ≡ false
-    by_test false e = refl
-    by_test true e =
-        let none : q =ℚ whole (pos 0) = =ℚ_sym (neg-neg q) ∙ℚ neg_ℚ-same (same-fraction_eq (neg_ℚ q) (whole (pos 0)) e) ∙ℚ solve [] (Minus (Literal (pos 0))) (Literal (pos 0)) refl in
-        absurd (true≢false (sym (fraction_eq-same q (whole (pos 0)) none) ∙ h))
-
 module _ (number : Numbering) where
   negated_behind : (p : Part) (ps : List Part) → AllByRecursion (MayPrecede number p) ps → AllByRecursion (MayPrecede number (negated_part p)) (map negated_part ps)
   negated_behind p [] h = tt
@@ -44,7 +35,7 @@ module _ (number : Numbering) where
 
   all_negated_nonzero : (ps : List Part) → AllByRecursion (λ (p : Part). is_zero p.coefficient ≡ false) ps → AllByRecursion (λ (p : Part). is_zero p.coefficient ≡ false) (map negated_part ps)
   all_negated_nonzero [] h = tt
-  all_negated_nonzero (p ∷ ps) h = (negated_nonzero p.coefficient h.0, all_negated_nonzero ps h.1)
+  all_negated_nonzero (p ∷ ps) h = (neg-nonzero p.coefficient h.0, all_negated_nonzero ps h.1)
 
   negated_sum : (ps : List Part) → AreSum number ps → AreSum number (map negated_part ps)
   negated_sum ps s = record { rising = negated_rising ps s.rising; nonzero = all_negated_nonzero ps s.nonzero }
@@ -91,9 +82,9 @@ literals_say_bounds = record {
   );
 }
 
-pub sums_stay : SumsStay
-sums_stay = record {
-  form = λ number t. let s = forms_are_sums number t in record { rising = s.rising; nonzero = s.nonzero };
+pub sums_stay : FormsAreSums → SumsStay
+sums_stay sums = record {
+  form = λ number t. let s = sums number t in record { rising = s.rising; nonzero = s.nonzero };
   scaled = scaled_sum;
   negated = negated_sum;
   scaled_worth = scaled-worth;

@@ -7,15 +7,13 @@ use Rattle.nz_fractions.specs.Fraction.{Fraction, whole, ◌=ℚ◌, ◌+ℚ◌,
 use Rattle.nz_fractions.proofs.Laws.{=ℚ_refl, =ℚ-from_same, =ℚ_sym}
 use Rattle.nz_fractions.proofs.Order.{fraction_eq-same}
 use Rattle.nz_fractions.proofs.Arithmetic.{+ℚ-zero}
+use Rattle.nz_fractions.proofs.Solver.{◌∙ℚ◌, plus_right}
 use Rattle.nz_spec.specs.Term.{Term, is_zero}
 use Rattle.nz_spec.specs.Computation.{operated, at_once, turned_into}
 use Rattle.nz_spec.specs.Form.{Numbering, Part, AreRising, MayPrecede, part_alone, part_joined, parts_joined, parts_scaled, with_part}
-use Rattle.nz_spec.specs.Same.{are_same_term}
-use Rattle.nz_spec.specs.Basis.{Valuation, unit_coefficient, worth}
+use Rattle.nz_spec.specs.Same.{are_same_term, TellsTerms}
+use Rattle.nz_spec.specs.Basis.{Valuation, unit_coefficient, worth, WorthIsByUnits}
 use Rattle.nz_spec.specs.Farkas.{Bound, Multiple, bound_of, bound_scaled, bounds_joined, multiples_onto}
-use Rattle.nz_spec.proofs.FormWorth.{worth_is_by_units}
-use Rattle.nz_spec.proofs.FractionSolver.{◌∙ℚ◌, plus_right}
-use Rattle.nz_spec.proofs.Same.{one_term, same_term}
 use Rattle.nz_simplex.specs.Contradictions.{AreSum}
 
 abbrev IsNonzero : Part → Type 0
@@ -47,13 +45,6 @@ module _ (number : Numbering) where
       by_test true = rest
       by_test false = (h, rest)
 
-  lesser_precedes : (p q : Part) → number p.unit < number q.unit → MayPrecede number p q
-  lesser_precedes p q h = (omega (arith, h), by_test (are_same_term p.unit q.unit) refl)
-    where
-      by_test : (b : Bool) → are_same_term p.unit q.unit ≡ b → b ≡ false
-      by_test false e = refl
-      by_test true e = absurd (omega (arith, h, ap number (same_term p.unit q.unit e)))
-
   -- ---- Multiples
 
   scaled_all : (P : Part → Type 0) (m : Fraction) (ps : List Part) → ((p : Part) (c : Fraction) → P p → is_zero c ≡ false → P (record { coefficient = c; unit = p.unit }))
@@ -75,7 +66,15 @@ module _ (number : Numbering) where
     nonzero = scaled_all IsNonzero m ps (λ p c k e. e) s.nonzero;
   }
 
-  -- ---- A part that joins
+-- ---- A part that joins
+
+module _ (terms : TellsTerms) (number : Numbering) where
+  lesser_precedes : (p q : Part) → number p.unit < number q.unit → MayPrecede number p q
+  lesser_precedes p q h = (omega (arith, h), by_test (are_same_term p.unit q.unit) refl)
+    where
+      by_test : (b : Bool) → are_same_term p.unit q.unit ≡ b → b ≡ false
+      by_test false e = refl
+      by_test true e = absurd (omega (arith, h, ap number (terms.same p.unit q.unit e)))
 
   abbrev joined_by : Part → List Part → Part → Bool → Bool → List Part
   joined_by p ps q same before =
@@ -89,7 +88,7 @@ module _ (number : Numbering) where
   joined_all P (p ∷ ps) q f h k = by_tests (are_same_term p.unit q.unit) (nat_lt (number q.unit) (number p.unit)) (joined_all P ps q f h.1 k)
     where
       by_tests : (b c : Bool) → AllByRecursion P (part_joined number Sum ps q).result → AllByRecursion P (joined_by p ps q b c)
-      by_tests true c rest = with_all P p.unit (outcome Sum p.coefficient q.coefficient) ps (λ e. f p (outcome Sum p.coefficient q.coefficient) h.0 e) h.1
+      by_tests true c rest = with_all number P p.unit (outcome Sum p.coefficient q.coefficient) ps (λ e. f p (outcome Sum p.coefficient q.coefficient) h.0 e) h.1
       by_tests false true rest = (k, h)
       by_tests false false rest = (h.0, rest)
 
@@ -98,7 +97,7 @@ module _ (number : Numbering) where
   joined_rising (p ∷ ps) q h = by_tests (are_same_term p.unit q.unit) (nat_lt (number q.unit) (number p.unit)) refl refl (joined_rising ps q h.1)
     where
       by_tests : (b c : Bool) → are_same_term p.unit q.unit ≡ b → nat_lt (number q.unit) (number p.unit) ≡ c → AreRising number (part_joined number Sum ps q).result → AreRising number (joined_by p ps q b c)
-      by_tests true c same before rest = with_rising p.unit (outcome Sum p.coefficient q.coefficient) ps (all_weaker (λ r k. k) ps h.0) h.1
+      by_tests true c same before rest = with_rising number p.unit (outcome Sum p.coefficient q.coefficient) ps (all_weaker (λ r k. k) ps h.0) h.1
       by_tests false true same before rest =
           let below : number q.unit < number p.unit = less_from (number q.unit) (number p.unit) before in
           ((lesser_precedes q p below, all_weaker (λ r k. lesser_precedes q r (omega (arith, below, k.0))) ps h.0), h)
@@ -117,7 +116,7 @@ module _ (number : Numbering) where
   onto_sum x [] s h = s
   onto_sum x (m ∷ ms) s h =
       let y = (bound_scaled m.multiplier (bound_of m.literal)).result in
-      onto_sum (bounds_joined number x y).result ms (joined_sum x.parts y.parts s (scaled_sum m.multiplier (bound_of m.literal).parts h.0).nonzero) h.1
+      onto_sum (bounds_joined number x y).result ms (joined_sum x.parts y.parts s (scaled_sum number m.multiplier (bound_of m.literal).parts h.0).nonzero) h.1
 
   -- ---- What is worth nothing
 
@@ -129,15 +128,15 @@ module _ (number : Numbering) where
       by_test : (b : Bool) → are_same_term q.unit p.unit ≡ b → unit_coefficient p.unit qs =ℚ whole (pos 0) → (if b then q.coefficient +ℚ unit_coefficient p.unit qs else unit_coefficient p.unit qs) =ℚ whole (pos 0)
       by_test false e rest = rest
       by_test true e rest =
-          let same : are_same_term p.unit q.unit ≡ true = subst (λ (u : Term). are_same_term u q.unit ≡ true) (same_term q.unit p.unit e) (one_term q.unit) in
+          let same : are_same_term p.unit q.unit ≡ true = subst (λ (u : Term). are_same_term u q.unit ≡ true) (terms.same q.unit p.unit e) (terms.one q.unit) in
           absurd (true≢false (sym same ∙ h.0.1))
 
-  pub no_units : (ps : List Part) → AreSum number ps → ((v : Valuation) → worth v ps =ℚ whole (pos 0)) → ps ≡ []
-  no_units [] s h = refl
-  no_units (p ∷ ps) s h =
-      let none : unit_coefficient p.unit (p ∷ ps) =ℚ whole (pos 0) = (worth_is_by_units (p ∷ ps) []).0 h p.unit in
+  pub no_units : WorthIsByUnits → (ps : List Part) → AreSum number ps → ((v : Valuation) → worth v ps =ℚ whole (pos 0)) → ps ≡ []
+  no_units units [] s h = refl
+  no_units units (p ∷ ps) s h =
+      let none : unit_coefficient p.unit (p ∷ ps) =ℚ whole (pos 0) = (units (p ∷ ps) []).0 h p.unit in
       let own : unit_coefficient p.unit (p ∷ ps) ≡ (p.coefficient +ℚ unit_coefficient p.unit ps) =
-      ap (λ (b : Bool). if b then p.coefficient +ℚ unit_coefficient p.unit ps else unit_coefficient p.unit ps) (one_term p.unit) in
+      ap (λ (b : Bool). if b then p.coefficient +ℚ unit_coefficient p.unit ps else unit_coefficient p.unit ps) (terms.one p.unit) in
       let zero : p.coefficient =ℚ whole (pos 0) =
       =ℚ_sym (+ℚ-zero p.coefficient) ∙ℚ plus_right p.coefficient (=ℚ_sym (none_behind p ps s.rising.0)) ∙ℚ =ℚ-from_same (sym own) ∙ℚ none in
       absurd (true≢false (sym (fraction_eq-same p.coefficient (whole (pos 0)) zero) ∙ s.nonzero.0))

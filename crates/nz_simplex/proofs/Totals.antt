@@ -7,16 +7,15 @@ use Rattle.nz_fractions.specs.Fraction.{Fraction, whole, ◌=ℚ◌, ◌+ℚ◌,
 use Rattle.nz_fractions.proofs.Laws.{=ℚ_refl, =ℚ-from_same, =ℚ_sym}
 use Rattle.nz_fractions.proofs.Order.{same-fraction_eq}
 use Rattle.nz_fractions.proofs.Arithmetic.{+ℚ_comm, +ℚ_assoc, +ℚ-zero, +ℚ-same, *ℚ_assoc, *ℚ-+ℚ, outcome-sum, outcome-product}
+use Rattle.nz_fractions.proofs.Identities.{times_zero, zero_left, zero_times}
+use Rattle.nz_fractions.proofs.Solver.{◌∙ℚ◌, plus_left, plus_right, solve, times_left, times_right}
 use Rattle.nz_spec.specs.Term.{Term, is_zero}
 use Rattle.nz_spec.specs.Computation.{operated, at_once, turned_into}
 use Rattle.nz_spec.specs.Form.{Numbering, Part, part_alone, part_joined, parts_joined, parts_scaled, with_part}
 use Rattle.nz_spec.specs.Literal.{Literal}
-use Rattle.nz_spec.specs.Same.{are_same_term}
+use Rattle.nz_spec.specs.Same.{are_same_term, TellsTerms}
 use Rattle.nz_spec.specs.Basis.{Valuation, worth}
 use Rattle.nz_spec.specs.Farkas.{Bound, Multiple, bound_of, bound_scaled, bounds_joined, multiples_onto}
-use Rattle.nz_spec.proofs.FormValues.{times_zero, zero_left, zero_times}
-use Rattle.nz_spec.proofs.FractionSolver.{◌∙ℚ◌, plus_left, plus_right, solve, times_left, times_right}
-use Rattle.nz_spec.proofs.Same.{same_term}
 
 -- the sum of what literals have, each times its multiplier
 abbrev pub total : (Literal → Fraction) → List Multiple → Fraction
@@ -40,7 +39,7 @@ module _ (v : Valuation) where
       ∙ℚ +ℚ-same (times_left (v p.unit) (outcome-product m p.coefficient) ∙ℚ *ℚ_assoc m p.coefficient (v p.unit)) (scaled-worth m ps)
       ∙ℚ =ℚ_sym (*ℚ-+ℚ m (p.coefficient *ℚ v p.unit) (worth v ps))
 
-  module _ (number : Numbering) where
+  module _ (terms : TellsTerms) (number : Numbering) where
     met : (p : Part) (ps : List Part) (q : Part) → p.unit ≡ q.unit
         → worth v (with_part p.unit (outcome Sum p.coefficient q.coefficient) ps) =ℚ (worth v (p ∷ ps) +ℚ q.coefficient *ℚ v q.unit)
     met p ps q same =
@@ -53,7 +52,7 @@ module _ (v : Valuation) where
         → worth v (part_joined number Sum ps q).result =ℚ (worth v ps +ℚ q.coefficient *ℚ v q.unit)
         → worth v (if b then turned_into (λ d. with_part p.unit d ps) (operated Sum p.coefficient q.coefficient) else if c then at_once (part_alone Sum q ∷ p ∷ ps) else turned_into (λ rs. p ∷ rs) (part_joined number Sum ps q)).result
         =ℚ (worth v (p ∷ ps) +ℚ q.coefficient *ℚ v q.unit)
-    joined_by p ps q true c e rest = met p ps q (same_term p.unit q.unit e)
+    joined_by p ps q true c e rest = met p ps q (terms.same p.unit q.unit e)
     joined_by p ps q false true e rest = +ℚ_comm (q.coefficient *ℚ v q.unit) (worth v (p ∷ ps))
     joined_by p ps q false false e rest =
         plus_right (p.coefficient *ℚ v p.unit) rest ∙ℚ =ℚ_sym (+ℚ_assoc (p.coefficient *ℚ v p.unit) (worth v ps) (q.coefficient *ℚ v q.unit))

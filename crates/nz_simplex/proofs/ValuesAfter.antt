@@ -7,7 +7,6 @@ use Rattle.nz_spec.specs.Infinitesimal.{Infinitesimal, ◌=δ◌}
 use Rattle.nz_spec.specs.InfinitesimalMoves.{InfinitesimalsMove}
 use Rattle.nz_spec.specs.Basis.{NonbasicFormIsItself, alone}
 use Rattle.nz_spec.specs.Bland.{Position, HasBasis, HasValue, is_nonbasic, sum_at, value_in}
-use Rattle.nz_spec.proofs.BasisRows.{weighted-alone}
 
 -- the value of a nonbasic form stands in the point
 pub point_is_value : NonbasicFormIsItself → (p : Position) → HasBasis p → (k : ℕ) (x : Infinitesimal) → p.point k ≡ Some x → HasValue p k x
@@ -17,12 +16,12 @@ point_is_value law p basis k x e =
     let there : value_in p.point k ≡ x = ap (λ (o : Option Infinitesimal). unwrap_or o origin) e in
     record {
       row = alone k;
-      is_row = law p.forms (is_nonbasic p.point) k basis nonbasic;
+      is_row = law.row p.forms (is_nonbasic p.point) k basis nonbasic;
       at =
           subst (λ (y : Infinitesimal). y =δ sum_at (length p.forms) (alone k) (value_in p.point)) there
           (record {
-            standard = =ℚ_sym (weighted-alone (length p.forms) k (λ m. (value_in p.point m).standard) inside);
-            coefficient = =ℚ_sym (weighted-alone (length p.forms) k (λ m. (value_in p.point m).coefficient) inside);
+            standard = =ℚ_sym (law.value (length p.forms) k (λ m. (value_in p.point m).standard) inside);
+            coefficient = =ℚ_sym (law.value (length p.forms) k (λ m. (value_in p.point m).coefficient) inside);
           });
     }
   where

@@ -12,7 +12,7 @@ use Rattle.nz_spec.specs.Bland.{standing}
 use Rattle.nz_fractions.proofs.Laws.{=ℚ_refl, =ℚ_sym}
 use Rattle.nz_fractions.proofs.Order.{fraction_cmp_is}
 use Rattle.nz_fractions.proofs.Arithmetic.{outcome-difference, outcome-product, +ℚ-neg}
-use Rattle.nz_spec.proofs.FractionZeros.{zeros_are_never_wide}
+use Rattle.nz_fractions.proofs.Zeros.{zeros_are_never_wide}
 use Rattle.nz_delta.specs.FractionSpace.{sums}
 use Rattle.nz_delta.specs.Operations.{alone}
 use Rattle.nz_delta.specs.DeltaSpace.{infinitesimal_of, delta_zero, delta_plus, delta_minus, delta_scaled, delta_cmp, delta_plus_operations, delta_minus_operations, delta_scaled_operations}

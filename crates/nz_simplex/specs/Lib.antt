@@ -10,3 +10,4 @@ pub mod Standing
 pub mod State
 pub mod Stored
 pub mod Tabled
+pub mod WorkSteps

@@ -3,16 +3,28 @@ ghost use Rattle.nz_simplex.specs.Contradictions.{ClashesContradict};
 ghost use Rattle.nz_simplex.specs.OtherUnits.{ContradictionsStay};
 ghost use Rattle.nz_simplex.specs.SaidBounds.{LiteralsSayBounds, SumsStay};
 
+use nz_spec::basis::worth_is_by_units;
+use nz_spec::form::forms_are_sums;
+use nz_spec::infinitesimal::infinitesimals_are_ordered;
+use nz_spec::term::tells_terms;
+
 /// Where each bound that was asserted has a literal that says the same, the literals of clashing bounds, with their multipliers, sum to a
 /// contradiction: those that a check tells, and two bounds that leave a form no value.
 pub fn clashes_contradict()
     ensures contradict { ClashesContradict }
-{}
+{
+    tells_terms();
+    worth_is_by_units();
+    infinitesimals_are_ordered();
+}
 
 /// Whether a sum of multiples is a contradiction doesn't depend on which terms the units are.
 pub fn contradictions_stay()
     ensures stay { ContradictionsStay }
-{}
+{
+    tells_terms();
+    worth_is_by_units();
+}
 
 /// Which literals say which bounds of a form.
 pub fn literals_say_bounds()
@@ -22,4 +34,6 @@ pub fn literals_say_bounds()
 /// The parts of a term's form are a sum, and stay one when they are multiplied or negated.
 pub fn sums_stay()
     ensures stay { SumsStay }
-{}
+{
+    forms_are_sums();
+}

@@ -13,6 +13,8 @@ ghost use Rattle.nz_spec.specs.Bland.{Breaks, CanHelp, HasValue, IsCheckStep, is
 ghost use Rattle.nz_spec.specs.Basis.{IsRow};
 ghost use Rattle.nz_spec.specs.Infinitesimal.{infinitesimal_cmp};
 ghost use Rattle.nz_spec.specs.Table.{Node};
+ghost use Rattle.nz_tab.specs.declared.tab.TabStop.TheVariants as stops;
+ghost use Rattle.nz_tab.specs.Units.{is_unit_form};
 ghost use Rattle.nz_trail.specs.Bounds.{ClashesWith, IsExcluded, IsImplied, asserted};
 ghost use Rattle.nz_trail.specs.declared.limits.Side.TheVariants.{Lower, Upper};
 
@@ -29,8 +31,8 @@ use nz_base::Memory;
 use nz_frac::{Frac, Wide};
 use nz_lin::{Form, Part};
 use nz_spec::basis::{
-    check_steps_keep_basis, moves_keep_ready, nonbasic_form_is_itself, positions_have_values,
-    rows_tell, sum_moves, value_is_computed,
+    check_steps_keep_basis, moves_keep_ready, no_help_refutes, nonbasic_form_is_itself,
+    positions_have_values, rows_tell, sum_moves, value_is_computed,
 };
 use nz_spec::computation::infinitesimals_move;
 use nz_spec::pivots::pivots_are_runs;
@@ -184,6 +186,8 @@ impl<S: Coordinate> Simplex<S> {
         ensures joined { IfOk result (λ v. IsJoined self.old self.new form.now.parts v) }
         ensures position { OnOk result ((ns : List Node) → IsOver ns self.old → AreUnits ns form.now.parts → position_over ns self.new ≡ joined_over ns self.old form.now.parts) }
         ensures stops { IfErr result (λ e. (ns : List Node) → IsOver ns self.old → AreUnits ns form.now.parts → JoinStops ns self.old form.now.parts e) }
+        // No operation is computed for a unit alone.
+        ensures alone { is_unit_form form.now.parts ≡ true → IfErr result (λ e. e ≡ stops.Memory) }
         ensures unchanged { OnErr result (self.new ≡ self.old) }
     {
         positions_have_values();
@@ -459,6 +463,7 @@ impl<S: Coordinate> Simplex<S> {
         ensures refuted { (ns : List Node) → IsOver ns self.old → IsRefuted ns self.new }
     {
         positions_have_values();
+        no_help_refutes();
         infinitesimals_move();
         known_tableau(&self.tab);
         put_multipliers(

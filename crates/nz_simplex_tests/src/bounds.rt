@@ -1,12 +1,13 @@
 //! Bounds asserted and undone against a plain list.
-use crate::forms::{System, bounds, checked, delta, holds, pair, put, undo_to};
+use crate::forms::{Taken, bounds, constant, delta, pair, put, undo_to};
 use crate::seeded::next;
 use crate::sums::{all_within, fits};
 use nz_delta::Delta;
 use nz_simplex::{Check, Simplex};
-use nz_term::TermId;
+use nz_term::{TermId, Terms};
 use nz_trail::{Bound, Limit, Side, Var};
 use std::alloc::Global;
+use std::process::Abort;
 use std::test::Fail;
 
 /// A bound with whole parts, and its reason.
@@ -107,7 +108,8 @@ fn step(
             Ok(true)
         }
         2 => {
-            match checked(alloc, simplex, 100)?.answer {
+            let mut taken = Taken::new(alloc, 100)?;
+            match simplex.check(&mut taken) {
                 Ok(Check::Feasible) => Ok(fits(simplex, units) && all_within(simplex)),
                 Ok(Check::Clash) => Ok(true),
                 Err(_) => Ok(false),
@@ -124,33 +126,56 @@ fn step(
     }
 }
 
-/// Two hundred steps that look random, over two forms of two units.
-fn walk(
+/// A list of bounds, with the marks of a simplex.
+#[derive(Debug, Drop)]
+struct Kept {
+    list: Vec<Plain>,
+    marks: Vec<Mark>,
+}
+
+/// After each of many steps the bounds are those of the list.
+fn gives_back(
+    rt: &impl Abort,
     alloc: Global,
-    system: &mut System<Delta>,
-    list: &mut Vec<Plain>,
-    marks: &mut Vec<Mark>,
+    simplex: &mut Simplex<Delta>,
+    kept: &mut Kept,
+    units: &[(TermId, Var)],
 ) -> Result<(), Fail> {
-    let x = system.constant(alloc, b"x")?;
-    let y = system.constant(alloc, b"y")?;
-    pair(alloc, system, (1, x), (2, y))?;
-    pair(alloc, system, (3, x), (-1, y))?;
-    let units = [(x, 0), (y, 1)];
     let mut seed = 19;
     for number in 0..200 {
-        let simplex = &mut system.simplex;
-        let right = step(alloc, simplex, list, marks, &units, &mut seed, number)?;
-        holds(right, "a point that isn't one, or a check that stops")?;
-        holds(agrees(simplex, list.as_slice()), "other bounds")?;
+        assert!(rt;
+            step(
+                alloc,
+                simplex,
+                &mut kept.list,
+                &mut kept.marks,
+                units,
+                &mut seed,
+                number
+            )?
+        );
+        assert!(rt; agrees(simplex, kept.list.as_slice()), "at step {number}");
     }
     Ok(())
 }
 
+/// Two forms of two units.
+fn two_forms(alloc: Global, simplex: &mut Simplex<Delta>) -> Result<[(TermId, Var); 2], Fail> {
+    let mut terms = Terms::new(alloc)?;
+    let x = constant(&mut terms, alloc, b"x")?;
+    let y = constant(&mut terms, alloc, b"y")?;
+    pair(alloc, &mut terms, simplex, (1, x), (2, y))?;
+    pair(alloc, &mut terms, simplex, (3, x), (-1, y))?;
+    Ok([(x, 0), (y, 1)])
+}
+
 #[test]
 fn undo_gives_back_the_bounds(rt: HostRuntime) -> Result<(), Fail> {
-    let alloc = rt.alloc();
-    let mut system = System::new(alloc)?;
-    let mut list = Vec::new(alloc);
-    let mut marks = Vec::new(alloc);
-    walk(alloc, &mut system, &mut list, &mut marks)
+    let mut simplex = Simplex::new(rt.alloc());
+    let units = two_forms(rt.alloc(), &mut simplex)?;
+    let mut kept = Kept {
+        list: Vec::new(rt.alloc()),
+        marks: Vec::new(rt.alloc()),
+    };
+    gives_back(&rt, rt.alloc(), &mut simplex, &mut kept, &units)
 }

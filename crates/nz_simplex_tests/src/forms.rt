@@ -12,31 +12,9 @@ use std::alloc::Global;
 use std::marker::Model;
 use std::test::Fail;
 
-/// Terms, and a simplex over sums of them. A test makes one and lends it, so that what is left of a test that fails is let go in one place.
-#[derive(Debug, Drop)]
-pub struct System<S: Coordinate> {
-    pub terms: Terms,
-    pub simplex: Simplex<S>,
-}
-
-impl<S: Coordinate> System<S> {
-    /// No term and no form.
-    pub fn new(alloc: Global) -> Result<System<S>, Memory> {
-        Ok(System {
-            terms: Terms::new(alloc)?,
-            simplex: Simplex::new(alloc),
-        })
-    }
-
-    /// A constant of sort Real.
-    pub fn constant(&mut self, alloc: Global, name: &[u8]) -> Result<TermId, Memory> {
-        nz_term_samples::constant(alloc, &mut self.terms, name, Sort::Real)
-    }
-}
-
-/// Fails, and says what was wrong, where a test isn't true.
-pub fn holds(test: bool, wrong: &'static str) -> Result<(), Fail> {
-    if test { Ok(()) } else { Err(Fail::new(wrong)) }
+/// A constant of sort Real.
+pub fn constant(terms: &mut Terms, alloc: Global, name: &[u8]) -> Result<TermId, Memory> {
+    nz_term_samples::constant(alloc, terms, name, Sort::Real)
 }
 
 /// A natural number times a term.
@@ -47,11 +25,12 @@ pub fn times(terms: &mut Terms, number: u128, id: TermId) -> Result<TermId, Memo
 /// The number of the form of a sum, or why it was not added.
 pub fn added<S: Coordinate>(
     alloc: Global,
-    system: &mut System<S>,
+    terms: &mut Terms,
+    simplex: &mut Simplex<S>,
     kids: &[TermId],
 ) -> Option<Result<Var, TabStop>> {
-    let sum = operation(&mut system.terms, Operator::Sum(NumberSort::Real), kids).ok()?;
-    add_term(alloc, &system.terms, &mut system.simplex, sum)
+    let sum = operation(terms, Operator::Sum(NumberSort::Real), kids).ok()?;
+    add_term(alloc, terms, simplex, sum)
 }
 
 /// The number of the form of a term, or why it was not added.
@@ -71,23 +50,29 @@ fn add_term<S: Coordinate>(
 /// The number of a form a*x + b*y.
 pub fn pair<S: Coordinate>(
     alloc: Global,
-    system: &mut System<S>,
+    terms: &mut Terms,
+    simplex: &mut Simplex<S>,
     first: (i32, TermId),
     second: (i32, TermId),
 ) -> Result<Var, Fail> {
     let (a, x) = first;
     let (b, y) = second;
-    let left = multiple(&mut system.terms, NumberSort::Real, a as i64, x)?;
-    let right = multiple(&mut system.terms, NumberSort::Real, b as i64, y)?;
-    match added(alloc, system, &[left, right]) {
+    let left = multiple(terms, NumberSort::Real, a as i64, x)?;
+    let right = multiple(terms, NumberSort::Real, b as i64, y)?;
+    match added(alloc, terms, simplex, &[left, right]) {
         Some(Ok(var)) => Ok(var),
         _ => Err(Fail::from("no form")),
     }
 }
 
 /// The number of the form of a unit.
-pub fn unit<S: Coordinate>(alloc: Global, system: &mut System<S>, id: TermId) -> Result<Var, Fail> {
-    match added(alloc, system, &[id]) {
+pub fn unit<S: Coordinate>(
+    alloc: Global,
+    terms: &mut Terms,
+    simplex: &mut Simplex<S>,
+    id: TermId,
+) -> Result<Var, Fail> {
+    match added(alloc, terms, simplex, &[id]) {
         Some(Ok(var)) => Ok(var),
         _ => Err(Fail::from("no unit")),
     }
@@ -218,34 +203,12 @@ impl Steps for Taken {
     }
 }
 
-/// What a check answered, and its steps: how many, and the first.
-#[derive(Clone, Copy, Debug)]
-pub struct Outcome {
-    pub answer: Result<Check, SimplexStop>,
-    pub steps: usize,
-    pub first: Option<(Var, Var)>,
-}
-
 /// What a check with room for this many steps answers.
 pub fn checked<S: Coordinate>(
     alloc: Global,
     simplex: &mut Simplex<S>,
     limit: u64,
-) -> Result<Outcome, Fail> {
+) -> Result<Result<Check, SimplexStop>, Fail> {
     let mut taken = Taken::new(alloc, limit)?;
-    let answer = simplex.check(&mut taken);
-    Ok(Outcome {
-        answer,
-        steps: taken.steps().len(),
-        first: taken.steps().first().copied(),
-    })
-}
-
-/// Whether a check with room for this many steps finds a point.
-pub fn is_feasible<S: Coordinate>(
-    alloc: Global,
-    simplex: &mut Simplex<S>,
-    limit: u64,
-) -> Result<bool, Fail> {
-    Ok(matches!(checked(alloc, simplex, limit)?.answer, Ok(Check::Feasible)))
+    Ok(simplex.check(&mut taken))
 }

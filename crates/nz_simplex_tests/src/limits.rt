@@ -1,119 +1,122 @@
 //! Checks that stop: at the last unit of work, and at numbers that don't fit.
 use crate::forms::{
-    System, added, checked, frac, holds, is_basic, is_feasible, pair, put, times, undo_to, unit,
-    value,
+    Taken, added, checked, constant, frac, is_basic, pair, put, times, undo_to, unit, value,
 };
-use nz_frac::{Frac, Op, Wide};
+use nz_frac::{Frac, Op};
 use nz_simplex::{Check, Simplex, SimplexStop, Site};
+use nz_term::Terms;
 use nz_trail::Side;
 use std::alloc::Global;
+use std::process::Abort;
 use std::test::Fail;
 
-/// x + y >= 3 and x - y >= 4, checked with no unit, with one, and with five.
-fn spend(alloc: Global, system: &mut System<Frac>) -> Result<(), Fail> {
-    let x = system.constant(alloc, b"x")?;
-    let y = system.constant(alloc, b"y")?;
-    let sum = pair(alloc, system, (1, x), (1, y))?;
-    let difference = pair(alloc, system, (1, x), (-1, y))?;
-    let simplex = &mut system.simplex;
+/// A check without a unit, with one, and with enough of them.
+fn spends_its_units(
+    rt: &impl Abort,
+    alloc: Global,
+    terms: &mut Terms,
+    simplex: &mut Simplex<Frac>,
+) -> Result<(), Fail> {
+    let x = constant(terms, alloc, b"x")?;
+    let y = constant(terms, alloc, b"y")?;
+    let sum = pair(alloc, terms, simplex, (1, x), (1, y))?;
+    let difference = pair(alloc, terms, simplex, (1, x), (-1, y))?;
     put(simplex, sum, Side::Lower, frac(3, 1)?, 0)?;
     put(simplex, difference, Side::Lower, frac(4, 1)?, 1)?;
-    let none = checked(alloc, simplex, 0)?;
-    holds(
-        matches!(none.answer, Err(SimplexStop::Spent)),
-        "a step without a unit",
-    )?;
-    holds(is_basic(simplex, sum), "a pivot without a unit")?;
-    let one = checked(alloc, simplex, 1)?;
-    holds(
-        matches!(one.answer, Err(SimplexStop::Spent)),
-        "a second step",
-    )?;
-    holds(one.steps == 1 && !is_basic(simplex, sum), "no pivot")?;
-    let rest = checked(alloc, simplex, 5)?;
-    holds(matches!(rest.answer, Ok(Check::Feasible)), "no point")?;
-    holds(rest.steps == 1, "more steps or fewer")
+    assert!(rt; matches!(checked(alloc, simplex, 0)?, Err(SimplexStop::Spent)));
+    assert!(rt; is_basic(simplex, sum));
+    let mut taken = Taken::new(alloc, 1)?;
+    assert!(rt; matches!(simplex.check(&mut taken), Err(SimplexStop::Spent)));
+    assert_eq!(rt; taken.steps().len(), 1);
+    assert!(rt; !is_basic(simplex, sum));
+    let mut taken = Taken::new(alloc, 5)?;
+    assert!(rt; matches!(simplex.check(&mut taken), Ok(Check::Feasible)));
+    assert_eq!(rt; taken.steps().len(), 1);
+    Ok(())
 }
 
 #[test]
 fn a_check_spends_its_units(rt: HostRuntime) -> Result<(), Fail> {
-    let mut system = System::new(rt.alloc())?;
-    spend(rt.alloc(), &mut system)
+    let mut terms = Terms::new(rt.alloc())?;
+    let mut simplex = Simplex::new(rt.alloc());
+    spends_its_units(&rt, rt.alloc(), &mut terms, &mut simplex)
 }
 
 /// 2^127 - 1.
 const MOST: u128 = 170141183460469231731687303715884105727;
 
-/// Where a check stops, and at which operation.
-fn stopped(alloc: Global, simplex: &mut Simplex<Frac>) -> Result<(Site, Wide), Fail> {
-    match checked(alloc, simplex, 5)?.answer {
-        Err(SimplexStop::Wide(place)) => Ok((place.site, place.wide)),
-        _ => Err(Fail::new("a check that doesn't stop")),
-    }
-}
-
-/// x + M*y and 2*x + y, of which the first is to be at least 1.
-fn leave_by_exchange(alloc: Global, system: &mut System<Frac>) -> Result<(), Fail> {
-    let x = system.constant(alloc, b"x")?;
-    let y = system.constant(alloc, b"y")?;
-    let many = times(&mut system.terms, MOST, y)?;
-    holds(
-        matches!(added(alloc, system, &[x, many]), Some(Ok(2))),
-        "no form",
-    )?;
-    let twice = times(&mut system.terms, 2, x)?;
-    holds(
-        matches!(added(alloc, system, &[twice, y]), Some(Ok(3))),
-        "no form",
-    )?;
-    put(&mut system.simplex, 2, Side::Lower, frac(1, 1)?, 0)?;
-    let (site, wide) = stopped(alloc, &mut system.simplex)?;
-    let row = Site::Row {
-        leaves: 2,
-        enters: 0,
+/// Two rows whose exchange has a product that is too large.
+fn leaves_the_numbers_in_a_row(
+    rt: &impl Abort,
+    alloc: Global,
+    terms: &mut Terms,
+    simplex: &mut Simplex<Frac>,
+) -> Result<(), Fail> {
+    let x = constant(terms, alloc, b"x")?;
+    let y = constant(terms, alloc, b"y")?;
+    let many = times(terms, MOST, y)?;
+    assert!(rt; matches!(added(alloc, terms, simplex, &[x, many]), Some(Ok(2))));
+    let twice = times(terms, 2, x)?;
+    assert!(rt; matches!(added(alloc, terms, simplex, &[twice, y]), Some(Ok(3))));
+    put(simplex, 2, Side::Lower, frac(1, 1)?, 0)?;
+    let Err(SimplexStop::Wide(place)) = checked(alloc, simplex, 5)? else {
+        assert!(rt; false);
+        return Ok(());
     };
-    holds(site == row, "another place")?;
-    holds(
-        wide.op == Op::Mul && wide.a == Frac::whole(2),
-        "another operation",
-    )?;
-    holds(is_basic(&system.simplex, 2), "a form that left")
+    assert!(rt;
+        place.site
+            == Site::Row {
+                leaves: 2,
+                enters: 0
+            }
+    );
+    assert!(rt; place.wide.op == Op::Mul);
+    assert!(rt; place.wide.a == Frac::whole(2));
+    assert!(rt; is_basic(simplex, 2));
+    Ok(())
 }
 
 #[test]
 fn an_exchange_leaves_the_numbers(rt: HostRuntime) -> Result<(), Fail> {
-    let mut system = System::new(rt.alloc())?;
-    leave_by_exchange(rt.alloc(), &mut system)
+    let mut terms = Terms::new(rt.alloc())?;
+    let mut simplex = Simplex::new(rt.alloc());
+    leaves_the_numbers_in_a_row(&rt, rt.alloc(), &mut terms, &mut simplex)
 }
 
-/// x and y at least M; back from there the value is known again.
-fn leave_by_value(alloc: Global, system: &mut System<Frac>) -> Result<(), Fail> {
+/// A sum of two units that are as large as numbers can be.
+fn leaves_the_numbers_in_a_value(
+    rt: &impl Abort,
+    alloc: Global,
+    terms: &mut Terms,
+    simplex: &mut Simplex<Frac>,
+) -> Result<(), Fail> {
     let most = frac(170141183460469231731687303715884105727, 1)?;
-    let x = system.constant(alloc, b"x")?;
-    let y = system.constant(alloc, b"y")?;
-    let sum = pair(alloc, system, (1, x), (1, y))?;
-    let mark = system.simplex.mark();
-    put(&mut system.simplex, 0, Side::Lower, most, 0)?;
-    put(&mut system.simplex, 1, Side::Lower, most, 1)?;
-    let (site, wide) = stopped(alloc, &mut system.simplex)?;
-    holds(site == Site::Point { form: sum }, "another place")?;
-    holds(
-        wide.op == Op::Add && wide.a == most && wide.b == most,
-        "another operation",
-    )?;
-    undo_to(&mut system.simplex, mark);
-    put(&mut system.simplex, 0, Side::Upper, frac(1, 1)?, 2)?;
-    put(&mut system.simplex, 1, Side::Upper, frac(0, 1)?, 3)?;
-    holds(is_feasible(alloc, &mut system.simplex, 5)?, "no point")?;
-    holds(
-        value(&system.simplex, sum).is_some_and(|v| v == Frac::whole(1)),
-        "another value",
-    )?;
-    holds(unit(alloc, system, x)? == 0, "another form of x")
+    let x = constant(terms, alloc, b"x")?;
+    let y = constant(terms, alloc, b"y")?;
+    let sum = pair(alloc, terms, simplex, (1, x), (1, y))?;
+    let mark = simplex.mark();
+    put(simplex, 0, Side::Lower, most, 0)?;
+    put(simplex, 1, Side::Lower, most, 1)?;
+    let Err(SimplexStop::Wide(place)) = checked(alloc, simplex, 5)? else {
+        assert!(rt; false);
+        return Ok(());
+    };
+    assert!(rt; place.site == Site::Point { form: sum });
+    assert!(rt; place.wide.op == Op::Add);
+    assert!(rt; place.wide.a == most && place.wide.b == most);
+    // Back from there the value is known again.
+    undo_to(simplex, mark);
+    put(simplex, 0, Side::Upper, frac(1, 1)?, 2)?;
+    put(simplex, 1, Side::Upper, frac(0, 1)?, 3)?;
+    assert!(rt; matches!(checked(alloc, simplex, 5)?, Ok(Check::Feasible)));
+    assert!(rt; value(simplex, sum).is_some_and(|v| v == Frac::whole(1)));
+    assert!(rt; unit(alloc, terms, simplex, x)? == 0);
+    Ok(())
 }
 
 #[test]
 fn a_value_leaves_the_numbers(rt: HostRuntime) -> Result<(), Fail> {
-    let mut system = System::new(rt.alloc())?;
-    leave_by_value(rt.alloc(), &mut system)
+    let mut terms = Terms::new(rt.alloc())?;
+    let mut simplex = Simplex::new(rt.alloc());
+    leaves_the_numbers_in_a_value(&rt, rt.alloc(), &mut terms, &mut simplex)
 }

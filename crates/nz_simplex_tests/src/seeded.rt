@@ -1,10 +1,10 @@
 //! Seeded systems over two units, against a search of all vertices.
-use crate::forms::{System, checked, delta, holds, pair, put};
+use crate::forms::{Taken, constant, delta, pair, put};
 use crate::sums::{Given, all_within, contradicts, fits};
 use nz_delta::{Delta, Scalar};
 use nz_frac::Frac;
 use nz_simplex::{Check, Simplex};
-use nz_term::TermId;
+use nz_term::{TermId, Terms};
 use nz_trail::{Bound, Side, Var};
 use std::alloc::Global;
 use std::cmp::Ordering;
@@ -97,25 +97,26 @@ fn has_vertex(planes: &[Plane], given: &[Given<Delta>]) -> bool {
 }
 
 /// Adds four forms that look random to those of the units.
-fn add_planes(
+fn planes(
     alloc: Global,
-    system: &mut System<Delta>,
-    planes: &mut Vec<Plane>,
+    terms: &mut Terms,
+    simplex: &mut Simplex<Delta>,
     seed: &mut u64,
     (x, y): (TermId, TermId),
-) -> Result<(), Fail> {
+) -> Result<Vec<Plane>, Fail> {
+    let mut planes = Vec::new(alloc);
     for _ in 0..4 {
         let (a, b) = (coefficient(seed), coefficient(seed));
         if a != 0 && b != 0 {
-            let var = pair(alloc, system, (a, x), (b, y))?;
+            let var = pair(alloc, terms, simplex, (a, x), (b, y))?;
             planes.push(Plane { a, b, var })?;
         }
     }
-    if system.simplex.len() >= 2 {
+    if simplex.len() >= 2 {
         planes.push(Plane { a: 1, b: 0, var: 0 })?;
         planes.push(Plane { a: 0, b: 1, var: 1 })?;
     }
-    Ok(())
+    Ok(planes)
 }
 
 /// Asserts a bound, and puts it on the list where it doesn't clash.
@@ -156,42 +157,74 @@ fn give_all(
     Ok(())
 }
 
-/// Whether a check answers what the search of vertices does; None where it doesn't.
-fn judged(
+/// Two units, with the planes of forms over them.
+fn planes_of(
     alloc: Global,
-    system: &mut System<Delta>,
-    planes: &mut Vec<Plane>,
-    given: &mut Vec<Given<Delta>>,
+    terms: &mut Terms,
+    simplex: &mut Simplex<Delta>,
     seed: &mut u64,
+) -> Result<([TermId; 2], Vec<Plane>), Fail> {
+    let x = constant(terms, alloc, b"x")?;
+    let y = constant(terms, alloc, b"y")?;
+    let planes = planes(alloc, terms, simplex, seed, (x, y))?;
+    Ok(([x, y], planes))
+}
+
+/// What a check answers where that is what the search of vertices does; else, or where a number didn't fit, None.
+fn answer(
+    alloc: Global,
+    simplex: &mut Simplex<Delta>,
+    [x, y]: [TermId; 2],
+    planes: &[Plane],
+    given: &[Given<Delta>],
 ) -> Result<Option<Check>, Fail> {
-    let x = system.constant(alloc, b"x")?;
-    let y = system.constant(alloc, b"y")?;
-    add_planes(alloc, system, planes, seed, (x, y))?;
-    let simplex = &mut system.simplex;
-    if simplex.len() < 2 {
-        return Ok(Some(Check::Feasible));
-    }
-    give_all(simplex, given, planes.as_slice(), seed)?;
-    let feasible = has_vertex(planes.as_slice(), given.as_slice());
-    match checked(alloc, simplex, 200)?.answer {
+    let feasible = has_vertex(planes, given);
+    let mut taken = Taken::new(alloc, 200)?;
+    match simplex.check(&mut taken) {
         Ok(Check::Feasible) => {
             let right = feasible && fits(simplex, &[(x, 0), (y, 1)]) && all_within(simplex);
             Ok(right.then_some(Check::Feasible))
         }
         Ok(Check::Clash) => {
-            let right = !feasible && contradicts(simplex, given.as_slice(), &[x, y]);
+            let right = !feasible && contradicts(simplex, given, &[x, y]);
             Ok(right.then_some(Check::Clash))
         }
         Err(_) => Ok(None),
     }
 }
 
-/// The same of the next system that looks random.
-fn agrees(alloc: Global, seed: &mut u64) -> Result<Option<Check>, Fail> {
-    let mut system = System::new(alloc)?;
-    let mut planes = Vec::new(alloc);
+/// The same under bounds that look random.
+fn answer_within(
+    alloc: Global,
+    simplex: &mut Simplex<Delta>,
+    units: [TermId; 2],
+    planes: &[Plane],
+    seed: &mut u64,
+) -> Result<Option<Check>, Fail> {
     let mut given = Vec::new(alloc);
-    judged(alloc, &mut system, &mut planes, &mut given, seed)
+    give_all(simplex, &mut given, planes, seed)?;
+    answer(alloc, simplex, units, planes, given.as_slice())
+}
+
+/// The same of forms that look random.
+fn answer_over(
+    alloc: Global,
+    terms: &mut Terms,
+    simplex: &mut Simplex<Delta>,
+    seed: &mut u64,
+) -> Result<Option<Check>, Fail> {
+    let (units, planes) = planes_of(alloc, terms, simplex, seed)?;
+    if simplex.len() < 2 {
+        return Ok(Some(Check::Feasible));
+    }
+    answer_within(alloc, simplex, units, planes.as_slice(), seed)
+}
+
+/// Whether a check answers what the search of vertices does; None where a number didn't fit.
+fn agrees(alloc: Global, seed: &mut u64) -> Result<Option<Check>, Fail> {
+    let mut terms = Terms::new(alloc)?;
+    let mut simplex = Simplex::new(alloc);
+    answer_over(alloc, &mut terms, &mut simplex, seed)
 }
 
 #[test]
@@ -199,12 +232,13 @@ fn checks_agree_with_vertices(rt: HostRuntime) -> Result<(), Fail> {
     let alloc = rt.alloc();
     let mut seed: u64 = 2006;
     let mut clashes: u64 = 0;
-    for _ in 0..100 {
+    for number in 0..100 {
         match agrees(alloc, &mut seed)? {
             Some(Check::Feasible) => {}
             Some(Check::Clash) => clashes = clashes.saturating_add(1),
-            None => return Err(Fail::new("a check that vertices don't bear out")),
+            None => assert!(rt; false, "at system {number}"),
         }
     }
-    holds(clashes > 10 && clashes < 90, "too few clashes or too many")
+    assert!(rt; clashes > 10 && clashes < 90, "{clashes} clashes");
+    Ok(())
 }

@@ -1,15 +1,15 @@
 -- The live items, one of them more.
-use Rattle.std.proofs.Common.{◌||◌, not, flat_map, ◌≡◌, ℕ, ◌<◌, List, [], ◌∷◌, ◌++◌, length, map, Bool, true, false, cond, All, refl, sym, ap, ◌∙◌, append-nil, length-append, subst, arith}
+use Rattle.std.proofs.Common.{◌||◌, flat_map, ◌≡◌, ℕ, ◌<◌, List, [], ◌∷◌, ◌++◌, length, map, Bool, true, false, cond, All, refl, sym, ap, ◌∙◌, append-nil, length-append, subst, arith}
 use Rattle.std.proofs.lemmas.Grind.{flat_map-append}
 use Rattle.std.specs.List.{list_any}
 use Rattle.std.proofs.lemmas.List.Folds.{list_any-append}
 use Rattle.std.proofs.lemmas.List.Elements.{All-head, All-tail, All-append, All-cons, All-nil, All-weaker}
 use Rattle.std.proofs.lemmas.List.{map-append}
-use Rattle.nz_spec.specs.Term.{is_bool, Constant, constant, Term, apply, no_terms, holds_number}
+use Rattle.nz_spec.specs.Term.{is_int_sort, Constant, constant, Term, apply, no_terms, holds_integer}
 use Rattle.nz_spec.specs.Normal.{normal_of}
 use Rattle.nz_spec.specs.Table.{Node, term_in, TermStays}
 use Rattle.nz_spec.specs.Elaboration.{Definition as SpecDefinition}
-use Rattle.nz_spec.specs.Live.{LiveItem, Item, cost_of, declared, defined, asserted, sought, wished, constants_in, definitions_in, assertions_in, goals_in, wishes_in, is_constant, is_assertion, is_goal, is_wish, numbers_of, item_terms, items_hold_numbers}
+use Rattle.nz_spec.specs.Live.{LiveItem, Item, cost_of, declared, defined, asserted, sought, wished, constants_in, definitions_in, assertions_in, goals_in, wishes_in, is_constant, is_assertion, is_goal, is_wish, numbers_of, item_terms, items_hold_integers}
 use Rattle.nz_spec.specs.Live as live_state
 use Rattle.nz_term.specs.Constants.{sort_of}
 use Rattle.nz_elaborate.specs.declared.typed.Typed.{Typed}
@@ -67,14 +67,14 @@ or_false : (b : Bool) → (b || false) ≡ b
 or_false true = refl
 or_false false = refl
 
-hold_numbers-append : (xs ys : List Item) → items_hold_numbers (xs ++ ys) ≡ (items_hold_numbers xs || items_hold_numbers ys)
-hold_numbers-append xs ys =
-    ap (list_any holds_number) (flat_map-append item_terms xs ys) ∙ list_any-append holds_number (flat_map item_terms xs) (flat_map item_terms ys)
+hold_integers-append : (xs ys : List Item) → items_hold_integers (xs ++ ys) ≡ (items_hold_integers xs || items_hold_integers ys)
+hold_integers-append xs ys =
+    ap (list_any holds_integer) (flat_map-append item_terms xs ys) ∙ list_any-append holds_integer (flat_map item_terms xs) (flat_map item_terms ys)
 
--- one item more, which holds a number or doesn't
-numbers_last : (live : List Item) (i : Item) (before mine : Bool) → items_hold_numbers live ≡ before → items_hold_numbers (i ∷ []) ≡ mine
-    → items_hold_numbers (live ++ i ∷ []) ≡ (before || mine)
-numbers_last live i before mine e f = hold_numbers-append live (i ∷ []) ∙ ap (λ b. b || items_hold_numbers (i ∷ [])) e ∙ ap (λ b. before || b) f
+-- one item more, which holds a unit of sort Int or doesn't
+integers_last : (live : List Item) (i : Item) (before mine : Bool) → items_hold_integers live ≡ before → items_hold_integers (i ∷ []) ≡ mine
+    → items_hold_integers (live ++ i ∷ []) ≡ (before || mine)
+integers_last live i before mine e f = hold_integers-append live (i ∷ []) ∙ ap (λ b. b || items_hold_integers (i ∷ [])) e ∙ ap (λ b. before || b) f
 
 -- ---- Numbered items, with one at the end
 
@@ -218,10 +218,10 @@ has_constant stays old new more standing live c x e h within term sort =
       goals = goals_stay stays old new more standing.goals live l e refl refl h.goals;
       wishes = wishes_stay stays old new more standing.wishes live l e refl refl h.wishes;
       all = all_last stays old new more standing.accepted live l x.id (apply (constant c) no_terms) e h.all within term refl;
-      numbers =
-          ap items_hold_numbers (items_in-last live l)
-          ∙ numbers_last (items_in live) (declared c) standing.holds_numbers (not (is_bool (sort_of x.sort))) h.numbers
-          (or_false (not (is_bool c.sort) || false) ∙ or_false (not (is_bool c.sort)) ∙ ap (λ s. not (is_bool s)) (sym sort));
+      integers =
+          ap items_hold_integers (items_in-last live l)
+          ∙ integers_last (items_in live) (declared c) standing.holds_integers (is_int_sort (sort_of x.sort)) h.integers
+          (or_false (is_int_sort c.sort || false) ∙ or_false (is_int_sort c.sort) ∙ ap is_int_sort (sym sort));
     }
 
 pub has_definition : TermStays → (old new more : List Node) (standing : Standing) (live : List LiveItem) (name : List ℕ) (d : Definition) (e : SpecDefinition) → new ≡ old ++ more
@@ -234,13 +234,13 @@ has_definition stays old new more standing live name d e grown h =
       goals = goals_stay stays old new more standing.goals live l grown refl refl h.goals;
       wishes = wishes_stay stays old new more standing.wishes live l grown refl refl h.wishes;
       all = all_without stays old new more standing.accepted live l grown h.all refl;
-      numbers =
-          ap items_hold_numbers (items_in-last live l)
-          ∙ numbers_last (items_in live) (defined e) standing.holds_numbers false h.numbers refl ∙ or_false standing.holds_numbers;
+      integers =
+          ap items_hold_integers (items_in-last live l)
+          ∙ integers_last (items_in live) (defined e) standing.holds_integers false h.integers refl ∙ or_false standing.holds_integers;
     }
 
 pub has_assertion : TermStays → (old new more : List Node) (standing : Standing) (live : List LiveItem) (t : Term) (id : ℕ) (holds : Bool) → new ≡ old ++ more → HasItems old standing live
-    → id < length new → term_in new id ≡ normal_of t → holds ≡ holds_number (normal_of t)
+    → id < length new → term_in new id ≡ normal_of t → holds ≡ holds_integer (normal_of t)
     → HasItems new (with_assertion standing id holds) (live ++ record { number = standing.next; item = asserted t } ∷ [])
 has_assertion stays old new more standing live t id holds e h within term number =
     let l : LiveItem = record { number = standing.next; item = asserted t } in
@@ -253,9 +253,9 @@ has_assertion stays old new more standing live t id holds e h within term number
       goals = goals_stay stays old new more standing.goals live l e refl refl h.goals;
       wishes = wishes_stay stays old new more standing.wishes live l e refl refl h.wishes;
       all = all_last stays old new more standing.accepted live l id (normal_of t) e h.all within term refl;
-      numbers =
-          ap items_hold_numbers (items_in-last live l)
-          ∙ numbers_last (items_in live) (asserted t) standing.holds_numbers holds h.numbers (or_false (holds_number (normal_of t)) ∙ sym number);
+      integers =
+          ap items_hold_integers (items_in-last live l)
+          ∙ integers_last (items_in live) (asserted t) standing.holds_integers holds h.integers (or_false (holds_integer (normal_of t)) ∙ sym number);
     }
 
 -- where the table grows
@@ -278,5 +278,5 @@ items_kept stays old new more standing live e h =
             groups = h.wishes.groups;
           };
       all = stand_longer stays old new more standing.accepted (flat_map item_terms (items_in live)) e h.all;
-      numbers = h.numbers;
+      integers = h.integers;
     }

@@ -1,7 +1,9 @@
 -- Assertions: the rules on one, and what it leaves.
 use Rattle.std.proofs.Common.{◌≡◌, ℕ, List, [], ◌∷◌, map, take, length, Option, None, Some, Ok, Bool, true, false, cond, sym, ap, ◌∙◌, append-nil, subst}
+use Rattle.std.specs.List.{AllByRecursion}
 use Rattle.std.proofs.lemmas.List.{map-append}
-use Rattle.nz_spec.specs.Term.{bool_sort, Term, holds_number, are_same_sort}
+use Rattle.nz_lists.proofs.Elements.{AllByRecursion-append}
+use Rattle.nz_spec.specs.Term.{bool_sort, Term, holds_integer, are_same_sort}
 use Rattle.nz_spec.specs.Normal.{normal_of}
 use Rattle.nz_spec.specs.Table.{Node, term_in, TermStays}
 use Rattle.nz_spec.specs.Order.{HasCompanions}
@@ -19,7 +21,7 @@ use Rattle.nz_elaborate.specs.declared.typed.Typed.{Typed}
 use Rattle.nz_elaborate.specs.Elaborate.{StandsAs, is_unknown_in, IsWellNamed}
 use Rattle.nz_elaborate.specs.Typed.{Grows, StandsFor}
 use Rattle.nz_sort.specs.declared.acts.Act.TheVariants as acts
-use Rattle.nz_sort.specs.Live.{Standing, IsLive}
+use Rattle.nz_sort.specs.Live.{Standing, IsLinearAssertion, IsLive}
 use Rattle.nz_sort.specs.Changes.{Comes, Asserts, with_assertion}
 use Rattle.nz_sort.proofs.Accepting.{stand_longer, stand_last, has_assertion}
 use Rattle.nz_sort.proofs.Naming.{scope_by, scope_stays}
@@ -29,8 +31,8 @@ use Rattle.nz_sort.proofs.Ruling.{past_names}
 -- ---- What an assertion leaves
 
 live_asserted : TermStays → (old new : List Node) (before : Standing) (s : State) (t : Term) (id : ℕ) (holds : Bool) → IsLive old before s → Grows old new
-    → HasCompanions new → StandsFor new id (normal_of t) → holds ≡ holds_number (normal_of t) → IsLive new (with_assertion before id holds) (grown s (asserted t))
-live_asserted stays old new before s t id holds live g companions stands number =
+    → HasCompanions new → StandsFor new id (normal_of t) → IsLinearAssertion t → holds ≡ holds_integer (normal_of t) → IsLive new (with_assertion before id holds) (grown s (asserted t))
+live_asserted stays old new before s t id holds live g companions stands linear number =
     let more : State = grown s (asserted t) in
     let same : constants_of more ≡ constants_of s = constants_with s (asserted t) ∙ append-nil (constants_of s) in
     let alike : definitions_of more ≡ definitions_of s = definitions_with s (asserted t) ∙ append-nil (definitions_of s) in
@@ -44,6 +46,9 @@ live_asserted stays old new before s t id holds live g companions stands number 
       companions = companions;
       within = stand.within;
       terms = stand.terms ∙ sym (ap (map normal_of) (assertions_with s (asserted t)) ∙ map-append normal_of (assertions_of s) (t ∷ []));
+      linear =
+          subst (AllByRecursion IsLinearAssertion) (sym (assertions_with s (asserted t)))
+          (AllByRecursion-append IsLinearAssertion (assertions_of s) (t ∷ []) live.linear (linear, tt));
       items =
           items_with new (with_assertion before id holds) s before.next (asserted t) live.next
           (has_assertion stays old new g.more before (numbered_items s.levels) t id holds g.all live.items stands.within stands.term number);
@@ -52,7 +57,7 @@ live_asserted stays old new before s t id holds live g companions stands number 
     }
 
 pub comes_asserted : TermStays → (old new : List Node) (before after : Standing) (e : Expression) (id : ℕ) (holds : Bool) → Grows old new → HasCompanions new
-    → ((s : State) → IsLive old before s → Asserts (assertion_of s e) new id) → holds ≡ holds_number (term_in new id) → after ≡ with_assertion before id holds
+    → ((s : State) → IsLive old before s → Asserts (assertion_of s e) new id) → holds ≡ holds_integer (term_in new id) → after ≡ with_assertion before id holds
     → Comes old new before after (asserts e) (λ s. assertion_of s e) (Ok acts.Changed)
 comes_asserted stays old new before after e id holds g companions may number more =
     record {
@@ -63,7 +68,7 @@ comes_asserted stays old new before after e id holds g companions may number mor
             is = h.is;
             asks = tt;
             live = λ reply. subst (λ st. IsLive new st (grown s (asserted h.term))) (sym more)
-                (live_asserted stays old new before s h.term id holds live g companions h.stands (number ∙ ap holds_number h.stands.term));
+                (live_asserted stays old new before s h.term id holds live g companions h.stands h.linear (number ∙ ap holds_integer h.stands.term));
           };
       refused = tt;
       kept = kept_where_grown old new g;
@@ -109,4 +114,5 @@ linear_assertion s e mid new x h bool straight stands =
       term = h.holds.term;
       is = of_bool s e mid x true h bool straight;
       stands = record { within = stands.within; term = stands.term ∙ h.holds.typed.normal };
+      linear = ap is_linear (sym h.holds.typed.normal) ∙ straight;
     }

@@ -1,6 +1,6 @@
 -- Declarations: the rules on one, and what it leaves.
 use Rattle.std.proofs.Common.{◌||◌, ◌≡◌, ◌⊎◌, inl, inr, ℕ, ◌<◌, List, [], ◌∷◌, ◌++◌, length, map, take, None, Some, Ok, true, false, nat_eq, slice_get, refl, sym, ap, ◌∙◌, append-nil, subst}
-use Rattle.std.specs.List.{list_any}
+use Rattle.std.specs.List.{AllByRecursion, list_any}
 use Rattle.std.proofs.lemmas.Grind.{flat_map-append}
 use Rattle.std.proofs.lemmas.Option.{slice_get_within}
 use Rattle.nz_spec.specs.Term.{Sort, Constant, constant}
@@ -17,7 +17,7 @@ use Rattle.nz_command.specs.Requests.{sort_view}
 use Rattle.nz_command.specs.declared.command.WrittenSort as code
 use Rattle.nz_elaborate.specs.Names.{named_by}
 use Rattle.nz_sort.specs.declared.acts.Act.TheVariants as acts
-use Rattle.nz_sort.specs.Live.{Standing, IsLive}
+use Rattle.nz_sort.specs.Live.{Standing, IsLinearAssertion, IsLive}
 use Rattle.nz_sort.specs.Changes.{Comes, constant_of, HasAdded, with_constant}
 use Rattle.nz_sort.proofs.Accepting.{stand_longer, has_constant}
 use Rattle.nz_sort.proofs.Naming.{scope_by, scope_stays, scope_with_constant, no_constant}
@@ -47,6 +47,7 @@ live_declared stays old new before after s name sort live fresh h =
     let same : definitions_of more ≡ definitions_of s = definitions_with s (declared c) ∙ append-nil (definitions_of s) in
     let table : constants_in_table new ≡ constants_of s ++ c ∷ [] =
     ap constants_in_table longer ∙ flat_map-append (λ (n : Node). constants_of_head n.head) old (one ∷ []) ∙ ap (λ l. l ++ c ∷ []) live.constants in
+    let assertions : assertions_of more ≡ assertions_of s = assertions_with s (declared c) ∙ append-nil (assertions_of s) in
     let stand = stand_longer stays old new (one ∷ []) before.asserted (map normal_of (assertions_of s)) longer (record { within = live.within; terms = live.terms }) in
     subst (λ standing. IsLive new standing more) (sym h.stands)
     (record {
@@ -57,7 +58,8 @@ live_declared stays old new before after s name sort live fresh h =
       constants = table ∙ sym later;
       companions = companions_with_constant stays old new x.id c live.companions longer within (not_before old new x.id c unnamed longer h.node) h.term;
       within = stand.within;
-      terms = stand.terms ∙ ap (map normal_of) (sym (assertions_with s (declared c) ∙ append-nil (assertions_of s)));
+      terms = stand.terms ∙ ap (map normal_of) (sym assertions);
+      linear = subst (AllByRecursion IsLinearAssertion) (sym assertions) live.linear;
       items =
           items_with new (with_constant before name x) s before.next (declared c) live.next
           (has_constant stays old new (one ∷ []) before (numbered_items s.levels) c x longer live.items within h.term h.sorted);

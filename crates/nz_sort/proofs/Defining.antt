@@ -25,7 +25,7 @@ use Rattle.nz_elaborate.specs.Elaborate.{ClashesFirst, IsWellNamed}
 use Rattle.nz_elaborate.specs.Typed.{Grows, IsTyped}
 use Rattle.nz_sort.specs.declared.acts.Act.TheVariants as acts
 use Rattle.nz_sort.specs.Acts.{rule_of, redeclared_by}
-use Rattle.nz_sort.specs.Live.{Standing, IsLive}
+use Rattle.nz_sort.specs.Live.{Standing, IsLinearAssertion, IsLive}
 use Rattle.nz_sort.specs.Changes.{Comes, Defines, with_definition}
 use Rattle.nz_sort.proofs.Accepting.{stand_longer, has_definition}
 use Rattle.nz_sort.proofs.Naming.{scope_by, scope_stays, scope_with_definition}
@@ -40,6 +40,7 @@ live_defined stays old new before s d e live g companions is fit =
     let more : State = grown s (defined e) in
     let same : constants_of more ≡ constants_of s = constants_with s (defined e) ∙ append-nil (constants_of s) in
     let later : definitions_of more ≡ definitions_of s ++ e ∷ [] = definitions_with s (defined e) in
+    let assertions : assertions_of more ≡ assertions_of s = assertions_with s (defined e) ∙ append-nil (assertions_of s) in
     let stand = stand_longer stays old new g.more before.asserted (map normal_of (assertions_of s)) g.all (record { within = live.within; terms = live.terms }) in
     record {
       named = scope_as new (with_definition before e.name d).names more (constants_of s) (definitions_of s ++ e ∷ []) same later
@@ -48,7 +49,8 @@ live_defined stays old new before s d e live g companions is fit =
       constants = same_constants old new g ∙ live.constants ∙ sym same;
       companions = companions;
       within = stand.within;
-      terms = stand.terms ∙ ap (map normal_of) (sym (assertions_with s (defined e) ∙ append-nil (assertions_of s)));
+      terms = stand.terms ∙ ap (map normal_of) (sym assertions);
+      linear = subst (AllByRecursion IsLinearAssertion) (sym assertions) live.linear;
       items =
           items_with new (with_definition before e.name d) s before.next (defined e) live.next
           (has_definition stays old new g.more before (numbered_items s.levels) e.name d e g.all live.items);

@@ -27,7 +27,7 @@ use Rattle.nz_sort.specs.declared.items.Accepted.{Accepted}
 use Rattle.nz_sort.specs.declared.items.Goal.{Goal}
 use Rattle.nz_sort.specs.declared.items.Wish.{Wish}
 use Rattle.nz_sort.specs.Items.{table_numbers, items_in, StandForAll}
-use Rattle.nz_sort.specs.Live.{Standing, standing_of, HasItems, IsLive, IsAccepted, Leaves, IfSkipped, Ask, Asks, changed, check, show_model, show_values, show_reason, show_info, show_levels, print_success, nothing, echo, leave, unsupported}
+use Rattle.nz_sort.specs.Live.{Standing, standing_of, HasItems, IsLinearAssertion, IsLive, IsAccepted, Leaves, IfSkipped, Ask, Asks, changed, check, show_model, show_values, show_reason, show_info, show_levels, print_success, nothing, echo, leave, unsupported}
 use Rattle.nz_sort.specs.Acts.{is_check}
 use Rattle.nz_sort.proofs.Naming.{scope_by, scope_stays, are_live}
 use Rattle.nz_sort.proofs.Accepting.{items_in-last, constants_in-append, definitions_in-append, assertions_in-append, stand_longer, items_kept}
@@ -243,6 +243,7 @@ live_by_levels ns standing s t e f live =
       companions = live.companions;
       within = live.within;
       terms = live.terms ∙ ap (λ l. map normal_of (assertions_in (items_of l))) (sym e);
+      linear = subst (λ l. AllByRecursion IsLinearAssertion (assertions_in (items_of l))) (sym e) live.linear;
       items = subst (λ l. HasItems ns standing (numbered_items l)) (sym e) live.items;
       next = live.next ∙ sym f;
       unpushed = ap (λ (l : List (List LiveItem)). length l - 1) e ∙ live.unpushed;
@@ -264,6 +265,7 @@ live_grown stays old new standing s g companions live =
       companions = companions;
       within = stand.within;
       terms = stand.terms;
+      linear = live.linear;
       items = items_kept stays old new g.more standing (numbered_items s.levels) g.all live.items;
       next = live.next;
       unpushed = live.unpushed;
@@ -333,6 +335,7 @@ live_at_start names cs assertions gs ws ids a b d e f h =
       companions = λ i below. absurd (omega (arith, below));
       within = All-nil none;
       terms = refl;
+      linear = tt;
       items =
           record {
             constants = record { numbers = refl; terms = nothing };
@@ -340,7 +343,7 @@ live_at_start names cs assertions gs ws ids a b d e f h =
             goals = record { items = record { numbers = refl; terms = nothing }; directions = refl; shown = refl };
             wishes = record { items = record { numbers = refl; terms = nothing }; weights = refl; numerals = refl; groups = refl };
             all = nothing;
-            numbers = refl;
+            integers = refl;
           };
       next = refl;
       unpushed = refl;

@@ -135,23 +135,23 @@ comes_asked ns standing r act c other asks keeps counts =
 pub comes_skipped : (ns : List Node) (standing : Standing) (r : Request) (act : Act) → asked act ≡ unsupported → Comes ns ns standing standing r (λ s. not_taken) (Ok act)
 comes_skipped ns standing r act e = comes_only ns standing r (λ s. not_taken) act (λ s. e)
 
-leaves_checked : (ns : List Node) (standing : Standing) (s : State) (act : Act) (holds : Bool) → standing.holds_numbers ≡ holds → asked act ≡ cond holds unsupported check → IsLive ns standing s
+leaves_checked : (ns : List Node) (standing : Standing) (s : State) (act : Act) (holds : Bool) → standing.holds_integers ≡ holds → asked act ≡ cond holds unsupported check → IsLive ns standing s
     → Leaves s checks (outcome_by s checks) (asked act) ns standing
 leaves_checked ns standing s act true e a live =
     subst (λ ask. Leaves s checks (outcome_by s checks) ask ns standing) (sym a)
-    (record { is = ap (λ b. cond b not_taken (accepted (check_sat []))) (live.items.numbers ∙ e); live = live })
+    (record { is = ap (λ b. cond b not_taken (accepted (check_sat []))) (live.items.integers ∙ e); live = live })
 leaves_checked ns standing s act false e a live =
-    let none = live.items.numbers ∙ e in
+    let none = live.items.integers ∙ e in
     subst (λ ask. Leaves s checks (outcome_by s checks) ask ns standing) (sym a)
     ((
       leaves_asked ns standing s checks (outcome_by s checks) check (check_sat []) (ap (λ b. cond b not_taken (accepted (check_sat []))) none) refl (λ reply. refl) (λ reply. refl) live,
       none,
     ))
 
-pub comes_checked : (ns : List Node) (standing : Standing) (act : Act) → asked act ≡ cond standing.holds_numbers unsupported check
+pub comes_checked : (ns : List Node) (standing : Standing) (act : Act) → asked act ≡ cond standing.holds_integers unsupported check
     → Comes ns ns standing standing checks (λ s. outcome_by s checks) (Ok act)
 comes_checked ns standing act a =
-    comes_by_leaving ns standing checks (λ s. outcome_by s checks) act (λ s live. leaves_checked ns standing s act standing.holds_numbers refl a live)
+    comes_by_leaving ns standing checks (λ s. outcome_by s checks) act (λ s live. leaves_checked ns standing s act standing.holds_integers refl a live)
 
 -- an outcome that is another
 pub comes_alike : (old new : List Node) (before after : Standing) (r : Request) (becomes others : State → Outcome) (result : Result Act Error)

@@ -1,7 +1,7 @@
 -- What is added to what stands, and what comes of a command.
-use Rattle.std.specs.Prelude.{◌≡◌, ℕ, ◌||◌, ◌+◌, not, Bool, List, [], ◌∷◌, ◌++◌, length, take, Option, Some, None, slice_get, ◌⊎◌, Result, OnErr, IfOk, IfErr, IfSome}
+use Rattle.std.specs.Prelude.{◌≡◌, ℕ, ◌||◌, ◌+◌, Bool, List, [], ◌∷◌, ◌++◌, length, take, Option, Some, None, slice_get, ◌⊎◌, Result, OnErr, IfOk, IfErr, IfSome}
 use Rattle.nz_spec.specs.Tree.{Tree}
-use Rattle.nz_spec.specs.Term.{Sort, is_bool, Constant, constant, Term, Terms, apply, no_terms}
+use Rattle.nz_spec.specs.Term.{Sort, is_int_sort, Constant, constant, Term, Terms, apply, no_terms}
 use Rattle.nz_spec.specs.Normal.{normal_of}
 use Rattle.nz_spec.specs.Table.{Node, term_in}
 use Rattle.nz_spec.specs.Elaboration.{Definition as SpecDefinition, RootFits}
@@ -19,7 +19,7 @@ use Rattle.nz_elaborate.specs.Names.{IsDefined}
 use Rattle.nz_elaborate.specs.Typed.{StandsFor, AreTyped}
 use Rattle.nz_sort.specs.declared.acts.Act.{Act}
 use Rattle.nz_sort.specs.Acts.{asked, rule_of}
-use Rattle.nz_sort.specs.Live.{Standing, IsLive, Leaves, IfSkipped}
+use Rattle.nz_sort.specs.Live.{Standing, IsLinearAssertion, IsLive, Leaves, IfSkipped}
 
 -- ---- What comes of a command
 
@@ -49,11 +49,12 @@ pub record Defines (name : List ℕ) (outcome : Outcome) (ns : List Node) (d : D
   pub defined : IsDefined ns d definition
   pub fits : RootFits definition.parameters definition.body
 
--- The assertion of a term is accepted, and this is the number of its normal one.
+-- The assertion of a term is accepted, and this is the number of its normal one, which is linear.
 pub record Asserts (outcome : Outcome) (ns : List Node) (id : ℕ) : Type 0 where
   pub term : Term
   pub is : outcome ≡ accepted (assert_term term)
   pub stands : StandsFor ns id (normal_of term)
+  pub linear : IsLinearAssertion term
 
 -- To ask for the values of these terms is accepted, and these are they.
 pub record Shows (qs : List Question) (outcome : Outcome) (ns : List Node) (xs : List Typed) : Type 0 where
@@ -74,7 +75,7 @@ with_constant before name term =
       constants = before.constants ++ record { number = before.next; term = term.id } ∷ [];
       accepted = before.accepted ++ term.id ∷ [];
       next = before.next + 1;
-      holds_numbers = before.holds_numbers || not (is_bool (sort_of term.sort));
+      holds_integers = before.holds_integers || is_int_sort (sort_of term.sort);
     }
 
 -- what stands with a definition more
@@ -93,7 +94,7 @@ with_assertion before id holds =
       asserted = before.asserted ++ id ∷ [];
       accepted = before.accepted ++ id ∷ [];
       next = before.next + 1;
-      holds_numbers = before.holds_numbers || holds;
+      holds_integers = before.holds_integers || holds;
     }
 
 -- The table and what stands have this constant more.

@@ -1,15 +1,17 @@
 -- The live state, as the code keeps it: names and items, with their numbers in the table of terms.
-use Rattle.std.specs.Prelude.{◌≡◌, ℕ, ◌<◌, Bool, false, List, [], length, map, flat_map, All, Some, ⊤}
+use Rattle.std.specs.Prelude.{◌≡◌, ℕ, ◌<◌, Bool, false, List, [], length, map, flat_map, All, Some, IsTrue, ⊤}
+use Rattle.std.specs.List.{AllByRecursion}
 use Rattle.nz_spec.specs.Tree.{Tree}
-use Rattle.nz_spec.specs.Term.{Terms}
+use Rattle.nz_spec.specs.Term.{Term, Terms}
 use Rattle.nz_spec.specs.Normal.{normal_of}
+use Rattle.nz_spec.specs.Linear.{is_linear}
 use Rattle.nz_spec.specs.Table.{Node, term_in}
 use Rattle.nz_spec.specs.Order.{HasCompanions}
 use Rattle.nz_spec.specs.Decide.{constants_in_table}
 use Rattle.nz_spec.specs.Command as commands
 use Rattle.nz_spec.specs.Request.{Question, Request, shows_values, echoes}
 use Rattle.nz_spec.specs.Parse.{request_of}
-use Rattle.nz_spec.specs.Live.{State, LiveItem, numbered_items, items_of, item_terms, items_hold_numbers, constants_of, assertions_of, pushed_levels}
+use Rattle.nz_spec.specs.Live.{State, LiveItem, numbered_items, items_of, item_terms, items_hold_integers, constants_of, assertions_of, pushed_levels}
 use Rattle.nz_spec.specs.Command.{Info, Command, declare_const, define, assert_term, check_sat, get_model, get_value, get_info, get_levels, get_reason, set_print_success, no_effect, exit, Outcome, accepted, not_taken}
 use Rattle.nz_spec.specs.Script.{asked_of, scope_of, outcome_of}
 use Rattle.nz_spec.specs.Reply.{Reply}
@@ -33,11 +35,11 @@ pub record Standing : Type 0 where
   pub wishes : List Wish
   pub accepted : List ℕ  -- the terms of the items of all kinds that have one
   pub next : ℕ  -- the number of the next item
-  pub holds_numbers : Bool  -- a term of theirs holds a number
+  pub holds_integers : Bool  -- a term of theirs holds a unit of sort Int
 
 -- what stands, by the parts that the code keeps
 abbrev pub standing_of : List (List ℕ × Named) → List Accepted → List Accepted → List Goal → List Wish → List ℕ → ℕ → Bool → Standing
-standing_of names constants assertions goals wishes numbers next holds_numbers =
+standing_of names constants assertions goals wishes numbers next holds_integers =
     record {
       names = names;
       constants = constants;
@@ -47,7 +49,7 @@ standing_of names constants assertions goals wishes numbers next holds_numbers =
       wishes = wishes;
       accepted = numbers;
       next = next;
-      holds_numbers = holds_numbers;
+      holds_integers = holds_integers;
     }
 
 -- The items of each kind, and of all kinds, are those of these live items.
@@ -57,16 +59,21 @@ pub record HasItems (ns : List Node) (standing : Standing) (live : List LiveItem
   pub goals : AreGoals ns standing.goals live
   pub wishes : AreWishes ns standing.wishes live
   pub all : StandForAll ns standing.accepted (flat_map item_terms (items_in live))
-  pub numbers : items_hold_numbers (items_in live) ≡ standing.holds_numbers
+  pub integers : items_hold_integers (items_in live) ≡ standing.holds_integers
+
+-- the normal term of an assertion is linear
+abbrev pub IsLinearAssertion : Term → Type 0
+IsLinearAssertion t = IsTrue (is_linear (normal_of t))
 
 -- The table and what stands are those of a live state: its names are its scope, its constants are those of the table; the terms are the normal ones of
--- its assertions; the items are its items; the table has the companions of its terms. No level is pushed.
+-- its assertions, and linear; the items are its items; the table has the companions of its terms. No level is pushed.
 pub record IsLive (ns : List Node) (standing : Standing) (s : State) : Type 0 where
   pub named : IsScope ns standing.names [] (scope_of s)
   pub constants : constants_in_table ns ≡ constants_of s
   pub companions : HasCompanions ns
   pub within : All (λ i. i < length ns) standing.asserted
   pub terms : map (term_in ns) standing.asserted ≡ map normal_of (assertions_of s)
+  pub linear : AllByRecursion IsLinearAssertion (assertions_of s)
   pub items : HasItems ns standing (numbered_items s.levels)
   pub next : standing.next ≡ s.next
   pub unpushed : pushed_levels s ≡ 0
@@ -134,10 +141,10 @@ pub record IsSkipped (s : State) (outcome : Outcome) (ns : List Node) (standing 
   pub is : outcome ≡ not_taken
   pub live : IsLive ns standing s
 
--- what stands after a command that is written so, of this outcome, which asks this; a check is of items that hold no number
+-- what stands after a command that is written so, of this outcome, which asks this; a check is of items that hold no unit of sort Int
 abbrev pub Leaves : State → Request → Outcome → Ask → List Node → Standing → Type 0
 Leaves s r outcome unsupported ns standing = IsSkipped s outcome ns standing
-Leaves s r outcome check ns standing = IsAccepted s r outcome check ns standing × (items_hold_numbers (items_of s.levels) ≡ false)
+Leaves s r outcome check ns standing = IsAccepted s r outcome check ns standing × (items_hold_integers (items_of s.levels) ≡ false)
 Leaves s r outcome ask ns standing = IsAccepted s r outcome ask ns standing
 
 -- The tree is a command which asks this, and this is what stands after it.

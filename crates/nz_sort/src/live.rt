@@ -54,7 +54,8 @@ pub struct Live {
     accepted: Vec<TermId>,
     /// The number of the next item, definitions among them.
     next: usize,
-    holds_numbers: bool,
+    /// Whether one of these terms holds a unit of sort `Int`.
+    holds_integers: bool,
 }
 
 impl Model for Live {
@@ -66,7 +67,7 @@ impl Model for Live {
 
     ghost coded = { Prim.hlevel (codes, tree.the_row.coded) };
 
-    ghost view = { λ l. standing_of l.names l.constants.items l.assertions.items l.goals.items l.wishes.items l.accepted.items l.next l.holds_numbers };
+    ghost view = { λ l. standing_of l.names l.constants.items l.assertions.items l.goals.items l.wishes.items l.accepted.items l.next l.holds_integers };
 }
 
 impl Live {
@@ -88,7 +89,7 @@ impl Live {
             wishes: Vec::new(alloc),
             accepted: Vec::new(alloc),
             next: 0,
-            holds_numbers: false,
+            holds_integers: false,
         })
     }
 
@@ -227,11 +228,11 @@ impl Live {
         }
     }
 
-    /// Checks are over Bool alone, yet.
+    /// No check is over Int, yet.
     fn check_act(&self) -> Act
-        ensures check { asked result ≡ (if self.now.holds_numbers then unsupported else check) }
+        ensures check { asked result ≡ (if self.now.holds_integers then unsupported else check) }
     {
-        if self.holds_numbers {
+        if self.holds_integers {
             Act::Unsupported
         } else {
             Act::Check
@@ -316,7 +317,7 @@ impl Live {
         });
         self.accepted.push_reserved(term.id);
         self.next = next;
-        self.holds_numbers = self.holds_numbers || term.sort != Sort::Bool;
+        self.holds_integers = self.holds_integers || term.sort == Sort::Int;
         Ok(())
     }
 
@@ -402,7 +403,7 @@ impl Live {
     {
         term_stays();
         let id = self.assertion(terms, term)?;
-        self.keep_assertion(id, terms.holds_number(id))?;
+        self.keep_assertion(id, terms.holds_integer(id))?;
         Ok(Act::Changed)
     }
 
@@ -428,7 +429,7 @@ impl Live {
         Ok(made.id)
     }
 
-    /// Keeps the assertion of a term, which holds a number or doesn't.
+    /// Keeps the assertion of a term, which holds a unit of sort `Int` or doesn't.
     fn keep_assertion(&mut self, term: TermId, holds: bool) -> Result<(), Memory>
         ensures kept { OnOk result (self.new ≡ with_assertion self.old term holds) }
         ensures unchanged { OnErr result (self.new ≡ self.old) }
@@ -439,7 +440,7 @@ impl Live {
         self.accepted.push(term)?;
         self.assertions.push_reserved(Accepted { number, term });
         self.next = next;
-        self.holds_numbers = self.holds_numbers || holds;
+        self.holds_integers = self.holds_integers || holds;
         Ok(())
     }
 

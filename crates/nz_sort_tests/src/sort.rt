@@ -415,6 +415,33 @@ fn asserts_linear_terms(rt: HostRuntime) -> Result<(), Fail> {
     come(&rt, rt.alloc(), ASSERT, ASSERT_OUTCOMES)
 }
 
+const CHECK: &[&str] = &[
+    "declare-const x Real",
+    "assert ( < ( ite ( < x 1.0 ) x 2.0 ) 3.0 )",
+    "assert ( < 1 2 )",
+    "define-fun half ( ( a Int ) ) Real ( / a 2 )",
+    "get-value ( ( div 7 2 ) )",
+    "check-sat",
+    "assert ( is_int x )",
+    "check-sat",
+];
+
+const CHECK_OUTCOMES: &[&str] = &[
+    "changed",
+    "changed",
+    "changed",
+    "changed",
+    "values",
+    "check",
+    "changed",
+    "unsupported",
+];
+
+#[test]
+fn checks_what_holds_no_integers(rt: HostRuntime) -> Result<(), Fail> {
+    come(&rt, rt.alloc(), CHECK, CHECK_OUTCOMES)
+}
+
 const SET: &[&str] = &[
     "set-logic QF_LRA",
     "set-option :print-success true",

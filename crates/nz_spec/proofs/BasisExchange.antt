@@ -3,6 +3,7 @@
 use Rattle.std.proofs.Common.{◌≡◌, ℕ, ◌<◌, Bool, true, false, List, [], ◌∷◌, length, pos, negsuc, refl, sym, ap, ◌∙◌, subst, true≢false}
 use Rattle.std.specs.Prelude.{◌==◌, not, ◌&&◌, if◌then◌else◌, ◌≢◌}
 use Rattle.nz_ints.proofs.Ring.{Atom, Literal, ◌⊕◌, ◌⊗◌, Minus}
+use Rattle.nz_lists.proofs.Numbers.{equal-number, other-number, same-number}
 use Rattle.nz_fractions.specs.Fraction.{Fraction, whole, ◌=ℚ◌, ◌+ℚ◌, neg_ℚ, ◌*ℚ◌, reciprocal, Product, Quotient, outcome}
 use Rattle.nz_spec.specs.Computation.{at_once}
 use Rattle.nz_spec.specs.Term.{is_zero}
@@ -12,10 +13,11 @@ use Rattle.nz_spec.specs.BasisMoves.{numbers, Rows, AreRows, plus_multiple, exch
 use Rattle.nz_fractions.proofs.Laws.{=ℚ_refl, =ℚ-from_same, =ℚ_sym}
 use Rattle.nz_fractions.proofs.Order.{same-fraction_eq}
 use Rattle.nz_fractions.proofs.Arithmetic.{+ℚ-zero, +ℚ-same, neg_ℚ-same, outcome-sum, outcome-product}
-use Rattle.nz_spec.proofs.FormValues.{zero_left, zero_times}
-use Rattle.nz_spec.proofs.FractionQuotients.{reciprocal-times, outcome-quotient, nonzero-test, zero-factor}
-use Rattle.nz_spec.proofs.FractionSolver.{◌∙ℚ◌, solve, solve_by, plus_left, plus_right, times_left, times_right}
-use Rattle.nz_spec.proofs.BasisRows.{value_is_worth, weighted-same, weighted-alike, weighted-plus, alone-here, alone-there, weighted-alone, equal-number, other-number, same-number, alone-row, coefficients_are_unique}
+use Rattle.nz_fractions.proofs.Identities.{zero_left, zero_times, nonzero-test}
+use Rattle.nz_fractions.proofs.Quotients.{reciprocal-times, outcome-quotient, zero-factor}
+use Rattle.nz_fractions.proofs.Solver.{◌∙ℚ◌, solve, solve_by, plus_left, plus_right, times_left, times_right}
+use Rattle.nz_spec.proofs.FormValues.{value_is_worth}
+use Rattle.nz_spec.proofs.BasisRows.{weighted-same, weighted-alike, weighted-plus, alone-here, alone-there, weighted-alone, alone-row, coefficients_are_unique}
 
 -- equal coefficients make one row
 pub row-same : (fs : List (List Part)) (nonbasic : ℕ → Bool) (i : ℕ) (c d : Coefficients) → ((k : ℕ) → d k =ℚ c k) → IsRow fs nonbasic i c → IsRow fs nonbasic i d

@@ -5,6 +5,7 @@ use Rattle.std.proofs.Math.Seq.{get_or-append_seam}
 use Rattle.std.proofs.lemmas.List.{get_or_append_left, get_or_default, get_or_past, length_push}
 use Rattle.std.proofs.lemmas.List.Elements.{Contains-append_left, Contains-append_right}
 use Rattle.nz_ints.proofs.Ring.{Atom, Literal, ◌⊕◌, ◌⊗◌}
+use Rattle.nz_lists.proofs.Numbers.{equal-number, same-number}
 use Rattle.nz_fractions.specs.Fraction.{Fraction, whole, ◌=ℚ◌, ◌+ℚ◌, ◌*ℚ◌, Sum, Product, outcome}
 use Rattle.nz_spec.specs.Computation.{Computation}
 use Rattle.nz_spec.specs.Term.{Term}
@@ -14,11 +15,11 @@ use Rattle.nz_spec.specs.Basis.{Valuation, worth, form_at, Coefficients, weighte
 use Rattle.nz_spec.specs.BasisMoves.{numbers, Rows, AreRows, plus_multiple, with_nonbasic, AreNumbered, part_added, parts_added, joining_row, JoinsKeepBasis}
 use Rattle.nz_fractions.proofs.Laws.{=ℚ_refl, =ℚ-from_same, =ℚ_sym}
 use Rattle.nz_fractions.proofs.Arithmetic.{+ℚ-zero, +ℚ-same, *ℚ-one, outcome-sum, outcome-product}
-use Rattle.nz_spec.proofs.FormValues.{zero_times, times_zero}
+use Rattle.nz_fractions.proofs.Identities.{zero_times, times_zero}
+use Rattle.nz_fractions.proofs.Solver.{◌∙ℚ◌, solve, plus_left, plus_right, times_left, times_right}
 use Rattle.nz_spec.proofs.Same.{same_term, one_term}
-use Rattle.nz_spec.proofs.FractionSolver.{◌∙ℚ◌, solve, plus_left, plus_right, times_left, times_right}
 use Rattle.nz_spec.proofs.BasisSums.{sum-same, sum-zero}
-use Rattle.nz_spec.proofs.BasisRows.{weighted-same, weighted-plus, weighted-zero, equal-number, same-number, nonbasic-plus, alone-row, coefficients_are_unique}
+use Rattle.nz_spec.proofs.BasisRows.{weighted-same, weighted-plus, weighted-zero, nonbasic-plus, alone-row, coefficients_are_unique}
 
 -- ---- Lists with one more at the end
 

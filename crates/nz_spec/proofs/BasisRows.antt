@@ -1,19 +1,16 @@
 -- Rows over a basis: mixes of coefficients, and what is independent has one coefficient each.
-use Rattle.std.proofs.Common.{◌≡◌, ℕ, ◌<◌, Bool, true, false, List, [], ◌∷◌, length, pos, negsuc, refl, sym, ap, ap₂, ◌∙◌, true≢false, arith}
+use Rattle.std.proofs.Common.{◌≡◌, ℕ, ◌<◌, Bool, true, false, List, [], ◌∷◌, length, pos, negsuc, refl, sym, ap, ◌∙◌, true≢false, arith}
 use Rattle.std.specs.Prelude.{◌==◌, if◌then◌else◌, ◌≢◌}
+use Rattle.nz_lists.proofs.Numbers.{equal-number, other-number}
 use Rattle.nz_ints.proofs.Ring.{Atom, Literal, ◌⊕◌, ◌⊗◌}
 use Rattle.nz_fractions.specs.Fraction.{Fraction, whole, ◌=ℚ◌, ◌+ℚ◌, ◌*ℚ◌}
 use Rattle.nz_spec.specs.Form.{Part}
-use Rattle.nz_spec.specs.Basis.{Valuation, worth, form_at, Coefficients, weighted, mix, IsZeroAtBasic, IsRow, IsBasis, IsCoefficient, AreIndependent, CoefficientsAreUnique, alone, NonbasicFormIsItself, ValueIsWorth}
+use Rattle.nz_spec.specs.Basis.{Valuation, worth, form_at, Coefficients, weighted, mix, IsZeroAtBasic, IsRow, IsBasis, IsCoefficient, AreIndependent, CoefficientsAreUnique, alone, NonbasicFormIsItself}
 use Rattle.nz_fractions.proofs.Laws.{=ℚ_refl, =ℚ_sym}
 use Rattle.nz_fractions.proofs.Arithmetic.{+ℚ-zero, +ℚ-same}
-use Rattle.nz_spec.proofs.FormValues.{zero_times, times_zero, one_times}
-use Rattle.nz_spec.proofs.FractionSolver.{◌∙ℚ◌, solve, solve_by, plus_right, times_left, times_right}
+use Rattle.nz_fractions.proofs.Identities.{zero_times, times_zero, one_times}
+use Rattle.nz_fractions.proofs.Solver.{◌∙ℚ◌, solve, solve_by, plus_right, times_left, times_right}
 use Rattle.nz_spec.proofs.BasisSums.{sum-same, sum-plus, sum-scaled, sum-zero, sum-single}
-
-pub value_is_worth : ValueIsWorth
-value_is_worth a [] = refl
-value_is_worth a (p ∷ ps) = ap₂ (λ (x y : Fraction). x +ℚ y) refl (value_is_worth a ps)
 
 -- ---- Sums with coefficients, over any values of the forms
 
@@ -35,15 +32,6 @@ module _ (n : ℕ) (y : Coefficients) where
 
   pub weighted-zero : (c : Coefficients) → ((k : ℕ) → c k =ℚ whole (pos 0)) → weighted n c y =ℚ whole (pos 0)
   weighted-zero c h = sum-zero n (λ k. c k *ℚ y k) (λ k p. times_left (y k) (h k) ∙ℚ zero_times (y k))
-
-pub equal-number : (k i : ℕ) → k ≡ i → (k == i) ≡ true
-equal-number k i e = grind (arith, e)
-
-pub same-number : (k i : ℕ) → (k == i) ≡ true → k ≡ i
-same-number k i e = grind (arith, e)
-
-pub other-number : (k i : ℕ) → k ≢ i → (k == i) ≡ false
-other-number k i h = grind (arith, h)
 
 pub alone-here : (i : ℕ) → alone i i =ℚ whole (pos 1)
 alone-here i = by_test (i == i) (equal-number i i refl)
@@ -132,4 +120,7 @@ coefficients_are_unique = record {
 }
 
 pub nonbasic_form_is_itself : NonbasicFormIsItself
-nonbasic_form_is_itself fs nonbasic i b e = alone-row fs nonbasic i (b.listed i e) e
+nonbasic_form_is_itself = record {
+  row = λ fs nonbasic i b e. alone-row fs nonbasic i (b.listed i e) e;
+  value = weighted-alone;
+}

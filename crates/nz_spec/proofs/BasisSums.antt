@@ -6,8 +6,8 @@ use Rattle.nz_fractions.specs.Fraction.{Fraction, whole, ◌=ℚ◌, ◌+ℚ◌,
 use Rattle.nz_spec.specs.Basis.{sum_of}
 use Rattle.nz_fractions.proofs.Laws.{=ℚ_refl, =ℚ_sym}
 use Rattle.nz_fractions.proofs.Arithmetic.{+ℚ-zero, +ℚ-same}
-use Rattle.nz_spec.proofs.FormValues.{zero_left, times_zero}
-use Rattle.nz_spec.proofs.FractionSolver.{◌∙ℚ◌, solve, plus_left, plus_right}
+use Rattle.nz_fractions.proofs.Identities.{zero_left, times_zero}
+use Rattle.nz_fractions.proofs.Solver.{◌∙ℚ◌, solve, plus_left, plus_right}
 
 pub sum-same : (n : ℕ) (f g : ℕ → Fraction) → ((k : ℕ) → k < n → f k =ℚ g k) → sum_of n f =ℚ sum_of n g
 sum-same zero f g h = =ℚ_refl (whole (pos 0))

@@ -8,7 +8,7 @@ use Rattle.nz_spec.specs.Basis.{Valuation, worth, form_at, Coefficients, weighte
 use Rattle.nz_spec.specs.BasisMoves.{AreNumbered, SolutionsAreWorth}
 use Rattle.nz_fractions.proofs.Laws.{=ℚ_refl, =ℚ-from_same, =ℚ_sym}
 use Rattle.nz_fractions.proofs.Arithmetic.{+ℚ-same}
-use Rattle.nz_spec.proofs.FractionSolver.{◌∙ℚ◌, solve, times_right}
+use Rattle.nz_fractions.proofs.Solver.{◌∙ℚ◌, solve, times_right}
 use Rattle.nz_spec.proofs.BasisRows.{weighted-plus, weighted-zero}
 use Rattle.nz_spec.proofs.BasisJoins.{unit_worth, added-zero, added-mix, Spans}
 

@@ -7,10 +7,11 @@ use Rattle.nz_spec.specs.Basis.{Coefficients, weighted, IsRow, alone, IsSolution
 use Rattle.nz_spec.specs.Bland.{is_nonbasic, value_in, sum_at, Position, HasBasis, HasValue, Side, NonbasicFormsFit, Breaks, MeetsBounds, PositionsHaveValues}
 use Rattle.nz_fractions.proofs.Laws.{=ℚ_refl, =ℚ_sym}
 use Rattle.nz_fractions.proofs.Arithmetic.{+ℚ-same}
-use Rattle.nz_spec.proofs.FormValues.{zero_times}
-use Rattle.nz_spec.proofs.FractionSolver.{◌∙ℚ◌, solve, plus_right, times_left, times_right}
+use Rattle.nz_fractions.proofs.Identities.{zero_times}
+use Rattle.nz_fractions.proofs.Solver.{◌∙ℚ◌, solve, plus_right, times_left, times_right}
 use Rattle.nz_spec.proofs.BasisSums.{sum-same, sum-plus, sum-scaled}
 use Rattle.nz_spec.proofs.BasisRows.{weighted-same, weighted-alone, nonbasic_form_is_itself}
+use Rattle.nz_spec.proofs.SumsLonger.{sum_longer}
 use Rattle.nz_spec.proofs.InfinitesimalOrder.{=δ_sym, =δ_trans}
 use Rattle.nz_spec.proofs.BlandRefutes.{outside-equal}
 
@@ -57,7 +58,7 @@ module _ (u : Position) (b : HasBasis u) where
       let h = b.listed k e in
       one-value k (value_in u.point k) h (record {
         row = alone k;
-        is_row = nonbasic_form_is_itself u.forms (is_nonbasic u.point) k b e;
+        is_row = nonbasic_form_is_itself.row u.forms (is_nonbasic u.point) k b e;
         at = record {
           standard = =ℚ_sym (weighted-alone (length u.forms) k (λ l. (value_in u.point l).standard) h);
           coefficient = =ℚ_sym (weighted-alone (length u.forms) k (λ l. (value_in u.point l).coefficient) h);
@@ -126,4 +127,5 @@ positions_have_values = record {
   one = λ s k x y b h p q. =δ_trans (one-value s b k x h p) (=δ_sym (one-value s b k y h q));
   fit = λ s y e b has. fits-at s y b has e;
   feasible = λ s y b has fit none. all-meet s y b has fit none;
+  longer = sum_longer;
 }

@@ -9,7 +9,7 @@ use Rattle.nz_spec.specs.Basis.{Coefficients, IsSolution}
 use Rattle.nz_spec.specs.Bland.{Point, is_nonbasic, NonbasicFormsFit, zero_infinitesimal, value_in, sum_at, Position, HasBasis, Side, lower_side, upper_side, other_side, bound_on, IsOutside, HasRoom, CanHelp, IsCheckStep}
 use Rattle.nz_spec.specs.PositionMoves.{AreConsistent}
 use Rattle.nz_fractions.proofs.Laws.{=ℚ-from_same, =ℚ_sym, ≤ℚ-from_eq, ≤ℚ-<ℚ_trans, <ℚ-≤ℚ_trans, ≤ℚ-from_lt, <ℚ_irrefl}
-use Rattle.nz_spec.proofs.FractionSolver.{◌∙ℚ◌}
+use Rattle.nz_fractions.proofs.Solver.{◌∙ℚ◌}
 use Rattle.nz_spec.proofs.InfinitesimalOrder.{=δ_sym, =δ_trans}
 use Rattle.nz_spec.proofs.BlandRefutes.{sides, IsPast, not_outside, outside-sum, outside-equal, past-between, past-outside, past-equal, inside-at, held_back, held_up, held_down}
 use Rattle.nz_spec.proofs.BlandPositions.{all_values, all-have, one-value, nonbasic-value, standard-fits, coefficient-fits}

@@ -2,16 +2,15 @@
 use Rattle.std.proofs.Common.{◌≡◌, ℕ, zero, suc, ◌<◌, Bool, true, false, ◌⊎◌, inl, inr, length, Option, Some, None, pos, refl, sym, ap, subst, arith, Ordering, Less, Equal, Greater}
 use Rattle.std.specs.Prelude.{if◌then◌else◌, unwrap_or}
 use Rattle.std.specs.Ordering.{MatchOrdering}
-use Rattle.std.proofs.lemmas.Int.{ints}
 use Rattle.nz_fractions.specs.Fraction.{Fraction, whole, ◌=ℚ◌, ◌<ℚ◌, ◌*ℚ◌, fraction_cmp, fraction_lt}
 use Rattle.nz_spec.specs.Infinitesimal.{Infinitesimal, ◌=δ◌}
 use Rattle.nz_spec.specs.Form.{parts_value}
 use Rattle.nz_spec.specs.Basis.{form_at, Coefficients, IsCoefficient}
 use Rattle.nz_spec.specs.Bland.{is_nonbasic, zero_infinitesimal, value_in, sum_at, Position, Side, lower_side, upper_side, other_side, bound_on, IsOutside, IsInside, Breaks, HasRoom, CanHelp, MeetsBounds, IsRefutation, NoHelpRefutes}
-use Rattle.nz_fractions.proofs.Laws.{=ℚ_refl, =ℚ_sym, ≤ℚ-from_eq, <ℚ_irrefl}
-use Rattle.nz_fractions.proofs.Order.{fraction_ranked}
-use Rattle.nz_spec.proofs.FormValues.{zero_times, times_zero}
-use Rattle.nz_spec.proofs.FractionSolver.{◌∙ℚ◌, times_left}
+use Rattle.nz_fractions.proofs.Laws.{=ℚ_refl, =ℚ_sym, ≤ℚ-from_eq, ≤ℚ-from_lt, <ℚ_irrefl}
+use Rattle.nz_fractions.proofs.Order.{fraction_ranked, lt_is, lt_is_not}
+use Rattle.nz_fractions.proofs.Identities.{zero_times, times_zero}
+use Rattle.nz_fractions.proofs.Solver.{◌∙ℚ◌, times_left}
 use Rattle.nz_spec.proofs.BasisSums.{sum-zero}
 use Rattle.nz_spec.proofs.BasisExchange.{solutions_stay}
 use Rattle.nz_spec.proofs.InfinitesimalOrder.{AtMost, at_most_trans, never_less, less-at_most_too, at_most-less_too, not_less, at_most-less, less-at_most, at_most-equal, =δ_sym, parts_times, at_most-plus, at_most-times_pos, at_most-times_neg}
@@ -128,22 +127,6 @@ refutes s i side bound row bounds r y fits meets =
 abbrev pub held_back : Position → Side → Coefficients → ℕ → Infinitesimal
 held_back s side c k = unwrap_or (bound_on (if fraction_lt (whole (pos 0)) (c k) then other_side side else side) s k) zero_infinitesimal
 
-lt-true : (p q : Fraction) → p <ℚ q → fraction_lt p q ≡ true
-unfolding fraction_lt
-lt-true p q h = by_test (fraction_lt p q) refl
-  where
-    by_test : (b : Bool) → fraction_lt p q ≡ b → b ≡ true
-    by_test true e = refl
-    by_test false e = absurd (omega (arith, ints, e, h.cross))
-
-lt-false : (p q : Fraction) → q <ℚ p → fraction_lt p q ≡ false
-unfolding fraction_lt
-lt-false p q h = by_test (fraction_lt p q) refl
-  where
-    by_test : (b : Bool) → fraction_lt p q ≡ b → b ≡ false
-    by_test true e = absurd (omega (arith, ints, e, h.cross))
-    by_test false e = refl
-
 module _ (s : Position) (side : Side) (bound : Infinitesimal) (i : ℕ) (breaks : Breaks s side bound i) where
   abbrev row : Coefficients
   row = breaks.has.row
@@ -172,7 +155,7 @@ module _ (s : Position) (side : Side) (bound : Infinitesimal) (i : ℕ) (breaks 
   pub held_up : (k : ℕ) → (CanHelp s i (other_side side) k → ⊥) → whole (pos 0) <ℚ row k → (bound_on (other_side side) s k ≡ Some (held_back s side row k)) × IsPast (other_side side) (held_back s side row k) (value_in s.point k)
   held_up k none h =
       subst (λ (t : Bool). let x = unwrap_or (bound_on (if t then other_side side else side) s k) zero_infinitesimal in (bound_on (other_side side) s k ≡ Some x) × IsPast (other_side side) x (value_in s.point k))
-      (sym (lt-true (whole (pos 0)) (row k) h))
+      (sym (lt_is (whole (pos 0)) (row k) h))
       (without_room (other_side side) k (λ room. none (record {
         nonbasic = nonbasic-where k (λ e. <ℚ_irrefl h (≤ℚ-from_eq e));
         coefficient = row k;
@@ -187,7 +170,7 @@ module _ (s : Position) (side : Side) (bound : Infinitesimal) (i : ℕ) (breaks 
   pub held_down : (k : ℕ) → (CanHelp s i (other_side side) k → ⊥) → row k <ℚ whole (pos 0) → (bound_on side s k ≡ Some (held_back s side row k)) × IsPast side (held_back s side row k) (value_in s.point k)
   held_down k none h =
       subst (λ (t : Bool). let x = unwrap_or (bound_on (if t then other_side side else side) s k) zero_infinitesimal in (bound_on side s k ≡ Some x) × IsPast side x (value_in s.point k))
-      (sym (lt-false (whole (pos 0)) (row k) h))
+      (sym (lt_is_not (whole (pos 0)) (row k) (≤ℚ-from_lt h)))
       (without_room side k (λ room. none (record {
         nonbasic = nonbasic-where k (λ e. <ℚ_irrefl h (≤ℚ-from_eq (=ℚ_sym e)));
         coefficient = row k;
@@ -211,7 +194,7 @@ module _ (s : Position) (side : Side) (bound : Infinitesimal) (i : ℕ) (breaks 
 
 pub no_help_refutes : NoHelpRefutes
 no_help_refutes = record {
-  found = λ s side bound i b breaks none. (breaks.has.row, held_back s side breaks.has.row, refutation s side bound i breaks none);
+  found = λ s side bound i breaks none. (held_back s side breaks.has.row, refutation s side bound i breaks none);
   refutes = refutes;
   assignments = λ s i side bound row bounds r a meets.
       refutes s i side bound row bounds r

@@ -2,6 +2,7 @@
 use Rattle.std.proofs.Common.{◌≡◌, ℕ, ◌<◌, Bool, true, false, ◌⊎◌, inl, inr, [], ◌∷◌, length, Some, None, pos, negsuc, refl, sym, ap, ◌∙◌, subst, true≢false}
 use Rattle.std.specs.Prelude.{◌==◌, if◌then◌else◌, ◌≢◌, ◌↔◌, unwrap_or, is_some}
 use Rattle.nz_ints.proofs.Ring.{Atom, Literal, ◌⊕◌, ◌⊗◌, Minus}
+use Rattle.nz_lists.proofs.Numbers.{equal-number, other-number, same-number}
 use Rattle.nz_fractions.specs.Fraction.{Fraction, whole, ◌=ℚ◌, ◌<ℚ◌, ◌+ℚ◌, ◌-ℚ◌, neg_ℚ, ◌*ℚ◌}
 use Rattle.nz_spec.specs.Infinitesimal.{Infinitesimal, ◌+δ◌, ◌-δ◌, scaled}
 use Rattle.nz_spec.specs.Term.{is_zero}
@@ -11,14 +12,14 @@ use Rattle.nz_spec.specs.Bland.{Point, is_nonbasic, zero_infinitesimal, value_in
 use Rattle.nz_fractions.proofs.Laws.{=ℚ_refl, =ℚ-from_same, =ℚ_sym, ≤ℚ-from_eq, <ℚ_irrefl}
 use Rattle.nz_fractions.proofs.Order.{same-fraction_eq}
 use Rattle.nz_fractions.proofs.Arithmetic.{+ℚ-same}
-use Rattle.nz_spec.proofs.FormValues.{zero_times}
-use Rattle.nz_spec.proofs.FractionSolver.{◌∙ℚ◌, solve, times_left, times_right}
+use Rattle.nz_fractions.proofs.Identities.{zero_times}
+use Rattle.nz_fractions.proofs.Solver.{◌∙ℚ◌, solve, times_left, times_right}
 use Rattle.nz_spec.proofs.BasisSums.{sum-same, sum-plus, sum-single}
-use Rattle.nz_spec.proofs.BasisRows.{weighted-same, weighted-alone, equal-number, other-number, same-number, nonbasic_form_is_itself}
+use Rattle.nz_spec.proofs.BasisRows.{weighted-same, weighted-alone, nonbasic_form_is_itself}
 use Rattle.nz_spec.proofs.BasisExchange.{row-sum_stays, nonzero_at, exchange_keeps_basis, solutions_stay}
 
 -- a coefficient above or below 0 isn't 0
-signed-nonzero : (q : Fraction) → (whole (pos 0) <ℚ q) ⊎ (q <ℚ whole (pos 0)) → is_zero q ≡ false
+pub signed-nonzero : (q : Fraction) → (whole (pos 0) <ℚ q) ⊎ (q <ℚ whole (pos 0)) → is_zero q ≡ false
 signed-nonzero q h = by_test (is_zero q) refl
   where
     unequal : q =ℚ whole (pos 0) → (whole (pos 0) <ℚ q) ⊎ (q <ℚ whole (pos 0)) → ⊥
@@ -36,7 +37,7 @@ helper-sign s i side j h = by_way h.way
     by_way (inl w) = inl w.0
     by_way (inr w) = inr w.0
 
-nonbasic-exchanged : (x : Point) (i j : ℕ) (b : Infinitesimal) (k : ℕ) → exchanged (is_nonbasic x) i j k ≡ is_nonbasic (exchanged_point x i j b) k
+pub nonbasic-exchanged : (x : Point) (i j : ℕ) (b : Infinitesimal) (k : ℕ) → exchanged (is_nonbasic x) i j k ≡ is_nonbasic (exchanged_point x i j b) k
 nonbasic-exchanged x i j b k = by_tests (k == i) (k == j)
   where
     by_tests : (d e : Bool) → (if d then true else if e then false else is_some (x k)) ≡ is_some (if d then Some b else if e then None else x k)
@@ -44,9 +45,43 @@ nonbasic-exchanged x i j b k = by_tests (k == i) (k == j)
     by_tests false true = refl
     by_tests false false = refl
 
+-- ---- The form that comes to stand at its bound
+
+module _ (s : Position) (i j : ℕ) (bound : Infinitesimal) where
+  abbrev pub standing_at : Position
+  standing_at = record s { point = exchanged_point s.point i j bound }
+
+  stands-nonbasic : is_nonbasic standing_at.point i ≡ true
+  stands-nonbasic = by_test (i == i) (equal-number i i refl)
+    where
+      by_test : (d : Bool) → d ≡ true → is_some (if d then Some bound else if i == j then None else s.point i) ≡ true
+      by_test true e = refl
+      by_test false e = absurd (true≢false (sym e))
+
+  pub stands-value : value_in standing_at.point i ≡ bound
+  stands-value = by_test (i == i) (equal-number i i refl)
+    where
+      by_test : (d : Bool) → d ≡ true → unwrap_or (if d then Some bound else if i == j then None else s.point i) zero_infinitesimal ≡ bound
+      by_test true e = refl
+      by_test false e = absurd (true≢false (sym e))
+
+  pub stands-at : i < length s.forms → HasBasis standing_at → HasValue standing_at i bound
+  stands-at listed b = record {
+    row = alone i;
+    is_row = nonbasic_form_is_itself.row s.forms (is_nonbasic standing_at.point) i b stands-nonbasic;
+    at = record {
+      standard =
+          =ℚ_sym (weighted-alone (length s.forms) i (λ k. (value_in standing_at.point k).standard) listed
+          ∙ℚ =ℚ-from_same (ap (λ (x : Infinitesimal). x.standard) stands-value));
+      coefficient =
+          =ℚ_sym (weighted-alone (length s.forms) i (λ k. (value_in standing_at.point k).coefficient) listed
+          ∙ℚ =ℚ-from_same (ap (λ (x : Infinitesimal). x.coefficient) stands-value));
+    };
+  }
+
 module _ (s t : Position) (i j : ℕ) (b : HasBasis s) (step : IsCheckStep s t i j) where
   abbrev next : Position
-  next = record s { point = exchanged_point s.point i j step.bound }
+  next = standing_at s i j step.bound
 
   abbrev now_nonbasic : ℕ → Bool
   now_nonbasic = exchanged (is_nonbasic s.point) i j
@@ -68,36 +103,6 @@ module _ (s t : Position) (i j : ℕ) (b : HasBasis s) (step : IsCheckStep s t i
   next-basis =
       subst (λ (test : ℕ → Bool). IsBasis s.forms test) tests
       (exchange_keeps_basis.basis s.forms (is_nonbasic s.point) i j b may)
-
-  -- ---- The form that left
-
-  entered : is_nonbasic next.point i ≡ true
-  entered = by_test (i == i) (equal-number i i refl)
-    where
-      by_test : (d : Bool) → d ≡ true → is_some (if d then Some step.bound else if i == j then None else s.point i) ≡ true
-      by_test true e = refl
-      by_test false e = absurd (true≢false (sym e))
-
-  at_bound : value_in next.point i ≡ step.bound
-  at_bound = by_test (i == i) (equal-number i i refl)
-    where
-      by_test : (d : Bool) → d ≡ true → unwrap_or (if d then Some step.bound else if i == j then None else s.point i) zero_infinitesimal ≡ step.bound
-      by_test true e = refl
-      by_test false e = absurd (true≢false (sym e))
-
-  next-stands : HasValue next i step.bound
-  next-stands = record {
-    row = alone i;
-    is_row = nonbasic_form_is_itself s.forms (is_nonbasic next.point) i next-basis entered;
-    at = record {
-      standard =
-          =ℚ_sym (weighted-alone (length s.forms) i (λ k. (value_in next.point k).standard) step.breaks.listed
-          ∙ℚ =ℚ-from_same (ap (λ (x : Infinitesimal). x.standard) at_bound));
-      coefficient =
-          =ℚ_sym (weighted-alone (length s.forms) i (λ k. (value_in next.point k).coefficient) step.breaks.listed
-          ∙ℚ =ℚ-from_same (ap (λ (x : Infinitesimal). x.coefficient) at_bound));
-    };
-  }
 
   -- ---- The other forms
 
@@ -195,13 +200,13 @@ module _ (s t : Position) (i j : ℕ) (b : HasBasis s) (step : IsCheckStep s t i
         at = record {
           standard =
               =ℚ_sym (part-moves (λ k. (value_in s.point k).standard) (λ k. (value_in next.point k).standard) w.standard step.bound.standard
-              (=ℚ-from_same (ap (λ (x : Infinitesimal). x.standard) at_bound))
+              (=ℚ-from_same (ap (λ (x : Infinitesimal). x.standard) (stands-value s i j step.bound)))
               (λ k e f. =ℚ-from_same (ap (λ (x : Infinitesimal). x.standard) (value-elsewhere k e f)))
               hw.row hw.is_row hw.at.standard r hv.row c.row p hv.is_row d
               ∙ℚ +ℚ-same (=ℚ_sym hv.at.standard) (times_right (step.bound.standard +ℚ neg_ℚ w.standard) c.at));
           coefficient =
               =ℚ_sym (part-moves (λ k. (value_in s.point k).coefficient) (λ k. (value_in next.point k).coefficient) w.coefficient step.bound.coefficient
-              (=ℚ-from_same (ap (λ (x : Infinitesimal). x.coefficient) at_bound))
+              (=ℚ-from_same (ap (λ (x : Infinitesimal). x.coefficient) (stands-value s i j step.bound)))
               (λ k e f. =ℚ-from_same (ap (λ (x : Infinitesimal). x.coefficient) (value-elsewhere k e f)))
               hw.row hw.is_row hw.at.coefficient r hv.row c.row p hv.is_row d
               ∙ℚ +ℚ-same (=ℚ_sym hv.at.coefficient) (times_right (step.bound.coefficient +ℚ neg_ℚ w.coefficient) c.at));
@@ -222,7 +227,7 @@ check_steps_keep_basis = record {
       subst (λ (u : Position). AreRows u.forms (is_nonbasic u.point) (exchange (length s.forms) (is_nonbasic s.point) rows i j).result) (sym step.after)
       (subst (λ (test : ℕ → Bool). AreRows s.forms test (exchange (length s.forms) (is_nonbasic s.point) rows i j).result) (tests s t i j b step)
       (exchange_keeps_basis.rows s.forms (is_nonbasic s.point) rows i j b (may s t i j b step) are));
-  stands = λ s t i j b step. subst (λ (u : Position). HasValue u i step.bound) (sym step.after) (next-stands s t i j b step);
+  stands = λ s t i j b step. subst (λ (u : Position). HasValue u i step.bound) (sym step.after) (stands-at s i j step.bound step.breaks.listed (next-basis s t i j b step));
   moves = λ s t i j r v w q b step p hv hw c.
       subst (λ (u : Position). HasValue u r (v +δ scaled (step.bound -δ w) q)) (sym step.after)
       (next-moves s t i j b step r v w q p hv hw (subst (λ (u : Position). IsCoefficient u.forms (is_nonbasic u.point) r i q) step.after c));

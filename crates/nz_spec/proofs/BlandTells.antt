@@ -5,7 +5,7 @@ use Rattle.nz_spec.specs.Infinitesimal.{Infinitesimal}
 use Rattle.nz_spec.specs.BasisMoves.{Rows, AreRows}
 use Rattle.nz_spec.specs.Bland.{is_nonbasic, row_value, Position, HasBasis, HasValue, Side, other_side, bound_on, IsOutside, Breaks, HasRoom, CanHelp, RowsTell}
 use Rattle.nz_fractions.proofs.Laws.{=ℚ_refl, =ℚ_sym, ≤ℚ-from_eq, <ℚ-≤ℚ_trans, ≤ℚ-<ℚ_trans}
-use Rattle.nz_spec.proofs.FractionSolver.{◌∙ℚ◌}
+use Rattle.nz_fractions.proofs.Solver.{◌∙ℚ◌}
 use Rattle.nz_spec.proofs.BlandValues.{value_is_computed}
 use Rattle.nz_spec.proofs.BlandRefutes.{outside-equal}
 use Rattle.nz_spec.proofs.BlandPositions.{positions_have_values}

@@ -9,8 +9,8 @@ use Rattle.nz_spec.specs.BasisMoves.{numbers}
 use Rattle.nz_spec.specs.Bland.{is_nonbasic, zero_infinitesimal, value_in, value_onto, ValueIsComputed, SumMoves}
 use Rattle.nz_fractions.proofs.Laws.{=ℚ_refl, =ℚ_sym}
 use Rattle.nz_fractions.proofs.Arithmetic.{+ℚ-zero, outcome-sum, outcome-product}
-use Rattle.nz_spec.proofs.FormValues.{zero_left, zero_times}
-use Rattle.nz_spec.proofs.FractionSolver.{◌∙ℚ◌, solve, plus_left, plus_right, times_left, times_right}
+use Rattle.nz_fractions.proofs.Identities.{zero_left, zero_times}
+use Rattle.nz_fractions.proofs.Solver.{◌∙ℚ◌, solve, plus_left, plus_right, times_left, times_right}
 use Rattle.nz_spec.proofs.BasisSums.{sum-same, sum-plus, sum-single}
 
 -- ---- Computed values

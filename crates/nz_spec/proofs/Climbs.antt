@@ -13,11 +13,11 @@ use Rattle.nz_spec.specs.Literal.{term_literal, is_at_most, is_below, is_literal
 use Rattle.nz_spec.specs.Climb.{Line, Range, IsInRange, is_met, kept_literals, IsBetter, IsAsGood, goal_at, point_at, VerticesBoundGoal, RaysPassAll}
 use Rattle.nz_fractions.proofs.Laws.{=ℚ_sym, ≤ℚ-from_eq, ≤ℚ_refl, <ℚ-≤ℚ_trans, ≤ℚ-<ℚ_trans}
 use Rattle.nz_fractions.proofs.Arithmetic.{*ℚ_comm}
-use Rattle.nz_spec.proofs.FractionBounds.{within_sum, times_lt}
-use Rattle.nz_spec.proofs.FractionSolver.{◌∙ℚ◌, solve, plus_left, plus_right}
-use Rattle.nz_spec.proofs.InfinitesimalLaws.{quotient-back}
-use Rattle.nz_spec.proofs.BasisRows.{value_is_worth}
+use Rattle.nz_spec.proofs.FormValues.{value_is_worth}
 use Rattle.nz_fractions.proofs.Rounding.{rounds}
+use Rattle.nz_fractions.proofs.Bounds.{within_sum, times_lt}
+use Rattle.nz_fractions.proofs.Solver.{◌∙ℚ◌, solve, plus_left, plus_right}
+use Rattle.nz_fractions.proofs.Quotients.{quotient-back}
 
 -- ---- Vertices
 

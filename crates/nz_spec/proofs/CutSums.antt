@@ -4,6 +4,8 @@ use Rattle.std.specs.Prelude.{if◌then◌else◌}
 use Rattle.std.specs.List.{list_all, list_any, AllByRecursion}
 use Rattle.std.proofs.lemmas.List.Folds.{list_any-append}
 use Rattle.nz_fractions.specs.Fraction.{whole, ◌≤ℚ◌, floor}
+use Rattle.nz_fractions.proofs.Bounds.{Within}
+use Rattle.nz_fractions.proofs.Order.{le_is}
 use Rattle.nz_spec.specs.Computation.{at_once, turned_into, and_then}
 use Rattle.nz_spec.specs.Term.{Term, sort_of, Assignment}
 use Rattle.nz_spec.specs.Model.{IsAssignment, HasSort}
@@ -13,10 +15,8 @@ use Rattle.nz_spec.specs.LinearLiteral.{are_integral, greatest_below, parts_of, 
 use Rattle.nz_spec.specs.Farkas.{Multiple, Bound, empty_bound, is_multiple, sum_of_multiples, negations_of}
 use Rattle.nz_spec.specs.Cuts.{rounded_limit, CutClausesAreTrue}
 use Rattle.nz_spec.proofs.FarkasSums.{Meets, one_or_meets, found}
-use Rattle.nz_spec.proofs.FractionBounds.{Within}
 use Rattle.nz_spec.proofs.SumUnits.{onto-over}
 use Rattle.nz_spec.proofs.IntegerSums.{integer_of_sum, floored, put_below}
-use Rattle.nz_spec.proofs.LinearLiterals.{le_is}
 use Rattle.nz_spec.proofs.Literals.{or_first, or_second, together}
 
 -- ---- Cuts

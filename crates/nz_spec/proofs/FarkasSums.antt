@@ -3,28 +3,19 @@ use Rattle.std.proofs.Common.{◌≡◌, Bool, true, false, not, ◌&&◌, ◌||
 use Rattle.std.specs.Prelude.{if◌then◌else◌}
 use Rattle.std.specs.List.{list_all, list_any, AllByRecursion}
 use Rattle.std.proofs.lemmas.Bool.{and_parts}
-use Rattle.nz_fractions.specs.Fraction.{Fraction, whole, ◌≤ℚ◌, ◌<ℚ◌, fraction_le, fraction_lt, Sum, Product}
+use Rattle.nz_fractions.specs.Fraction.{Fraction, whole, ◌<ℚ◌, fraction_lt, Sum, Product}
 use Rattle.nz_spec.specs.Term.{Assignment, is_zero}
 use Rattle.nz_spec.specs.Computation.{operated, at_once, turned_into}
 use Rattle.nz_spec.specs.Form.{Numbering, Part, parts_value}
 use Rattle.nz_spec.specs.Literal.{Literal, term_literal, is_at_most, is_below, is_literal_true, negation_of, Clause, clause_of, IsClauseTrue}
 use Rattle.nz_spec.specs.LinearLiteral.{is_without_units}
 use Rattle.nz_spec.specs.Farkas.{Multiple, Bound, empty_bound, bound_of, is_linear_literal, is_multiple, bound_scaled, bounds_joined, multiples_onto, sum_of_multiples, is_contradiction, negations_of, FarkasClausesAreTrue}
-use Rattle.nz_fractions.proofs.Laws.{≤ℚ-from_eq, ≤ℚ-from_lt, ≤ℚ_refl, ≤ℚ_total, <ℚ_irrefl}
-use Rattle.nz_fractions.proofs.Order.{same-fraction_eq}
+use Rattle.nz_fractions.proofs.Laws.{≤ℚ-from_eq, ≤ℚ-from_lt, ≤ℚ_refl, <ℚ_irrefl}
+use Rattle.nz_fractions.proofs.Order.{same-fraction_eq, le_from, lt_from}
 use Rattle.nz_fractions.proofs.Arithmetic.{outcome-sum, outcome-product}
-use Rattle.nz_spec.proofs.FractionBounds.{Within, within_alike, within_sum, within_times}
+use Rattle.nz_fractions.proofs.Bounds.{Within, within_alike, within_sum, within_times}
 use Rattle.nz_spec.proofs.FormValues.{by_sum, parts-value, parts-scaled}
-use Rattle.nz_spec.proofs.LinearLiterals.{lt_is_not, le_is_not}
 use Rattle.nz_spec.proofs.Literals.{or_either, negation_is, together}
-
--- ---- What the tests say
-
-pub le_from : (p q : Fraction) → fraction_le p q ≡ true → p ≤ℚ q
-le_from p q e = elim (≤ℚ_total p q) [ inl h ↦ h | inr h ↦ absurd (true≢false (sym e ∙ le_is_not p q h)) ]
-
-pub lt_from : (p q : Fraction) → fraction_lt p q ≡ true → p <ℚ q
-lt_from p q e = elim (≤ℚ_total q p) [ inl h ↦ absurd (true≢false (sym e ∙ lt_is_not p q h)) | inr h ↦ h ]
 
 turned : (b : Bool) → not b ≡ false → b ≡ true
 turned true g = refl

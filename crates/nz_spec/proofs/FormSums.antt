@@ -1,19 +1,16 @@
 -- The form of a term is a sum: each unit stands once, at its place, with a coefficient other than 0.
-use Rattle.std.proofs.Common.{◌≡◌, ℕ, ◌<◌, ◌≤◌, Bool, true, false, List, [], ◌∷◌, Option, Some, None, map, pos, refl, sym, ap, ◌∙◌, true≢false, arith}
+use Rattle.std.proofs.Common.{◌≡◌, ℕ, ◌<◌, ◌≤◌, Bool, true, false, List, [], ◌∷◌, Option, Some, None, map, pos, refl, ap, arith}
 use Rattle.std.specs.Prelude.{if◌then◌else◌, nat_lt}
 use Rattle.std.specs.List.{AllByRecursion}
 use Rattle.std.proofs.lemmas.Bool.Decides.{nat_tests}
-use Rattle.nz_ints.proofs.Ring.{Atom, ◌⊗◌, Minus, solve}
-use Rattle.nz_fractions.specs.Fraction.{Fraction, denominator, whole, neg_ℚ, ◌=ℚ◌, fraction_eq, Arithmetic, Sum, Difference, Product, Quotient, outcome}
+use Rattle.nz_fractions.specs.Fraction.{Fraction, denominator, whole, fraction_eq, Arithmetic, Sum, Difference, Product, Quotient, outcome}
 use Rattle.nz_spec.specs.Term.{Head, sum, difference, product, quotient, to_real, Term, apply, Terms, no_terms, terms, is_zero}
 use Rattle.nz_spec.specs.Linear.{head_constant, constant_values}
 use Rattle.nz_spec.specs.Same.{are_same_term}
 use Rattle.nz_spec.specs.Computation.{Computation, operated, at_once, turned_into, and_then}
 use Rattle.nz_spec.specs.Form.{Numbering, Part, Form, constant_form, unit_form, with_part, MayPrecede, AreRising, IsSum, negated_part, negated_form, part_alone, part_joined, parts_joined, joined, all_joined, parts_scaled, scaled}
 use Rattle.nz_spec.specs.FormOf.{is_opened, constants_product, open_form, divided_by, divided_by_each, head_form, form_of, forms_of, FormsAreSums}
-use Rattle.nz_fractions.proofs.Laws.{=ℚ_sym, =ℚ_trans}
-use Rattle.nz_fractions.proofs.Order.{same-fraction_eq, fraction_eq-same}
-use Rattle.nz_fractions.proofs.Arithmetic.{own_parts, neg_parts, by_parts, neg_ℚ-same}
+use Rattle.nz_fractions.proofs.Identities.{neg-nonzero}
 use Rattle.nz_spec.proofs.Same.{same_term}
 
 -- ---- Zero
@@ -21,27 +18,9 @@ use Rattle.nz_spec.proofs.Same.{same_term}
 abbrev IsNonzero : Part → Type 0
 IsNonzero p = is_zero p.coefficient ≡ false
 
-pub neg-neg : (q : Fraction) → neg_ℚ (neg_ℚ q) =ℚ q
-neg-neg q =
-    by_parts (neg_parts (neg_parts (own_parts q))) (own_parts q)
-    (solve (q.numerator ∷ pos (denominator q) ∷ []) (Minus (Minus (Atom 0)) ⊗ Atom 1) (Atom 0 ⊗ Atom 1) refl)
-
-neg-zero : neg_ℚ (whole (pos 0)) =ℚ whole (pos 0)
-unfolding neg_ℚ
-neg-zero = record { cross = refl }
-
 one-nonzero : is_zero (whole (pos 1)) ≡ false
 unfolding fraction_eq denominator
 one-nonzero = refl
-
-neg-nonzero : (q : Fraction) → is_zero q ≡ false → is_zero (neg_ℚ q) ≡ false
-neg-nonzero q h = by_test (is_zero (neg_ℚ q)) refl
-  where
-    by_test : (b : Bool) → is_zero (neg_ℚ q) ≡ b → is_zero (neg_ℚ q) ≡ false
-    by_test false e = e
-    by_test true e =
-        let zero : q =ℚ whole (pos 0) = =ℚ_trans (=ℚ_sym (neg-neg q)) (=ℚ_trans (neg_ℚ-same (same-fraction_eq (neg_ℚ q) (whole (pos 0)) e)) neg-zero) in
-        absurd (true≢false (sym (fraction_eq-same q (whole (pos 0)) zero) ∙ h))
 
 alone-nonzero : (op : Arithmetic) (q : Part) → IsNonzero q → IsNonzero (part_alone op q)
 alone-nonzero Sum q h = h

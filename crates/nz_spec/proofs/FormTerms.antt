@@ -1,4 +1,4 @@
--- The form of a linear term has the value of the term.
+-- The form of a linear term has the value of the term, and is worth that where its units are worth theirs.
 use Rattle.std.proofs.Common.{◌≡◌, ℕ, suc, ◌<◌, Bool, true, false, not, ◌||◌, List, [], ◌∷◌, Option, Some, None, pos, refl, sym, ap, ap₂, ◌∙◌, true≢false, arith}
 use Rattle.std.specs.Prelude.{if◌then◌else◌, nat_lt, ⊤}
 use Rattle.std.proofs.lemmas.Bool.{and_parts}
@@ -7,11 +7,13 @@ use Rattle.nz_fractions.specs.Fraction.{Fraction, whole, ◌=ℚ◌, neg_ℚ, �
 use Rattle.nz_spec.specs.Term.{NumberSort, over_int, Head, integer, decimal_number, sum, difference, product, quotient, to_real, Term, apply, Terms, no_terms, terms, Value, number, Assignment, number_of, is_zero, is_undefined, carried_out, combined, head_value, value_of, values_of}
 use Rattle.nz_spec.specs.Linear.{folded_step, folded, head_constant, constant_value, constant_values, variable_count, are_divisors, is_linear_node, is_linear, are_linear}
 use Rattle.nz_spec.specs.Computation.{Computation, operated, at_once, and_then}
-use Rattle.nz_spec.specs.Form.{Numbering, Form, constant_form, unit_form, unit_value, form_value}
+use Rattle.nz_spec.specs.Basis.{Valuation}
+use Rattle.nz_spec.specs.Form.{Numbering, Form, constant_form, unit_form, unit_value}
 use Rattle.nz_spec.specs.FormOf.{is_opened, product_onto, constants_product, open_form, divided_by, divided_by_each, head_form, form_of, forms_of, FormHasValue}
 use Rattle.nz_fractions.proofs.Laws.{=ℚ_refl, =ℚ-from_same, =ℚ_sym, =ℚ_trans, reduce-same}
 use Rattle.nz_fractions.proofs.Arithmetic.{neg_ℚ-same, *ℚ_comm, *ℚ_assoc, *ℚ-one, *ℚ-same, outcome-product}
-use Rattle.nz_spec.proofs.FormValues.{zero_left, one_times, by_sum, by_difference, Match, all-joined, form-scaled, form-negated, constant-value, unit-value}
+use Rattle.nz_fractions.proofs.Identities.{zero_left, one_times}
+use Rattle.nz_spec.proofs.FormValues.{by_sum, by_difference, form_worth, form_is_worth, Match, all_joined-worth, form_scaled-worth, form_negated-worth, constant-worth, unit-worth}
 
 -- ---- Tests and quotients
 
@@ -75,6 +77,45 @@ folded_known op c (d ∷ ds) v (w ∷ ws) h k r e =
 negated_known : (c : Option Fraction) (v : Value) → ((q : Fraction) → c ≡ Some q → number_of v ≡ q) → (r : Fraction) → head_constant (difference over_int) (c ∷ []) ≡ Some r → neg_ℚ (number_of v) ≡ r
 negated_known None v h r e = none_is_some e
 negated_known (Some q) v h r e = ap neg_ℚ (h q refl) ∙ the_same e
+
+-- ---- Units
+
+-- what must hold where a head over arguments of these forms makes a unit
+abbrev pub Own : Head → List Form → Type 0 → Type 0
+Own (sum s) fs P = ⊤
+Own (difference s) fs P = ⊤
+Own (product s) fs P = ⊤
+Own quotient fs P = ⊤
+Own to_real (f ∷ []) P = ⊤
+Own h fs P = P
+
+own_to : (h : Head) (fs : List Form) (P Q : Type 0) → (P → Q) → Own h fs P → Own h fs Q
+own_to (sum s) fs P Q f o = tt
+own_to (difference s) fs P Q f o = tt
+own_to (product s) fs P Q f o = tt
+own_to quotient fs P Q f o = tt
+own_to to_real (g ∷ []) P Q f o = tt
+own_to to_real [] P Q f o = f o
+own_to to_real (g ∷ k ∷ gs) P Q f o = f o
+own_to h fs P Q f o = f o
+
+own_of : (h : Head) (fs : List Form) (P : Type 0) → is_opened h ≡ false → Own h fs P → P
+own_of (sum s) fs P e o = absurd (true≢false e)
+own_of (difference s) fs P e o = absurd (true≢false e)
+own_of (product s) fs P e o = absurd (true≢false e)
+own_of quotient fs P e o = absurd (true≢false e)
+own_of to_real fs P e o = absurd (true≢false e)
+own_of h fs P e o = o
+
+own_from : (h : Head) (fs : List Form) (P : Type 0) → P → Own h fs P
+own_from (sum s) fs P p = tt
+own_from (difference s) fs P p = tt
+own_from (product s) fs P p = tt
+own_from quotient fs P p = tt
+own_from to_real (f ∷ []) P p = tt
+own_from to_real [] P p = p
+own_from to_real (f ∷ g ∷ gs) P p = p
+own_from h fs P p = p
 
 module _ (a : Assignment) where
   head_known : (h : Head) (cs : List (Option Fraction)) (vs : List Value) → Known cs vs → (q : Fraction) → head_constant h cs ≡ Some q → number_of (head_value a h vs) ≡ q
@@ -153,28 +194,29 @@ module _ (a : Assignment) where
   closed_product (Some c ∷ cs) (v ∷ vs) k e =
       *ℚ-same (=ℚ-from_same (sym (k.0 c refl))) (closed_product cs vs k.1 e)
 
-  module _ (numbering : Numbering) where
+  module _ (numbering : Numbering) (units : Valuation) where
     -- of constants and one other at most
-    open_product : (cs : List (Option Fraction)) (fs : List Form) (vs : List Value) → Known cs vs → Match numbering a fs vs → nat_lt (variable_count cs) 2 ≡ true
-        → (constant_product cs *ℚ form_value a (open_form cs fs)) =ℚ product_of vs
+    open_product : (cs : List (Option Fraction)) (fs : List Form) (vs : List Value) → Known cs vs → Match numbering units fs vs
+        → nat_lt (variable_count cs) 2 ≡ true → (constant_product cs *ℚ form_worth units (open_form cs fs)) =ℚ product_of vs
     open_product [] [] [] k m e = =ℚ_trans (one_times _) (zero_left (whole (pos 1)))
     open_product [] (f ∷ fs) [] k m e = absurd m
     open_product [] fs (v ∷ vs) k m e = absurd k
     open_product (c ∷ cs) fs [] k m e = absurd k
     open_product (c ∷ cs) [] (v ∷ vs) k m e = absurd m
     open_product (None ∷ cs) (f ∷ fs) (v ∷ vs) k m e =
-        =ℚ_trans (*ℚ_comm (constant_product cs) (form_value a f)) (*ℚ-same m.0 (closed_product cs vs k.1 (one_less (variable_count cs) e)))
+        =ℚ_trans (*ℚ_comm (constant_product cs) (form_worth units f)) (*ℚ-same m.0 (closed_product cs vs k.1 (one_less (variable_count cs) e)))
     open_product (Some c ∷ cs) (f ∷ fs) (v ∷ vs) k m e =
-        =ℚ_trans (*ℚ_assoc c (constant_product cs) (form_value a (open_form cs fs)))
+        =ℚ_trans (*ℚ_assoc c (constant_product cs) (form_worth units (open_form cs fs)))
         (*ℚ-same (=ℚ-from_same (sym (k.0 c refl))) (open_product cs fs vs k.1 m.1 e))
 
-    product-value : (s : NumberSort) (cs : List (Option Fraction)) (fs : List Form) (u : Form) (vs : List Value) → Known cs vs → Match numbering a fs vs → nat_lt (variable_count cs) 2 ≡ true
-        → form_value a (head_form numbering (product s) cs fs u).result =ℚ number_of (head_value a (product s) vs)
-    product-value s cs fs u vs k m e =
+    product-worth : (s : NumberSort) (cs : List (Option Fraction)) (fs : List Form) (u : Form) (vs : List Value) → Known cs vs
+        → Match numbering units fs vs → nat_lt (variable_count cs) 2 ≡ true
+        → form_worth units (head_form numbering (product s) cs fs u).result =ℚ number_of (head_value a (product s) vs)
+    product-worth s cs fs u vs k m e =
         let p = (constants_product cs).result in
         let f = open_form cs fs in
-        =ℚ_trans (form-scaled numbering a (operated Product p) p (outcome-product p) f)
-        (=ℚ_trans (*ℚ-same (whole_product cs) (=ℚ_refl (form_value a f)))
+        =ℚ_trans (form_scaled-worth numbering units (operated Product p) p (outcome-product p) f)
+        (=ℚ_trans (*ℚ-same (whole_product cs) (=ℚ_refl (form_worth units f)))
         (=ℚ_trans (open_product cs fs vs k m e) (=ℚ_sym (value_product s vs))))
 
     -- ---- Quotients
@@ -184,57 +226,57 @@ module _ (a : Assignment) where
         ap (λ (y : Fraction). number_of (if is_zero y then number (whole (pos 0)) else number (outcome Quotient (number_of v) y))) is
         ∙ ap (λ (b : Bool). number_of (if b then number (whole (pos 0)) else number (outcome Quotient (number_of v) k))) nonzero
 
-    divided-value : (k : Fraction) (f : Form) (v w : Value) → form_value a f =ℚ number_of v → number_of w ≡ k → is_zero k ≡ false
-        → form_value a (divided_by k f).result =ℚ number_of (carried_out Quotient v w)
-    divided-value k f v w h is nonzero =
+    divided-worth : (k : Fraction) (f : Form) (v w : Value) → form_worth units f =ℚ number_of v → number_of w ≡ k → is_zero k ≡ false
+        → form_worth units (divided_by k f).result =ℚ number_of (carried_out Quotient v w)
+    divided-worth k f v w h is nonzero =
         let r = outcome Quotient (whole (pos 1)) k in
         let turned : r =ℚ reciprocal k = =ℚ_trans (outcome-quotient (whole (pos 1)) k) (one_times (reciprocal k)) in
-        =ℚ_trans (form-scaled numbering a (λ c. operated Product c r) r (λ c. =ℚ_trans (outcome-product c r) (*ℚ_comm c r)) f)
+        =ℚ_trans (form_scaled-worth numbering units (λ c. operated Product c r) r (λ c. =ℚ_trans (outcome-product c r) (*ℚ_comm c r)) f)
         (=ℚ_trans (*ℚ-same turned h)
         (=ℚ_trans (*ℚ_comm (reciprocal k) (number_of v))
         (=ℚ_trans (=ℚ_sym (outcome-quotient (number_of v) k)) (=ℚ-from_same (sym (quotient_known v w k is nonzero))))))
 
-    divided-values : (f : Form) (ks : List (Option Fraction)) (v : Value) (ws : List Value) → form_value a f =ℚ number_of v → Known ks ws → are_divisors ks ≡ true
-        → form_value a (divided_by_each f ks).result =ℚ number_of (combined (carried_out Quotient) v ws)
-    divided-values f [] v [] h k e = h
-    divided-values f [] v (w ∷ ws) h k e = absurd k
-    divided-values f (d ∷ ks) v [] h k e = absurd k
-    divided-values f (None ∷ ks) v (w ∷ ws) h k e = absurd (true≢false (sym e))
-    divided-values f (Some d ∷ ks) v (w ∷ ws) h k e =
+    divided-worths : (f : Form) (ks : List (Option Fraction)) (v : Value) (ws : List Value) → form_worth units f =ℚ number_of v
+        → Known ks ws → are_divisors ks ≡ true → form_worth units (divided_by_each f ks).result =ℚ number_of (combined (carried_out Quotient) v ws)
+    divided-worths f [] v [] h k e = h
+    divided-worths f [] v (w ∷ ws) h k e = absurd k
+    divided-worths f (d ∷ ks) v [] h k e = absurd k
+    divided-worths f (None ∷ ks) v (w ∷ ws) h k e = absurd (true≢false (sym e))
+    divided-worths f (Some d ∷ ks) v (w ∷ ws) h k e =
         let both = and_parts (not (is_zero d)) (are_divisors ks) e in
-        divided-values (divided_by d f).result ks (carried_out Quotient v w) ws
-        (divided-value d f v w h (k.0 d refl) (not_true (is_zero d) both.0)) k.1 both.1
+        divided-worths (divided_by d f).result ks (carried_out Quotient v w) ws
+        (divided-worth d f v w h (k.0 d refl) (not_true (is_zero d) both.0)) k.1 both.1
 
     -- ---- The form of a term
 
-    head-value : (h : Head) (cs : List (Option Fraction)) (fs : List Form) (u : Form) (vs : List Value) → Known cs vs → Match numbering a fs vs → is_linear_node h cs ≡ true
-        → form_value a u =ℚ number_of (head_value a h vs)
-        → form_value a (head_form numbering h cs fs u).result =ℚ number_of (head_value a h vs)
-    head-value (sum s) cs [] u [] k m e own = constant-value numbering a (whole (pos 0))
-    head-value (sum s) cs [] u (v ∷ vs) k m e own = absurd m
-    head-value (sum s) cs (f ∷ fs) u [] k m e own = absurd m
-    head-value (sum s) cs (f ∷ fs) u (v ∷ vs) k m e own = all-joined numbering a Sum by_sum f fs v vs m.0 m.1
-    head-value (difference s) cs [] u [] k m e own = constant-value numbering a (whole (pos 0))
-    head-value (difference s) cs [] u (v ∷ vs) k m e own = absurd m
-    head-value (difference s) cs (f ∷ []) u [] k m e own = absurd m
-    head-value (difference s) cs (f ∷ []) u (v ∷ []) k m e own = =ℚ_trans (form-negated numbering a f) (neg_ℚ-same m.0)
-    head-value (difference s) cs (f ∷ []) u (v ∷ w ∷ vs) k m e own = absurd m.1
-    head-value (difference s) cs (f ∷ g ∷ gs) u [] k m e own = absurd m
-    head-value (difference s) cs (f ∷ g ∷ gs) u (v ∷ []) k m e own = absurd m.1
-    head-value (difference s) cs (f ∷ g ∷ gs) u (v ∷ w ∷ vs) k m e own = all-joined numbering a Difference by_difference f (g ∷ gs) v (w ∷ vs) m.0 m.1
-    head-value (product s) cs fs u vs k m e own = product-value s cs fs u vs k m e
-    head-value quotient [] [] u [] k m e own = constant-value numbering a (whole (pos 1))
-    head-value quotient [] (f ∷ fs) u [] k m e own = absurd m
-    head-value quotient [] fs u (v ∷ vs) k m e own = absurd k
-    head-value quotient (c ∷ cs) fs u [] k m e own = absurd k
-    head-value quotient (c ∷ cs) [] u (v ∷ vs) k m e own = absurd m
-    head-value quotient (c ∷ cs) (f ∷ fs) u (v ∷ vs) k m e own = divided-values f cs v vs m.0 k.1 e
-    head-value to_real cs [] u vs k m e own = own
-    head-value to_real cs (f ∷ []) u [] k m e own = absurd m
-    head-value to_real cs (f ∷ []) u (v ∷ []) k m e own = m.0
-    head-value to_real cs (f ∷ []) u (v ∷ w ∷ vs) k m e own = absurd m.1
-    head-value to_real cs (f ∷ g ∷ gs) u vs k m e own = own
-    head-value h cs fs u vs k m e own = own
+    head-worth : (h : Head) (cs : List (Option Fraction)) (fs : List Form) (u : Form) (vs : List Value) → Known cs vs
+        → Match numbering units fs vs → is_linear_node h cs ≡ true → Own h fs (form_worth units u =ℚ number_of (head_value a h vs))
+        → form_worth units (head_form numbering h cs fs u).result =ℚ number_of (head_value a h vs)
+    head-worth (sum s) cs [] u [] k m e own = constant-worth numbering units (whole (pos 0))
+    head-worth (sum s) cs [] u (v ∷ vs) k m e own = absurd m
+    head-worth (sum s) cs (f ∷ fs) u [] k m e own = absurd m
+    head-worth (sum s) cs (f ∷ fs) u (v ∷ vs) k m e own = all_joined-worth numbering units Sum by_sum f fs v vs m.0 m.1
+    head-worth (difference s) cs [] u [] k m e own = constant-worth numbering units (whole (pos 0))
+    head-worth (difference s) cs [] u (v ∷ vs) k m e own = absurd m
+    head-worth (difference s) cs (f ∷ []) u [] k m e own = absurd m
+    head-worth (difference s) cs (f ∷ []) u (v ∷ []) k m e own = =ℚ_trans (form_negated-worth numbering units f) (neg_ℚ-same m.0)
+    head-worth (difference s) cs (f ∷ []) u (v ∷ w ∷ vs) k m e own = absurd m.1
+    head-worth (difference s) cs (f ∷ g ∷ gs) u [] k m e own = absurd m
+    head-worth (difference s) cs (f ∷ g ∷ gs) u (v ∷ []) k m e own = absurd m.1
+    head-worth (difference s) cs (f ∷ g ∷ gs) u (v ∷ w ∷ vs) k m e own = all_joined-worth numbering units Difference by_difference f (g ∷ gs) v (w ∷ vs) m.0 m.1
+    head-worth (product s) cs fs u vs k m e own = product-worth s cs fs u vs k m e
+    head-worth quotient [] [] u [] k m e own = constant-worth numbering units (whole (pos 1))
+    head-worth quotient [] (f ∷ fs) u [] k m e own = absurd m
+    head-worth quotient [] fs u (v ∷ vs) k m e own = absurd k
+    head-worth quotient (c ∷ cs) fs u [] k m e own = absurd k
+    head-worth quotient (c ∷ cs) [] u (v ∷ vs) k m e own = absurd m
+    head-worth quotient (c ∷ cs) (f ∷ fs) u (v ∷ vs) k m e own = divided-worths f cs v vs m.0 k.1 e
+    head-worth to_real cs [] u vs k m e own = own
+    head-worth to_real cs (f ∷ []) u [] k m e own = absurd m
+    head-worth to_real cs (f ∷ []) u (v ∷ []) k m e own = m.0
+    head-worth to_real cs (f ∷ []) u (v ∷ w ∷ vs) k m e own = absurd m.1
+    head-worth to_real cs (f ∷ g ∷ gs) u vs k m e own = own
+    head-worth h cs fs u vs k m e own = own
 
     -- by whether the term is constant, and whether arithmetic opens it
     abbrev formed_by : Head → Terms → Option Fraction → Bool → Computation Form
@@ -246,26 +288,40 @@ module _ (a : Assignment) where
               else at_once (unit_form (apply h ts))
         ]
 
-    value_by : (h : Head) (ts : Terms) (c : Option Fraction) (opened : Bool) → head_constant h (constant_values ts) ≡ c
-        → Match numbering a (forms_of numbering ts).result (values_of a ts) → is_linear_node h (constant_values ts) ≡ true
-        → form_value a (formed_by h ts c opened).result =ℚ unit_value a (apply h ts)
-    value_by h ts (Some q) opened is m e =
-        =ℚ_trans (constant-value numbering a q) (=ℚ-from_same (sym (head_known h (constant_values ts) (values_of a ts) (constants_known ts) q is)))
-    value_by h ts None true is m e =
-        head-value h (constant_values ts) (forms_of numbering ts).result (unit_form (apply h ts)) (values_of a ts) (constants_known ts) m e (unit-value numbering a (apply h ts))
-    value_by h ts None false is m e = unit-value numbering a (apply h ts)
+    worth_by : (h : Head) (ts : Terms) (c : Option Fraction) (opened : Bool) → head_constant h (constant_values ts) ≡ c → is_opened h ≡ opened
+        → Match numbering units (forms_of numbering ts).result (values_of a ts) → is_linear_node h (constant_values ts) ≡ true
+        → Own h (forms_of numbering ts).result (units (apply h ts) =ℚ unit_value a (apply h ts))
+        → form_worth units (formed_by h ts c opened).result =ℚ unit_value a (apply h ts)
+    worth_by h ts (Some q) opened is o m e own =
+        =ℚ_trans (constant-worth numbering units q) (=ℚ-from_same (sym (head_known h (constant_values ts) (values_of a ts) (constants_known ts) q is)))
+    worth_by h ts None true is o m e own =
+        let fs = (forms_of numbering ts).result in
+        let unit = apply h ts in
+        head-worth h (constant_values ts) fs (unit_form unit) (values_of a ts) (constants_known ts) m e
+        (own_to h fs (units unit =ℚ unit_value a unit) (form_worth units (unit_form unit) =ℚ unit_value a unit)
+        (=ℚ_trans (unit-worth numbering units unit)) own)
+    worth_by h ts None false is o m e own =
+        =ℚ_trans (unit-worth numbering units (apply h ts)) (own_of h (forms_of numbering ts).result (units (apply h ts) =ℚ unit_value a (apply h ts)) o own)
 
+    -- where the forms of the arguments are worth their values, and the term too, if it is a unit
+    pub term-worth : (h : Head) (ts : Terms) → Match numbering units (forms_of numbering ts).result (values_of a ts)
+        → is_linear_node h (constant_values ts) ≡ true → Own h (forms_of numbering ts).result (units (apply h ts) =ℚ unit_value a (apply h ts))
+        → form_worth units (form_of numbering (apply h ts)).result =ℚ unit_value a (apply h ts)
+    term-worth h ts = worth_by h ts (head_constant h (constant_values ts)) (is_opened h) refl refl
+
+  module _ (numbering : Numbering) where
     mutual
-      form-value : (t : Term) → is_linear t ≡ true → form_value a (form_of numbering t).result =ℚ unit_value a t
+      form-value : (t : Term) → is_linear t ≡ true → form_worth (unit_value a) (form_of numbering t).result =ℚ unit_value a t
       form-value (apply h ts) e =
           let both = and_parts (is_linear_node h (constant_values ts)) (are_linear ts) e in
-          value_by h ts (head_constant h (constant_values ts)) (is_opened h) refl (forms-values ts both.1) both.0
+          term-worth numbering (unit_value a) h ts (forms-values ts both.1) both.0
+          (own_from h (forms_of numbering ts).result (unit_value a (apply h ts) =ℚ unit_value a (apply h ts)) (=ℚ_refl (unit_value a (apply h ts))))
 
-      forms-values : (ts : Terms) → are_linear ts ≡ true → Match numbering a (forms_of numbering ts).result (values_of a ts)
+      forms-values : (ts : Terms) → are_linear ts ≡ true → Match numbering (unit_value a) (forms_of numbering ts).result (values_of a ts)
       forms-values no_terms e = _
       forms-values (terms t ts) e =
           let both = and_parts (is_linear t) (are_linear ts) e in
           (form-value t both.0, forms-values ts both.1)
 
 pub form_has_value : FormHasValue
-form_has_value numbering a t e = form-value a numbering t e
+form_has_value numbering a t e = =ℚ_trans (=ℚ-from_same (form_is_worth a (form_of numbering t).result)) (form-value a numbering t e)

@@ -9,9 +9,9 @@ use Rattle.nz_spec.specs.Form.{Part, negated_part}
 use Rattle.nz_spec.specs.Basis.{Valuation, worth, unit_coefficient, WorthIsByUnits}
 use Rattle.nz_fractions.proofs.Laws.{=ℚ_refl, =ℚ-from_same, =ℚ_sym}
 use Rattle.nz_fractions.proofs.Arithmetic.{+ℚ-same, +ℚ-neg, neg_ℚ-same}
-use Rattle.nz_spec.proofs.FormValues.{times_zero}
+use Rattle.nz_fractions.proofs.Identities.{times_zero}
+use Rattle.nz_fractions.proofs.Solver.{◌∙ℚ◌, solve, equal_from_difference, plus_left, plus_right, times_left, times_right}
 use Rattle.nz_spec.proofs.Same.{same_term, one_term}
-use Rattle.nz_spec.proofs.FractionSolver.{◌∙ℚ◌, solve, equal_from_difference, plus_left, plus_right, times_left, times_right}
 use Rattle.nz_spec.proofs.BasisJoins.{only, only-here, only-there}
 
 -- ---- One unit
@@ -114,7 +114,7 @@ worth-nothing (suc n) v (p ∷ ps) l h =
 
 -- ---- Differences
 
-worth-difference : (v : Valuation) (ps qs : List Part) → worth v (ps ++ map negated_part qs) =ℚ (worth v ps +ℚ neg_ℚ (worth v qs))
+pub worth-difference : (v : Valuation) (ps qs : List Part) → worth v (ps ++ map negated_part qs) =ℚ (worth v ps +ℚ neg_ℚ (worth v qs))
 worth-difference v [] [] = solve [] (Literal (pos 0)) (Literal (pos 0) ⊕ Minus (Literal (pos 0))) refl
 worth-difference v [] (q ∷ qs) =
     plus_right (neg_ℚ q.coefficient *ℚ v q.unit) (worth-difference v [] qs)

@@ -8,8 +8,9 @@ use Rattle.std.proofs.lemmas.List.Elements.{Contains-append_left, Contains-appen
 use Rattle.nz_lists.proofs.Elements.{AllByRecursion-weaker}
 use Rattle.nz_spec.specs.Term.{Sort, bool_sort, Head, constant, verum, falsum, negation, conjunction, disjunction, exclusion, equality, choice, Term, apply, Terms, no_terms, terms, Value, truth, Assignment, is_true, are_equal, excluded, all_true, some_true, head_sort, sort_of, is_bool, is_numeric, holds_number, hold_number, value_of, values_of}
 use Rattle.nz_spec.specs.Order.{post_order, post_orders}
+use Rattle.nz_spec.specs.WellSorted.{AllAre}
 use Rattle.nz_spec.specs.Literal.{Literal, term_literal, is_at_most, is_below, Clause}
-use Rattle.nz_spec.specs.Gates.{list_of, holds, fails, gate_clauses, IsRow, IsGated, AreGated, HasTrueLiteral, MeetsGates, IsTruthBy, IsTruthAt, GatesDecide, NumberedGatesDecide}
+use Rattle.nz_spec.specs.Gates.{list_of, holds, fails, is_boolean_term, gate_clauses, IsRow, IsGated, AreGated, HasTrueLiteral, MeetsGates, IsTruthBy, IsTruthAt, GatesDecide, NumberedGatesDecide}
 
 -- a term of the table is of sort Bool
 row_boolean : (h : Head) (ts : Terms) → IsRow h ts → is_bool (head_sort h) ≡ true
@@ -24,8 +25,12 @@ row_boolean equality (terms t (terms u no_terms)) r = refl
 row_boolean (choice bool_sort) (terms c (terms t (terms u no_terms))) r = refl
 row_boolean h ts r = absurd r
 
-gated_boolean : (t : Term) → IsGated t → is_bool (sort_of t) ≡ true
+gated_boolean : (t : Term) → IsGated t → is_boolean_term t ≡ true
 gated_boolean (apply h ts) g = row_boolean h ts g.0
+
+gated_arguments : (ts : Terms) → AreGated ts → AllAre true ts
+gated_arguments no_terms g = tt
+gated_arguments (terms t ts) g = (gated_boolean t g.0, gated_arguments ts g.1)
 
 row_plain : (h : Head) (ts : Terms) → IsRow h ts → is_numeric h ≡ false
 row_plain (constant c) no_terms r = ap (λ (s : Sort). not (is_bool s)) r
@@ -61,25 +66,29 @@ same_either_way : (b : Bool) (v w x : Value) → v ≡ x → w ≡ x → (if b t
 same_either_way true v w x e f = e
 same_either_way false v w x e f = f
 
-module _ (a : Assignment) (HasTruth : Term → Bool → Type 0) (consistent : (t : Term) → HasTruth t true → HasTruth t false → ⊥) where
+-- a literal on a term says that it has the truth, and a bound says nothing
+abbrev TruthSaid : (Term → Bool → Type 0) → Literal → Type 0
+TruthSaid HasTruth (term_literal t sign) = HasTruth t sign
+TruthSaid HasTruth (is_at_most ps b) = ⊥
+TruthSaid HasTruth (is_below ps b) = ⊥
+
+module _ (a : Assignment) (Says : Literal → Type 0) (consistent : (t : Term) → Says (holds t) → Says (fails t) → ⊥) where
   -- ---- One of the literals is true
 
-  abbrev Says : Literal → Type 0
-  Says (term_literal t sign) = HasTruth t sign
-  Says (is_at_most ps b) = ⊥
-  Says (is_below ps b) = ⊥
+  abbrev HasTruth : Term → Bool → Type 0
+  HasTruth t sign = Says (term_literal t sign)
 
-  abbrev SaysOne : Clause → Type 0
+  abbrev pub SaysOne : Clause → Type 0
   SaysOne [] = ⊥
   SaysOne (l ∷ ls) = Says l ⊎ SaysOne ls
 
-  says_at : (c : Clause) (t : Term) (sign : Bool) (k : ℕ) → k < length c → slice_index_or c k (term_literal t sign) ≡ term_literal t sign → HasTruth t sign → SaysOne c
-  says_at [] t sign k below e has = absurd (omega (arith, below))
-  says_at (l ∷ ls) t sign zero below e has = inl (subst Says (sym e) has)
-  says_at (l ∷ ls) t sign (suc k) below e has = inr (says_at ls t sign k (omega (arith, below)) e has)
+  says_at : (c : Clause) (l : Literal) (k : ℕ) → k < length c → slice_index_or c k l ≡ l → Says l → SaysOne c
+  says_at [] l k below e has = absurd (omega (arith, below))
+  says_at (m ∷ ms) l zero below e has = inl (subst Says (sym e) has)
+  says_at (m ∷ ms) l (suc k) below e has = inr (says_at ms l k (omega (arith, below)) e has)
 
-  says_one : (c : Clause) → HasTrueLiteral HasTruth c → SaysOne c
-  says_one c h = says_at c h.0 h.1 h.2.0 h.2.1 h.2.2 h.3
+  pub says_one : (c : Clause) (l : Literal) → Contains c l → Says l → SaysOne c
+  says_one c l at has = says_at c l at.0 at.1 at.2 has
 
   -- no term has both truths
   never : (t : Term) (sign : Bool) → HasTruth t sign → HasTruth t (not sign) → ⊥
@@ -87,21 +96,21 @@ module _ (a : Assignment) (HasTruth : Term → Bool → Type 0) (consistent : (t
   never t false h k = consistent t k h
 
   -- a clause that denies a term's truth says one of the others
-  others : (t : Term) (sign : Bool) (rest : Type 0) → HasTruth t sign → HasTruth t (not sign) ⊎ rest → rest
+  pub others : (t : Term) (sign : Bool) (rest : Type 0) → HasTruth t sign → HasTruth t (not sign) ⊎ rest → rest
   others t sign rest h (inl k) = absurd (never t sign h k)
   others t sign rest h (inr r) = r
 
-  alone : (P : Type 0) → P ⊎ ⊥ → P
+  pub alone : (P : Type 0) → P ⊎ ⊥ → P
   alone P (inl p) = p
   alone P (inr e) = absurd e
 
   -- ---- Values
 
   -- where the term has a truth, that is its value
-  abbrev IsSettled : Term → Type 0
+  abbrev pub IsSettled : Term → Type 0
   IsSettled t = (sign : Bool) → HasTruth t sign → value_of a t ≡ truth sign
 
-  abbrev AreSettled : Terms → Type 0
+  abbrev pub AreSettled : Terms → Type 0
   AreSettled no_terms = ⊤
   AreSettled (terms t ts) = IsSettled t × AreSettled ts
 
@@ -172,7 +181,7 @@ module _ (a : Assignment) (HasTruth : Term → Bool → Type 0) (consistent : (t
   some_is (terms t no_terms) h = alone (value_of a t ≡ truth true) h
   some_is (terms t (terms u ts)) h = ap truth (some_pass (terms t (terms u ts)) h)
 
-  abbrev Met : Term → Type 0
+  abbrev pub Met : Term → Type 0
   Met t = AllByRecursion SaysOne (gate_clauses t)
 
   conjunction_settled : (ts : Terms) → Met (apply conjunction ts) → AreSettled ts → IsSettled (apply conjunction ts)
@@ -272,7 +281,7 @@ module _ (a : Assignment) (HasTruth : Term → Bool → Type 0) (consistent : (t
 
   -- ---- Terms
 
-  node_settled : (h : Head) (ts : Terms) → IsRow h ts → AreGated ts → Met (apply h ts) → AreSettled ts
+  pub node_settled : (h : Head) (ts : Terms) → IsRow h ts → AllAre true ts → Met (apply h ts) → AreSettled ts
       → ((c : _) (sign : Bool) → apply h ts ≡ apply (constant c) no_terms → HasTruth (apply (constant c) no_terms) sign → a c ≡ truth sign) → IsSettled (apply h ts)
   node_settled (constant c) no_terms r g m s k = λ sign has. k c sign refl has
   node_settled verum no_terms r g m s k = verum_settled m
@@ -281,7 +290,7 @@ module _ (a : Assignment) (HasTruth : Term → Bool → Type 0) (consistent : (t
   node_settled conjunction ts r g m s k = conjunction_settled ts m s
   node_settled disjunction ts r g m s k = disjunction_settled ts m s
   node_settled exclusion (terms u (terms v no_terms)) r g m s k = exclusion_settled u v m s.0 s.1.0
-  node_settled equality (terms u (terms v no_terms)) r g m s k = equality_settled u v (gated_boolean u g.0) m s.0 s.1.0
+  node_settled equality (terms u (terms v no_terms)) r g m s k = equality_settled u v g.0 m s.0 s.1.0
   node_settled (choice bool_sort) (terms c (terms u (terms v no_terms))) r g m s k = choice_settled c u v m s.0 s.1.0 s.1.1.0
   node_settled h ts r g m s k = absurd r
 
@@ -297,7 +306,9 @@ module _ (a : Assignment) (HasTruth : Term → Bool → Type 0) (consistent : (t
     settled : (t : Term) → IsGated t → MeetsGates HasTruth a (post_order t) → IsSettled t
     settled (apply h ts) g m =
         let own = Contains-push (post_orders ts) (apply h ts) in
-        node_settled h ts g.0 g.1 (AllByRecursion-weaker (HasTrueLiteral HasTruth) SaysOne says_one (gate_clauses (apply h ts)) (m.clauses (apply h ts) own))
+        node_settled h ts g.0 (gated_arguments ts g.1)
+        (AllByRecursion-weaker (HasTrueLiteral HasTruth) SaysOne (λ c n. says_one c (term_literal n.0 n.1) n.2 n.3)
+        (gate_clauses (apply h ts)) (m.clauses (apply h ts) own))
         (all_settled ts g.1 (fewer (post_orders ts) (post_order (apply h ts)) (Contains-append_left (post_orders ts) (apply h ts ∷ [])) m))
         (λ c sign e has. m.constants c sign (subst (Contains (post_order (apply h ts))) e own) has)
 
@@ -309,11 +320,11 @@ module _ (a : Assignment) (HasTruth : Term → Bool → Type 0) (consistent : (t
     )
 
 pub gates_decide : GatesDecide
-gates_decide a truths t g m = settled a (IsTruthBy truths) (λ u h k. true≢false (sym h ∙ k)) t g m (truths t) refl
+gates_decide a truths t g m = settled a (TruthSaid (IsTruthBy truths)) (λ u h k. true≢false (sym h ∙ k)) t g m (truths t) refl
 
 pub numbered_gates_decide : NumberedGatesDecide
 numbered_gates_decide ns one a truths t sign g m has =
-    settled a (IsTruthAt ns truths)
+    settled a (TruthSaid (IsTruthAt ns truths))
     (λ u h k.
     let same : h.0 ≡ k.0 = one h.0 k.0 h.1 k.1 (h.2 ∙ sym k.2) in
     true≢false (same_Some true false (sym h.3 ∙ ap truths same ∙ k.3)))

@@ -1,80 +1,15 @@
 -- The chosen fraction is above 0, is the least limit, and keeps ordered pairs in order, as each smaller fraction above 0 does.
-use Rattle.std.proofs.Common.{◌≡◌, ℕ, zero, suc, Bool, true, false, ◌⊎◌, inl, inr, List, [], ◌∷◌, ℤ, pos, negsuc, ◌*ℤ◌, ◌<ℤ◌, refl, arith, sym, ◌∙◌, subst, Ordering, Less, Equal, Greater, All, Contains, if◌then◌else◌}
+use Rattle.std.proofs.Common.{◌≡◌, zero, suc, Bool, true, false, ◌⊎◌, inl, inr, List, [], ◌∷◌, pos, refl, arith, sym, ◌∙◌, subst, All, Contains, if◌then◌else◌}
 use Rattle.std.proofs.lemmas.Int.{ints}
 use Rattle.std.proofs.lemmas.List.Elements.{All-nil, All-cons, All-head, All-tail}
-use Rattle.nz_ints.proofs.Ring.{Atom, Literal, ◌⊕◌, ◌⊗◌, Minus, solve}
-use Rattle.nz_fractions.specs.Fraction.{Fraction, denominator, over, whole, ◌=ℚ◌, ◌≤ℚ◌, ◌<ℚ◌, ◌+ℚ◌, neg_ℚ, ◌*ℚ◌, ◌/ℚ◌, flipped, reciprocal, fraction_cmp, fraction_lt, fraction_le, fraction_min, outcome, exact, Difference, Quotient}
+use Rattle.nz_ints.proofs.Ring.{Atom, ◌⊕◌, ◌⊗◌, Minus, solve}
+use Rattle.nz_fractions.specs.Fraction.{Fraction, denominator, whole, ◌=ℚ◌, ◌≤ℚ◌, ◌<ℚ◌, ◌+ℚ◌, neg_ℚ, ◌*ℚ◌, fraction_lt, fraction_le, fraction_min, outcome, Difference, Quotient}
 use Rattle.nz_spec.specs.Infinitesimal.{Infinitesimal, ◌≤δ◌, at, Pair, is_limiting, limit, limits, IsLeastLimit, least_from, chosen_delta, AreOrdered, AreOrderedAt}
-use Rattle.nz_fractions.proofs.Laws.{=ℚ_refl, =ℚ_sym, =ℚ_trans, ≤ℚ-from_eq, ≤ℚ_refl, ≤ℚ-from_lt, ≤ℚ_trans, <ℚ-≤ℚ_trans, ≤ℚ-<ℚ_trans, <ℚ_irrefl, reduce-same}
-use Rattle.nz_fractions.proofs.Order.{fraction_ranked, fraction_cmp_is}
-use Rattle.nz_fractions.proofs.Arithmetic.{own_parts, sum_parts, product_parts, neg_parts, whole_parts, by_parts, +ℚ_comm, +ℚ-neg, *ℚ_assoc, *ℚ-one, *ℚ-same, cmp-same, cmp-+ℚ, cmp-*ℚ_pos, outcome-difference}
-
--- ---- what one comparison says of another
-
-pub lt-carried : (p q p' q' : Fraction) → fraction_cmp p q ≡ fraction_cmp p' q' → p <ℚ q → p' <ℚ q'
-lt-carried p q p' q' e h = fraction_ranked p' q' Less (fraction_cmp_is p q Less h ∙ e)
-
-pub le-carried : (p q p' q' : Fraction) → fraction_cmp p q ≡ fraction_cmp p' q' → p ≤ℚ q → p' ≤ℚ q'
-le-carried p q p' q' e h = by_order (fraction_cmp p' q') refl
-  where
-    by_order : (o : Ordering) → o ≡ fraction_cmp p' q' → p' ≤ℚ q'
-    by_order Less f = ≤ℚ-from_lt (fraction_ranked p' q' Less f)
-    by_order Equal f = ≤ℚ-from_eq (fraction_ranked p' q' Equal f)
-    by_order Greater f = absurd (<ℚ_irrefl (fraction_ranked p q Greater (f ∙ sym e)) h)
-
-pub moved : (p q r : Fraction) → p ≤ℚ q → (p +ℚ r) ≤ℚ (q +ℚ r)
-moved p q r h = le-carried p q (p +ℚ r) (q +ℚ r) (sym (cmp-+ℚ p q r)) h
-
-pub moved_right : (r p q : Fraction) → p ≤ℚ q → (r +ℚ p) ≤ℚ (r +ℚ q)
-moved_right r p q h =
-    ≤ℚ_trans (≤ℚ-from_eq (+ℚ_comm r p)) (≤ℚ_trans (moved p q r h) (≤ℚ-from_eq (+ℚ_comm q r)))
-
-pub scaled : (p q r : Fraction) → whole (pos 0) <ℚ r → p ≤ℚ q → (p *ℚ r) ≤ℚ (q *ℚ r)
-scaled p q r z h = le-carried p q (p *ℚ r) (q *ℚ r) (sym (cmp-*ℚ_pos p q r z)) h
-
--- a difference is above 0 where the first is the greater
-above : (p q : Fraction) → q <ℚ p → whole (pos 0) <ℚ (p +ℚ neg_ℚ q)
-above p q h =
-    lt-carried q p (whole (pos 0)) (p +ℚ neg_ℚ q)
-    (sym (cmp-+ℚ q p (neg_ℚ q)) ∙ cmp-same (+ℚ-neg q) (=ℚ_refl (p +ℚ neg_ℚ q)))
-    h
-
--- ---- quotients
-
-turned_back : (n : ℤ) (b : ℕ) → (n ≡ pos 0 → ⊥) → (flipped n b *ℚ (let q : Fraction = record { numerator = n; below = b } in q)) =ℚ whole (pos 1)
-unfolding flipped over denominator
-turned_back (pos zero) b h = absurd (h refl)
-turned_back (pos (suc m)) b h =
-    by_parts
-    (product_parts (own_parts (flipped (pos (suc m)) b)) (own_parts (record { numerator = pos (suc m); below = b })))
-    (whole_parts (pos 1))
-    (solve (pos (suc b) ∷ pos (suc m) ∷ []) ((Atom 0 ⊗ Atom 1) ⊗ Literal (pos 1)) (Literal (pos 1) ⊗ (Atom 1 ⊗ Atom 0)) refl)
-turned_back (negsuc m) b h =
-    by_parts
-    (product_parts (own_parts (flipped (negsuc m) b)) (own_parts (record { numerator = negsuc m; below = b })))
-    (whole_parts (pos 1))
-    (solve (pos (suc b) ∷ pos (suc m) ∷ []) ((Minus (Atom 0) ⊗ Minus (Atom 1)) ⊗ Literal (pos 1)) (Literal (pos 1) ⊗ (Atom 1 ⊗ Atom 0)) refl)
-
-zero_above : (q : Fraction) → whole (pos 0) <ℚ q → q.numerator ≡ pos 0 → ⊥
-zero_above q h e =
-    let c : (pos 0 *ℤ pos (denominator q)) <ℤ (pos 0 *ℤ pos (denominator (whole (pos 0)))) =
-    subst (λ (z : ℤ). (pos 0 *ℤ pos (denominator q)) <ℤ (z *ℤ pos (denominator (whole (pos 0))))) e h.cross
-    in
-    omega (arith, ints, c)
-
-reciprocal-back : (q : Fraction) → whole (pos 0) <ℚ q → (reciprocal q *ℚ q) =ℚ whole (pos 1)
-unfolding reciprocal
-reciprocal-back q h = turned_back q.numerator q.below (zero_above q h)
-
-pub quotient-back : (p q : Fraction) → whole (pos 0) <ℚ q → ((p /ℚ q) *ℚ q) =ℚ p
-unfolding ◌/ℚ◌
-quotient-back p q h =
-    =ℚ_trans (*ℚ_assoc p (reciprocal q) q)
-    (=ℚ_trans (*ℚ-same (=ℚ_refl p) (reciprocal-back q h)) (*ℚ-one p))
-
-outcome-quotient : (p q : Fraction) → outcome Quotient p q =ℚ (p /ℚ q)
-unfolding outcome exact
-outcome-quotient p q = reduce-same (p /ℚ q)
+use Rattle.nz_fractions.proofs.Laws.{=ℚ_refl, =ℚ_sym, =ℚ_trans, ≤ℚ-from_eq, ≤ℚ_refl, ≤ℚ-from_lt, ≤ℚ_trans, <ℚ-≤ℚ_trans, ≤ℚ-<ℚ_trans, <ℚ_irrefl}
+use Rattle.nz_fractions.proofs.Arithmetic.{own_parts, sum_parts, product_parts, neg_parts, by_parts, *ℚ-same, cmp-+ℚ, cmp-*ℚ_pos, outcome-difference}
+use Rattle.nz_fractions.proofs.Identities.{zero_times}
+use Rattle.nz_fractions.proofs.Bounds.{above, moved, scaled, lt-carried, le-carried, moved_right}
+use Rattle.nz_fractions.proofs.Quotients.{outcome-divided, quotient-back}
 
 -- ---- one pair
 
@@ -131,7 +66,7 @@ below_limit c k d l e h z m =
     let fall_above : whole (pos 0) <ℚ fall = <ℚ-≤ℚ_trans (above k l h) (≤ℚ-from_eq (=ℚ_sym (outcome-difference k l))) in
     let step : (e *ℚ fall) ≤ℚ (outcome Quotient rise fall *ℚ fall) = scaled e (outcome Quotient rise fall) fall fall_above m in
     let back : (outcome Quotient rise fall *ℚ fall) =ℚ rise =
-    =ℚ_trans (*ℚ-same (outcome-quotient rise fall) (=ℚ_refl fall)) (quotient-back rise fall fall_above)
+    =ℚ_trans (*ℚ-same (outcome-divided rise fall) (=ℚ_refl fall)) (quotient-back rise fall fall_above)
     in
     let left : ((c +ℚ k *ℚ e) +ℚ rest) =ℚ (e *ℚ fall) =
     =ℚ_trans (lower_rest c k l e) (*ℚ-same (=ℚ_refl e) (=ℚ_sym (outcome-difference k l)))
@@ -257,15 +192,6 @@ kept-in_order (x ∷ ps) start d o z h =
     by_test false e h rest =
         All-cons (InOrderAt d) x ps (in_order_at x d (All-head InOrder x ps o) z false e (λ t. absurd (cc))) (rest start h)
 
-zero-product : (q : Fraction) → (whole (pos 0) *ℚ q) =ℚ whole (pos 0)
-zero-product q =
-    by_parts (product_parts (whole_parts (pos 0)) (own_parts q)) (whole_parts (pos 0))
-    (solve
-    (q.numerator ∷ pos (denominator q) ∷ [])
-    ((Literal (pos 0) ⊗ Atom 0) ⊗ Literal (pos 1))
-    (Literal (pos 0) ⊗ (Literal (pos 1) ⊗ Atom 1))
-    refl)
-
 quotient_above : (c d k l : Fraction) → c <ℚ d → l <ℚ k → whole (pos 0) <ℚ outcome Quotient (outcome Difference d c) (outcome Difference k l)
 quotient_above c d k l h i =
     let fall = outcome Difference k l in
@@ -273,10 +199,10 @@ quotient_above c d k l h i =
     let q = outcome Quotient rise fall in
     let fall_above : whole (pos 0) <ℚ fall = <ℚ-≤ℚ_trans (above k l i) (≤ℚ-from_eq (=ℚ_sym (outcome-difference k l))) in
     let rise_above : whole (pos 0) <ℚ rise = <ℚ-≤ℚ_trans (above d c h) (≤ℚ-from_eq (=ℚ_sym (outcome-difference d c))) in
-    let back : (q *ℚ fall) =ℚ rise = =ℚ_trans (*ℚ-same (outcome-quotient rise fall) (=ℚ_refl fall)) (quotient-back rise fall fall_above) in
+    let back : (q *ℚ fall) =ℚ rise = =ℚ_trans (*ℚ-same (outcome-divided rise fall) (=ℚ_refl fall)) (quotient-back rise fall fall_above) in
     lt-carried (whole (pos 0) *ℚ fall) (q *ℚ fall) (whole (pos 0)) q
     (cmp-*ℚ_pos (whole (pos 0)) q fall fall_above)
-    (≤ℚ-<ℚ_trans (≤ℚ-from_eq (zero-product fall)) (<ℚ-≤ℚ_trans rise_above (≤ℚ-from_eq (=ℚ_sym back))))
+    (≤ℚ-<ℚ_trans (≤ℚ-from_eq (zero_times fall)) (<ℚ-≤ℚ_trans rise_above (≤ℚ-from_eq (=ℚ_sym back))))
 
 limit_above : (x : Pair) → x.0 ≤δ x.1 → is_limiting x ≡ true → whole (pos 0) <ℚ limit x
 unfolding is_limiting limit

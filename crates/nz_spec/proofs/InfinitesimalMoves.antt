@@ -1,5 +1,5 @@
 -- Infinitesimal numbers that are equal as values, part by part.
-use Rattle.std.proofs.Common.{◌≡◌, true, pos, refl, ap₂}
+use Rattle.std.proofs.Common.{◌≡◌, true, pos, ap₂}
 use Rattle.std.specs.Ordering.{ordering_then}
 use Rattle.std.specs.declared.cmp.Ordering.{Ordering}
 use Rattle.nz_fractions.specs.Fraction.{Fraction, whole, ◌=ℚ◌, ◌+ℚ◌, ◌*ℚ◌}
@@ -9,8 +9,8 @@ use Rattle.nz_spec.specs.InfinitesimalMoves.{InfinitesimalsMove}
 use Rattle.nz_fractions.proofs.Laws.{=ℚ_refl, =ℚ_sym}
 use Rattle.nz_fractions.proofs.Order.{same-fraction_eq}
 use Rattle.nz_fractions.proofs.Arithmetic.{+ℚ-zero, +ℚ-same, *ℚ-same, cmp-same}
-use Rattle.nz_spec.proofs.FormValues.{times_zero}
-use Rattle.nz_spec.proofs.FractionSolver.{◌∙ℚ◌, plus_right, times_right}
+use Rattle.nz_fractions.proofs.Identities.{times_zero}
+use Rattle.nz_fractions.proofs.Solver.{◌∙ℚ◌, plus_right, times_right}
 use Rattle.nz_spec.proofs.InfinitesimalOrder.{=δ_refl, =δ_sym, =δ_trans, at_most-less, at_most-from_less}
 
 still-part : (x d q : Fraction) → is_zero q ≡ true → x =ℚ (x +ℚ d *ℚ q)

@@ -1,12 +1,12 @@
 -- The order of infinitesimals, as `infinitesimal_cmp` tells it: chains, sums and multiples.
-use Rattle.std.proofs.Common.{◌≡◌, false, pos, refl, sym, ap, ap₂, ◌∙◌, true≢false, Ordering, Less, Equal, Greater}
+use Rattle.std.proofs.Common.{◌≡◌, false, inl, inr, pos, refl, sym, ap, ap₂, ◌∙◌, true≢false, Ordering, Less, Equal, Greater}
 use Rattle.std.specs.Ordering.{ordering_then, ordering_reverse, is_gt, is_lt}
 use Rattle.std.specs.Cmp.{IsTotalOrder, upto, tied_itself, alike_right}
 use Rattle.std.proofs.lemmas.Cmp.{on_total, then_total}
-use Rattle.nz_fractions.specs.Fraction.{Fraction, whole, ◌=ℚ◌, ◌<ℚ◌, ◌+ℚ◌, ◌*ℚ◌, fraction_cmp}
-use Rattle.nz_spec.specs.Infinitesimal.{Infinitesimal, ◌=δ◌, infinitesimal_cmp}
-use Rattle.nz_fractions.proofs.Laws.{=ℚ_refl, =ℚ_sym, =ℚ_trans}
-use Rattle.nz_fractions.proofs.Order.{fraction_cmp_is, fraction_cmp_total}
+use Rattle.nz_fractions.specs.Fraction.{Fraction, whole, ◌=ℚ◌, ◌≤ℚ◌, ◌<ℚ◌, ◌+ℚ◌, ◌*ℚ◌, fraction_cmp}
+use Rattle.nz_spec.specs.Infinitesimal.{Infinitesimal, ◌=δ◌, ◌≤δ◌, infinitesimal_cmp, InfinitesimalsAreOrdered}
+use Rattle.nz_fractions.proofs.Laws.{=ℚ_refl, =ℚ_sym, =ℚ_trans, ≤ℚ-from_eq, ≤ℚ-from_lt}
+use Rattle.nz_fractions.proofs.Order.{fraction_cmp_is, fraction_cmp_total, fraction_ranked}
 use Rattle.nz_fractions.proofs.Arithmetic.{+ℚ_comm, *ℚ_comm, cmp-same, cmp-+ℚ, cmp-*ℚ_pos, cmp-*ℚ_neg}
 
 pub infinitesimal_total : IsTotalOrder infinitesimal_cmp
@@ -58,6 +58,34 @@ less-at_most_too x y z h k = at_most-from_less x z (less-at_most x y z h k)
 
 pub at_most-less_too : (x y z : Infinitesimal) → AtMost x y → infinitesimal_cmp y z ≡ Less → AtMost x z
 at_most-less_too x y z h k = at_most-from_less x z (at_most-less x y z h k)
+
+-- ---- By the parts
+
+-- what is at most another is below it by its standard part, or level with it
+pub at_most_parts : (x y : Infinitesimal) → AtMost x y → x ≤δ y
+unfolding infinitesimal_cmp
+at_most_parts x y h = by_order (fraction_cmp x.standard y.standard) refl h
+  where
+    level : (o : Ordering) → o ≡ fraction_cmp x.coefficient y.coefficient → is_gt o ≡ false → x.coefficient ≤ℚ y.coefficient
+    level Less e g = ≤ℚ-from_lt (fraction_ranked x.coefficient y.coefficient Less e)
+    level Equal e g = ≤ℚ-from_eq (fraction_ranked x.coefficient y.coefficient Equal e)
+    level Greater e g = absurd (true≢false g)
+
+    by_order : (o : Ordering) → o ≡ fraction_cmp x.standard y.standard → is_gt (ordering_then o (fraction_cmp x.coefficient y.coefficient)) ≡ false
+        → x ≤δ y
+    by_order Less e g = inl (fraction_ranked x.standard y.standard Less e)
+    by_order Equal e g = inr (fraction_ranked x.standard y.standard Equal e, level (fraction_cmp x.coefficient y.coefficient) refl g)
+    by_order Greater e g = absurd (true≢false g)
+
+pub infinitesimals_are_ordered : InfinitesimalsAreOrdered
+infinitesimals_are_ordered = record {
+  total = infinitesimal_total;
+  at_most = not_less;
+  never_less = never_less;
+  at_most_less = at_most-less;
+  less_at_most = less-at_most;
+  by_parts = at_most_parts;
+}
 
 -- ---- Equal values
 

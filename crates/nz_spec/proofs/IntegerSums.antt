@@ -20,14 +20,14 @@ use Rattle.nz_spec.specs.Literal.{term_literal, is_at_most, is_below, is_literal
 use Rattle.nz_spec.specs.LinearLiteral.{is_whole, is_integral_part, are_integral, common_divisor, tight_multiplier, greatest_below, rounded, is_without_units, HaveSortedUnits, TightSaysAsMuch}
 use Rattle.nz_spec.specs.Cuts.{BranchClausesAreTrue}
 use Rattle.nz_fractions.proofs.Laws.{=ℚ_refl, =ℚ_sym, =ℚ_trans, =ℚ-from_same, ≤ℚ-from_eq, ≤ℚ_trans, <ℚ-≤ℚ_trans, ≤ℚ-<ℚ_trans, ≤ℚ_total, denominator-over, numerator-over}
-use Rattle.nz_fractions.proofs.Order.{same-fraction_eq}
+use Rattle.nz_fractions.proofs.Order.{same-fraction_eq, lt_is, lt_is_not, le_is, le_is_not}
 use Rattle.nz_fractions.proofs.Arithmetic.{Parts, sum_parts, product_parts, neg_parts, whole_parts, by_parts, +ℚ-same, *ℚ-same, neg_ℚ-same, outcome-difference, outcome-product}
-use Rattle.nz_spec.proofs.FractionBounds.{times_le, times_lt}
-use Rattle.nz_spec.proofs.FormValues.{parts-scaled, parts-negated, one_times}
+use Rattle.nz_spec.proofs.FormValues.{parts-scaled, parts-negated}
 use Rattle.nz_spec.proofs.FarkasSums.{found}
-use Rattle.nz_spec.proofs.LinearLiterals.{lt_is, lt_is_not, le_is, le_is_not}
 use Rattle.nz_spec.proofs.Literals.{or_first, together}
 use Rattle.nz_fractions.proofs.Rounding.{rounds}
+use Rattle.nz_fractions.proofs.Bounds.{times_le, times_lt}
+use Rattle.nz_fractions.proofs.Identities.{one_times}
 use Rattle.nz_spec.proofs.Sorted.{same_sorts}
 
 -- ---- Integers as fractions

@@ -17,9 +17,12 @@ pub mod BlandSteps
 pub mod BlandTells
 pub mod BlandValues
 pub mod ByteClasses
+pub mod ChosenFractions
+pub mod ClimbSteps
 pub mod Climbs
 pub mod CutSums
 pub mod Decimals
+pub mod DecidedTerms
 pub mod Derivations
 pub mod Divisions
 pub mod Examples
@@ -31,10 +34,6 @@ pub mod FormSums
 pub mod FormTerms
 pub mod FormValues
 pub mod FormWorth
-pub mod FractionBounds
-pub mod FractionQuotients
-pub mod FractionSolver
-pub mod FractionZeros
 pub mod GateSettling
 pub mod GateTruths
 pub mod InfinitesimalLaws
@@ -48,7 +47,9 @@ pub mod LinkTruths
 pub mod Literals
 pub mod Normal
 pub mod NormalGates
+pub mod NormalHeads
 pub mod NormalSorts
+pub mod OperandSorts
 pub mod Pieces
 pub mod PivotRuns
 pub mod Placed
@@ -63,8 +64,12 @@ pub mod SortedArithmetic
 pub mod SortedStates
 pub mod SortedTerms
 pub mod SumUnits
+pub mod SumsLonger
 pub mod Tables
+pub mod TakenTerms
+pub mod TellingBounds
 pub mod Tellings
+pub mod ToldBounds
 pub mod Transcripts
 pub mod UnitTruths
 pub mod WorkedBases

@@ -1,27 +1,10 @@
--- The tests of order, and how the other sign turns them.
-use Rattle.std.proofs.Common.{◌≡◌, true, false, not, inl, inr, [], ◌∷◌, pos, ◌*ℤ◌, neg_ℤ, refl, sym, ap, ◌∙◌, arith}
+-- How the other sign turns the order, and its tests.
+use Rattle.std.proofs.Common.{◌≡◌, not, inl, inr, [], ◌∷◌, pos, ◌*ℤ◌, neg_ℤ, refl, sym, ap, ◌∙◌, arith}
 use Rattle.std.proofs.lemmas.Int.{ints}
 use Rattle.nz_ints.proofs.Ring.{Atom, ◌⊗◌, Minus, solve}
 use Rattle.nz_fractions.specs.Fraction.{Fraction, denominator, neg_ℚ, ◌=ℚ◌, ◌≤ℚ◌, ◌<ℚ◌, fraction_le, fraction_lt}
 use Rattle.nz_fractions.proofs.Laws.{=ℚ_sym, ≤ℚ-from_eq, ≤ℚ_trans, <ℚ-≤ℚ_trans, ≤ℚ-<ℚ_trans, ≤ℚ_total}
-
--- ---- The tests
-
-pub lt_is : (p q : Fraction) → p <ℚ q → fraction_lt p q ≡ true
-unfolding fraction_lt
-lt_is p q h = let e : true ≡ fraction_lt p q = omega (arith, ints, h.cross) in sym e
-
-pub lt_is_not : (p q : Fraction) → q ≤ℚ p → fraction_lt p q ≡ false
-unfolding fraction_lt
-lt_is_not p q h = let e : false ≡ fraction_lt p q = omega (arith, ints, h.cross) in sym e
-
-pub le_is : (p q : Fraction) → p ≤ℚ q → fraction_le p q ≡ true
-unfolding fraction_le
-le_is p q h = let e : true ≡ fraction_le p q = omega (arith, ints, h.cross) in sym e
-
-pub le_is_not : (p q : Fraction) → q <ℚ p → fraction_le p q ≡ false
-unfolding fraction_le
-le_is_not p q h = let e : false ≡ fraction_le p q = omega (arith, ints, h.cross) in sym e
+use Rattle.nz_fractions.proofs.Order.{lt_is, lt_is_not, le_is, le_is_not}
 
 -- ---- The other sign turns the order
 
@@ -29,10 +12,10 @@ crossed : (p q : Fraction) → (neg_ℚ p).numerator *ℤ pos (denominator (neg_
 unfolding neg_ℚ denominator
 crossed p q = solve (p.numerator ∷ pos (denominator q) ∷ []) (Minus (Atom 0) ⊗ Atom 1) (Minus (Atom 0 ⊗ Atom 1)) refl
 
-turned_le : (p q : Fraction) → p ≤ℚ q → neg_ℚ q ≤ℚ neg_ℚ p
+pub turned_le : (p q : Fraction) → p ≤ℚ q → neg_ℚ q ≤ℚ neg_ℚ p
 turned_le p q h = record { cross = omega (arith, ints, h.cross, crossed p q, crossed q p) }
 
-turned_lt : (p q : Fraction) → p <ℚ q → neg_ℚ q <ℚ neg_ℚ p
+pub turned_lt : (p q : Fraction) → p <ℚ q → neg_ℚ q <ℚ neg_ℚ p
 turned_lt p q h = record { cross = omega (arith, ints, h.cross, crossed p q, crossed q p) }
 
 pub at_most_turned : (x p b : Fraction) → x =ℚ neg_ℚ p → fraction_lt x (neg_ℚ b) ≡ not (fraction_le p b)

@@ -15,14 +15,13 @@ use Rattle.nz_spec.specs.Literal.{is_literal_true, Clause, IsClauseTrue}
 use Rattle.nz_spec.specs.Gates.{holds, fails, is_boolean_term}
 use Rattle.nz_spec.specs.Links.{minus, at_most_literal, below_literal, link_clauses, IsArithmetic, LinksAreTrue}
 use Rattle.nz_fractions.proofs.Laws.{=ℚ_sym, =ℚ_trans, ≤ℚ-from_eq, ≤ℚ-from_lt, ≤ℚ_antisymm, ≤ℚ_total, <ℚ_irrefl}
-use Rattle.nz_fractions.proofs.Order.{fraction_ranked, fraction_cmp_is, same-fraction_eq, fraction_eq-same}
+use Rattle.nz_fractions.proofs.Order.{fraction_ranked, fraction_cmp_is, same-fraction_eq, fraction_eq-same, lt_is, lt_is_not, le_is, le_is_not}
 use Rattle.nz_fractions.proofs.Arithmetic.{+ℚ_comm, +ℚ-neg, +ℚ-same, neg_ℚ-same, cmp-same, cmp-+ℚ}
 use Rattle.nz_spec.proofs.FormTerms.{form_has_value}
 use Rattle.nz_spec.proofs.FormValues.{by_difference, form-joined}
 use Rattle.nz_spec.proofs.GateTruths.{implies}
-use Rattle.nz_spec.proofs.InfinitesimalLaws.{lt-carried, le-carried}
-use Rattle.nz_spec.proofs.LinearLiterals.{lt_is, lt_is_not, le_is, le_is_not}
 use Rattle.nz_fractions.proofs.Rounding.{rounds}
+use Rattle.nz_fractions.proofs.Bounds.{lt-carried, le-carried}
 
 -- ---- Tests
 
@@ -73,7 +72,7 @@ otherwise_either : (b c d : Bool) → (b ≡ false → (c || (d || false)) ≡ t
 otherwise_either true c d h = refl
 otherwise_either false c d h = h refl
 
-and-true : (b : Bool) → (b && true) ≡ b
+pub and-true : (b : Bool) → (b && true) ≡ b
 and-true true = refl
 and-true false = refl
 
@@ -176,7 +175,7 @@ module _ (numbering : Numbering) (a : Assignment) where
       )
 
   -- a value that is no truth is a number
-  equal_numbers : (s : Sort) (v w : Value) → IsOfSort s v → is_bool s ≡ false → are_equal v w ≡ fraction_eq (number_of v) (number_of w)
+  pub equal_numbers : (s : Sort) (v w : Value) → IsOfSort s v → is_bool s ≡ false → are_equal v w ≡ fraction_eq (number_of v) (number_of w)
   equal_numbers bool_sort v w h e = absurd (true≢false e)
   equal_numbers int_sort (truth b) w h e = absurd h
   equal_numbers int_sort (number q) w h e = refl

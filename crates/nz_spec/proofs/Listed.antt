@@ -1,49 +1,46 @@
--- A term list has a number exactly where the live items hold one.
-use Rattle.std.proofs.Common.{◌≡◌, ℕ, zero, suc, ◌<◌, length, arith, Bool, false, not, ◌||◌, List, [], ◌∷◌, ◌++◌, inl, inr, refl, sym, ap, ◌∙◌, append-nil}
+-- A term list has a unit of sort Int exactly where the live items hold one.
+use Rattle.std.proofs.Common.{◌≡◌, ℕ, zero, suc, ◌<◌, length, arith, Bool, false, ◌||◌, List, [], ◌∷◌, ◌++◌, inl, inr, refl, sym, ap, ◌∙◌, append-nil}
 use Rattle.std.specs.Prelude.{Contains, flat_map, slice_index_or}
 use Rattle.std.specs.List.{list_any}
 use Rattle.std.proofs.Math.Bool.{or-false, or_assoc, or_comm}
 use Rattle.std.proofs.lemmas.List.Folds.{list_any-append}
 use Rattle.nz_lists.proofs.Tests.{or_again}
-use Rattle.nz_spec.specs.Term.{Head, modulus, is_int, head_sort, Term, apply, Terms, no_terms, terms, sort_of, is_bool, is_numeric, holds_number, hold_number}
+use Rattle.nz_spec.specs.Term.{Head, modulus, is_int, Term, apply, Terms, no_terms, terms, is_integral, holds_integer, hold_integer}
 use Rattle.nz_spec.specs.Order.{companions, listing_order, listing_orders, AreFirst}
 use Rattle.nz_spec.specs.Live.{items_of, item_terms}
-use Rattle.nz_spec.specs.TermList.{NumbersAreListed}
-
-abbrev is_number : Term → Bool
-is_number t = not (is_bool (sort_of t))
+use Rattle.nz_spec.specs.TermList.{is_integer_unit, IntegersAreListed}
 
 -- ---- The order of a listing
 
-companion_numeric : (h : Head) (ts : Terms) (b : Bool) → (list_any is_number (companions h ts) || (not (is_bool (head_sort h)) || b)) ≡ (is_numeric h || b)
-companion_numeric modulus ts b = refl
-companion_numeric is_int ts b = refl
-companion_numeric h ts b = refl
+companion_integral : (h : Head) (ts : Terms) (b : Bool) → (list_any is_integer_unit (companions h ts) || (is_integer_unit (apply h ts) || b)) ≡ (is_integral h || b)
+companion_integral modulus ts b = refl
+companion_integral is_int ts b = refl
+companion_integral h ts b = refl
 
 mutual
-  listed_number : (t : Term) → list_any is_number (listing_order t) ≡ holds_number t
-  listed_number (apply h ts) =
-      let others = list_any is_number (listing_orders ts) in
-      list_any-append is_number (listing_orders ts ++ companions h ts) (apply h ts ∷ [])
-      ∙ ap (λ b. b || list_any is_number (apply h ts ∷ [])) (list_any-append is_number (listing_orders ts) (companions h ts))
-      ∙ or_assoc others (list_any is_number (companions h ts)) (list_any is_number (apply h ts ∷ []))
-      ∙ ap (λ b. others || b) (companion_numeric h ts false ∙ or-false (is_numeric h))
-      ∙ ap (λ b. b || is_numeric h) (listed_numbers ts)
-      ∙ or_comm (hold_number ts) (is_numeric h)
+  listed_integer : (t : Term) → list_any is_integer_unit (listing_order t) ≡ holds_integer t
+  listed_integer (apply h ts) =
+      let others = list_any is_integer_unit (listing_orders ts) in
+      list_any-append is_integer_unit (listing_orders ts ++ companions h ts) (apply h ts ∷ [])
+      ∙ ap (λ b. b || list_any is_integer_unit (apply h ts ∷ [])) (list_any-append is_integer_unit (listing_orders ts) (companions h ts))
+      ∙ or_assoc others (list_any is_integer_unit (companions h ts)) (list_any is_integer_unit (apply h ts ∷ []))
+      ∙ ap (λ b. others || b) (companion_integral h ts false ∙ or-false (is_integral h))
+      ∙ ap (λ b. b || is_integral h) (listed_integers ts)
+      ∙ or_comm (hold_integer ts) (is_integral h)
 
-  listed_numbers : (ts : Terms) → list_any is_number (listing_orders ts) ≡ hold_number ts
-  listed_numbers no_terms = refl
-  listed_numbers (terms t ts) =
-      list_any-append is_number (listing_order t) (listing_orders ts)
-      ∙ ap (λ b. b || list_any is_number (listing_orders ts)) (listed_number t)
-      ∙ ap (λ b. holds_number t || b) (listed_numbers ts)
+  listed_integers : (ts : Terms) → list_any is_integer_unit (listing_orders ts) ≡ hold_integer ts
+  listed_integers no_terms = refl
+  listed_integers (terms t ts) =
+      list_any-append is_integer_unit (listing_order t) (listing_orders ts)
+      ∙ ap (λ b. b || list_any is_integer_unit (listing_orders ts)) (listed_integer t)
+      ∙ ap (λ b. holds_integer t || b) (listed_integers ts)
 
-all_listed : (ts : List Term) → list_any is_number (flat_map listing_order ts) ≡ list_any holds_number ts
+all_listed : (ts : List Term) → list_any is_integer_unit (flat_map listing_order ts) ≡ list_any holds_integer ts
 all_listed [] = refl
 all_listed (t ∷ ts) =
-    list_any-append is_number (listing_order t) (flat_map listing_order ts)
-    ∙ ap (λ b. b || list_any is_number (flat_map listing_order ts)) (listed_number t)
-    ∙ ap (λ b. holds_number t || b) (all_listed ts)
+    list_any-append is_integer_unit (listing_order t) (flat_map listing_order ts)
+    ∙ ap (λ b. b || list_any is_integer_unit (flat_map listing_order ts)) (listed_integer t)
+    ∙ ap (λ b. holds_integer t || b) (all_listed ts)
 
 -- ---- Each term once
 
@@ -71,9 +68,9 @@ once_same test seen (t ∷ ts) list (inr h) =
     ∙ ap (λ b. b || list_any test ts) (or_comm (test t) (list_any test seen))
     ∙ or_assoc (list_any test seen) (test t) (list_any test ts)
 
-pub numbers_are_listed : NumbersAreListed
-numbers_are_listed s list h =
+pub integers_are_listed : IntegersAreListed
+integers_are_listed s list h =
     let roots = flat_map item_terms (items_of s.levels) in
-    once_same is_number [] (flat_map listing_order (roots ++ [])) list h
-    ∙ ap (λ l. list_any is_number (flat_map listing_order l)) (append-nil roots)
+    once_same is_integer_unit [] (flat_map listing_order (roots ++ [])) list h
+    ∙ ap (λ l. list_any is_integer_unit (flat_map listing_order l)) (append-nil roots)
     ∙ all_listed roots

@@ -31,7 +31,7 @@ same_part p q e f =
     ap₂ (λ (c : Fraction) (u : Term). let r : Part = record { coefficient = c; unit = u } in r)
     (same_fraction p.coefficient q.coefficient e) (same_term p.unit q.unit f)
 
-same_parts : (ps qs : List Part) → are_same_parts ps qs ≡ true → ps ≡ qs
+pub same_parts : (ps qs : List Part) → are_same_parts ps qs ≡ true → ps ≡ qs
 same_parts [] [] e = refl
 same_parts [] (q ∷ qs) e = absurd (true≢false (sym e))
 same_parts (p ∷ ps) [] e = absurd (true≢false (sym e))

@@ -11,7 +11,7 @@ use Rattle.nz_spec.proofs.Sorted.{same_sorts}
 use Rattle.nz_spec.proofs.SortedTerms.{SameSorts, applied_same}
 
 -- what has a sort is of it
-of_sort : (s : Sort) (t : Term) → has_sort s t ≡ true → sort_of t ≡ s
+pub of_sort : (s : Sort) (t : Term) → has_sort s t ≡ true → sort_of t ≡ s
 of_sort s t e = sym (same_sorts s (sort_of t) e)
 
 to_sort : (s : Sort) (t : Term) → sort_of t ≡ s → has_sort s t ≡ true
@@ -22,7 +22,7 @@ to_sort s t e = ap (are_same_sort s) e ∙ one_sort s
     one_sort int_sort = refl
     one_sort real_sort = refl
 
-first_has : (s : Sort) (t : Term) (ts : Terms) → all_terms (has_sort s) (terms t ts) ≡ true → has_sort s t ≡ true
+pub first_has : (s : Sort) (t : Term) (ts : Terms) → all_terms (has_sort s) (terms t ts) ≡ true → has_sort s t ≡ true
 first_has s t ts e = (and_parts (has_sort s t) (all_terms (has_sort s) ts) e).0
 
 rest_have : (s : Sort) (t : Term) (ts : Terms) → all_terms (has_sort s) (terms t ts) ≡ true → all_terms (has_sort s) ts ≡ true

@@ -1,5 +1,5 @@
 -- Pivots that lead from a position to another one, as runs of check steps.
-use Rattle.std.proofs.Common.{◌≡◌, ℕ, zero, suc, ◌<◌, ◌^◌, List, [], ◌∷◌, ◌++◌, length, refl, sym, ap, subst, arith}
+use Rattle.std.proofs.Common.{◌≡◌, ℕ, zero, suc, ◌<◌, ◌^◌, List, [], ◌∷◌, ◌++◌, length, refl, sym, subst, arith}
 use Rattle.nz_spec.specs.Bland.{Position, IsCheckStep}
 use Rattle.nz_spec.specs.BlandRuns.{IsRun}
 use Rattle.nz_spec.specs.PositionMoves.{IsReadyToCheck}

@@ -2,6 +2,7 @@
 use Rattle.std.proofs.Common.{◌≡◌, ℕ, ◌<◌, Bool, true, false, ◌⊎◌, inl, inr, List, [], ◌∷◌, ◌++◌, length, Option, Some, None, refl, sym, ap, ◌∙◌, subst, true≢false, arith, Less}
 use Rattle.std.specs.Prelude.{◌==◌, if◌then◌else◌, unwrap_or, is_some, option_map, Contains}
 use Rattle.std.specs.Ordering.{is_lt}
+use Rattle.nz_lists.proofs.Numbers.{equal-number, same-number}
 use Rattle.nz_spec.specs.Infinitesimal.{Infinitesimal, infinitesimal_cmp}
 use Rattle.nz_spec.specs.Term.{Term}
 use Rattle.nz_spec.specs.Form.{Part, unit_form}
@@ -9,7 +10,6 @@ use Rattle.nz_spec.specs.Basis.{HasItsUnits, IsBasis}
 use Rattle.nz_spec.specs.BasisMoves.{with_nonbasic}
 use Rattle.nz_spec.specs.Bland.{Point, is_nonbasic, zero_infinitesimal, value_in, Position, Side, lower_side, upper_side, other_side, bound_on, IsOutside, NonbasicFormsFit, exchanged_point, IsCheckStep}
 use Rattle.nz_spec.specs.PositionMoves.{AreConsistent, with_unit, with_form, AreListedBounds, is_outside, moved_within, bounds_with, with_bound, AreLooser, IsReadyToCheck, empty_position, MovesKeepReady}
-use Rattle.nz_spec.proofs.BasisRows.{equal-number, same-number}
 use Rattle.nz_spec.proofs.BasisJoins.{length-more, joins_keep_basis}
 use Rattle.nz_spec.proofs.InfinitesimalOrder.{=δ_refl}
 use Rattle.nz_spec.proofs.BlandSteps.{check_steps_keep_basis}
@@ -78,7 +78,7 @@ form-ready s f ready own = record {
 
 -- ---- A bound
 
-outside-test : (side : Side) (bound x : Infinitesimal) → IsOutside side bound x → is_outside side bound x ≡ true
+pub outside-test : (side : Side) (bound x : Infinitesimal) → IsOutside side bound x → is_outside side bound x ≡ true
 outside-test lower_side bound x h = ap is_lt h
 outside-test upper_side bound x h = ap is_lt h
 

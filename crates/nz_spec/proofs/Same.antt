@@ -9,7 +9,7 @@ use Rattle.std.proofs.lemmas.Bool.Decides.{nat_tests}
 use Rattle.nz_spec.specs.Elaboration.{numbers_at}
 use Rattle.nz_fractions.specs.Fraction.{Fraction}
 use Rattle.nz_spec.specs.Term.{Sort, bool_sort, int_sort, real_sort, NumberSort, over_int, over_real, sort_over, Head, constant, parameter, integer, decimal_number, verum, falsum, negation, conjunction, disjunction, implication, exclusion, equality, distinction, choice, less, at_most, greater, at_least, sum, difference, product, quotient, integer_quotient, modulus, magnitude, to_real, to_int, is_int, Term, apply, Terms, no_terms, terms}
-use Rattle.nz_spec.specs.Same.{are_same_fraction, sort_number, TellsHeads, head_numbers, are_same_head, are_same_term, are_same_terms}
+use Rattle.nz_spec.specs.Same.{are_same_fraction, sort_number, TellsHeads, TellsTerms, head_numbers, are_same_head, are_same_term, are_same_terms}
 
 -- ---- A head from its numbers
 
@@ -77,6 +77,9 @@ mutual
   one_terms : (ts : Terms) → are_same_terms ts ts ≡ true
   one_terms no_terms = refl
   one_terms (terms t ts) = and_from (are_same_term t t) (are_same_terms ts ts) (one_term t) (one_terms ts)
+
+pub tells_terms : TellsTerms
+tells_terms = record { same = same_term; one = one_term }
 
 -- ---- Fractions
 

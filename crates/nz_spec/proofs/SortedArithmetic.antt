@@ -18,7 +18,7 @@ each_own : (ts : Terms) → AreWellSorted [] ts → AllByRecursion (λ (u : Term
 each_own no_terms i = tt
 each_own (terms t ts) i = (own_sort t i.0, each_own ts i.1)
 
-each_has : (s : Sort) (ts : Terms) → all_terms (has_sort s) ts ≡ true → AreWellSorted [] ts → AllByRecursion (HasSort s) (list_of ts)
+pub each_has : (s : Sort) (ts : Terms) → all_terms (has_sort s) ts ≡ true → AreWellSorted [] ts → AllByRecursion (HasSort s) (list_of ts)
 each_has s no_terms e i = tt
 each_has s (terms t ts) e i =
     let both = and_parts (has_sort s t) (all_terms (has_sort s) ts) e in

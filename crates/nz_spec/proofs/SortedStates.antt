@@ -14,7 +14,7 @@ use Rattle.nz_spec.specs.Term.{Sort, bool_sort, Term, Terms, sort_of, holds_numb
 use Rattle.nz_spec.specs.Normal.{normal_of}
 use Rattle.nz_spec.specs.Linear.{is_linear}
 use Rattle.nz_spec.specs.Elaboration.{has_sort, placed, term_of, terms_of}
-use Rattle.nz_spec.specs.Live.{State, start, constants_of, LiveItem, numbered_items, Item, declared, defined, asserted, sought, wished, items_of, items_hold_numbers, definitions_in, assertions_in, assertions_of, with_item, grown}
+use Rattle.nz_spec.specs.Live.{State, start, constants_of, LiveItem, numbered_items, Item, declared, defined, asserted, sought, wished, items_of, items_hold_integers, definitions_in, assertions_in, assertions_of, with_item, grown}
 use Rattle.nz_spec.specs.Command.{Command, declare_const, define, assert_term, check_sat, get_value, set_print_success, Outcome, accepted, refused, not_taken}
 use Rattle.nz_spec.specs.Error.{bad_syntax, unknown_symbol, wrong_sort, too_wide, past_limit, already_declared}
 use Rattle.nz_spec.specs.Limits.{passes_limit}
@@ -177,7 +177,7 @@ module _ (s : State) (sorted : IsSortedState s) where
   request_good (declares name arguments sort) = declaration_good s name arguments sort
   request_good (defines name parameters sort body) = definition_good name parameters sort body
   request_good (asserts e) = assertion_good e
-  request_good checks = good_if (items_hold_numbers (items_of s.levels)) not_taken (accepted (check_sat [])) tt tt
+  request_good checks = good_if (items_hold_integers (items_of s.levels)) not_taken (accepted (check_sat [])) tt tt
   request_good shows_model = tt
   request_good (shows_values qs) = values_good qs
   request_good (shows_info k) = info_good k

@@ -1,14 +1,16 @@
 -- The units of sums and of multiples are those of their parts; of the form of a term they are terms that it is made of.
 use Rattle.std.proofs.Common.{Bool, true, false, List, [], ◌∷◌, map, Option, Some, None, pos}
-use Rattle.std.specs.Prelude.{if◌then◌else◌, nat_lt, ⊤}
+use Rattle.std.specs.Prelude.{Contains, if◌then◌else◌, nat_lt, ⊤}
 use Rattle.std.specs.List.{AllByRecursion}
+use Rattle.std.proofs.lemmas.List.Elements.{Contains-append_left, Contains-append_right, Contains-push}
 use Rattle.nz_fractions.specs.Fraction.{Fraction, whole, Arithmetic, Sum, Difference, Product, Quotient, outcome}
 use Rattle.nz_spec.specs.Computation.{Computation, operated, at_once, turned_into, and_then}
 use Rattle.nz_spec.specs.Term.{Head, sum, difference, product, quotient, to_real, Term, apply, Terms, no_terms, terms, is_zero}
 use Rattle.nz_spec.specs.Linear.{head_constant, constant_values}
 use Rattle.nz_spec.specs.Same.{are_same_term}
 use Rattle.nz_spec.specs.Form.{Numbering, Part, Form, constant_form, unit_form, with_part, negated_part, part_alone, part_joined, parts_joined, joined, all_joined, parts_scaled}
-use Rattle.nz_spec.specs.FormOf.{is_opened, constants_product, open_form, divided_by, divided_by_each, head_form, form_of, forms_of}
+use Rattle.nz_spec.specs.FormOf.{is_opened, constants_product, open_form, divided_by, divided_by_each, head_form, form_of, forms_of, UnitsAreParts}
+use Rattle.nz_spec.specs.Order.{post_order, post_orders}
 use Rattle.nz_spec.specs.Literal.{term_literal, is_at_most, is_below, Literal}
 use Rattle.nz_spec.specs.LinearLiteral.{parts_of}
 use Rattle.nz_spec.specs.Farkas.{Multiple, Bound, bound_of, bound_scaled, bounds_joined, multiples_onto}
@@ -138,3 +140,20 @@ module _ (P : Term → Type 0) where
     forms-over : (number : Numbering) (ts : Terms) → OverTerms ts → AllByRecursion (λ (f : Form). OverUnits f.parts) (forms_of number ts).result
     forms-over number no_terms k = tt
     forms-over number (terms t ts) k = (form-over number t k.0, forms-over number ts k.1)
+
+-- ---- What a term is made of
+
+mutual
+  over_parts : (P : Term → Type 0) (t : Term) → ((u : Term) → Contains (post_order t) u → P u) → OverTerm P t
+  over_parts P (apply h ts) f =
+      (f (apply h ts) (Contains-push (post_orders ts) (apply h ts)), over_all P ts (λ u has. f u (Contains-append_left (post_orders ts) (apply h ts ∷ []) u has)))
+
+  over_all : (P : Term → Type 0) (ts : Terms) → ((u : Term) → Contains (post_orders ts) u → P u) → OverTerms P ts
+  over_all P no_terms f = tt
+  over_all P (terms t ts) f = (
+    over_parts P t (λ u has. f u (Contains-append_left (post_order t) (post_orders ts) u has)),
+    over_all P ts (λ u has. f u (Contains-append_right (post_order t) (post_orders ts) u has)),
+  )
+
+pub units_are_parts : UnitsAreParts
+units_are_parts number t = form-over (Contains (post_order t)) number t (over_parts (Contains (post_order t)) t (λ u has. has))

@@ -19,18 +19,17 @@ use Rattle.nz_spec.specs.Links.{minus, at_most_literal, IsArithmetic}
 use Rattle.nz_spec.specs.Units.{at_most_number, below_number, times_unit, greatest_remainder, quotient_rows, remainder_rows, magnitude_rows, unit_clauses, UnitsAreTrue}
 use Rattle.nz_spec.proofs.Divisions.{divides}
 use Rattle.nz_fractions.proofs.Laws.{=ℚ_refl, =ℚ_sym, =ℚ_trans, =ℚ-from_same, ≤ℚ-from_eq, ≤ℚ_refl, ≤ℚ_trans, <ℚ-≤ℚ_trans, ≤ℚ-<ℚ_trans}
-use Rattle.nz_fractions.proofs.Order.{fraction_eq-same}
+use Rattle.nz_fractions.proofs.Order.{fraction_eq-same, lt_is, le_is}
 use Rattle.nz_fractions.proofs.Arithmetic.{+ℚ_comm, +ℚ_assoc, +ℚ-zero, +ℚ-neg, +ℚ-same, *ℚ-same, neg_ℚ-same, cmp-same, cmp-+ℚ, outcome-difference}
-use Rattle.nz_spec.proofs.FormSums.{neg-neg}
 use Rattle.nz_spec.proofs.FormTerms.{form_has_value, constant_known}
-use Rattle.nz_spec.proofs.FormValues.{by_sum, by_difference, form-joined, form-negated, unit-value, zero_left}
+use Rattle.nz_spec.proofs.FormValues.{by_sum, by_difference, form-joined, form-negated, unit-value}
 use Rattle.nz_spec.proofs.GateTruths.{implies}
-use Rattle.nz_spec.proofs.InfinitesimalLaws.{lt-carried}
 use Rattle.nz_spec.proofs.IntegerSums.{whole_sum, whole_product, whole_negated, whole_le, whole_lt, from_whole_lt, whole_value}
-use Rattle.nz_spec.proofs.LinearLiterals.{lt_is, le_is}
 use Rattle.nz_spec.proofs.LinkTruths.{le_alike, lt_alike, otherwise, moved_over, at_most_is}
 use Rattle.nz_spec.proofs.Literals.{or_first, or_second}
 use Rattle.nz_fractions.proofs.Rounding.{rounds}
+use Rattle.nz_fractions.proofs.Identities.{neg-neg, zero_left}
+use Rattle.nz_fractions.proofs.Bounds.{lt-carried}
 
 -- ---- Integers
 

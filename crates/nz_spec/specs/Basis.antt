@@ -100,9 +100,10 @@ unit_coefficient u (p ∷ ps) = if are_same_term p.unit u then p.coefficient +�
 abbrev pub WorthIsByUnits : Type 0
 WorthIsByUnits = (ps qs : List Part) → ((v : Valuation) → worth v ps =ℚ worth v qs) ↔ ((u : Term) → unit_coefficient u ps =ℚ unit_coefficient u qs)
 
--- A nonbasic form is the sum of itself.
-abbrev pub NonbasicFormIsItself : Type 0
-NonbasicFormIsItself = (fs : List (List Part)) (nonbasic : ℕ → Bool) (i : ℕ) → IsBasis fs nonbasic → nonbasic i ≡ true → IsRow fs nonbasic i (alone i)
+-- A nonbasic form is the sum of itself, and that sum over any values is its own value.
+pub record NonbasicFormIsItself : Type 0 where
+  pub row : (fs : List (List Part)) (nonbasic : ℕ → Bool) (i : ℕ) → IsBasis fs nonbasic → nonbasic i ≡ true → IsRow fs nonbasic i (alone i)
+  pub value : (n i : ℕ) (y : ℕ → Fraction) → i < n → weighted n (alone i) y =ℚ y i
 
 -- A form is worth under an assignment what its units are.
 abbrev pub ValueIsWorth : Type 0

@@ -4,7 +4,7 @@
 -- operations is this solver's own.
 use Rattle.std.specs.Prelude.{◌≡◌, ℕ, zero, suc, ◌<◌, ◌==◌, Bool, true, false, not, ◌&&◌, List, [], ◌∷◌, ◌++◌, length, map, flat_map, pos, Contains, ◌↔◌, if◌then◌else◌}
 use Rattle.std.specs.List.{AllByRecursion}
-use Rattle.nz_fractions.specs.Fraction.{Fraction, whole, ◌=ℚ◌, neg_ℚ, Sum, Product, Quotient, outcome, IsNumber, is_wide, Operation}
+use Rattle.nz_fractions.specs.Fraction.{Fraction, whole, ◌=ℚ◌, neg_ℚ, Sum, Product, Quotient, outcome, Operation}
 use Rattle.nz_spec.specs.Computation.{Computation, at_once, and_then}
 use Rattle.nz_spec.specs.Term.{Term, Assignment, is_zero}
 use Rattle.nz_spec.specs.Form.{Part, unit_form, parts_value}
@@ -114,14 +114,6 @@ abbrev pub joining_row : ℕ → (ℕ → Bool) → Rows → (Term → ℕ) → 
 joining_row n nonbasic rows number f = parts_added (numbers n nonbasic) nonbasic rows number (λ k. whole (pos 0)) f
 
 -- ---- Laws
-
--- What a number comes to beside 0: nothing leaves the numbers there, so a coefficient that is 0 may be passed over.
-pub record ZerosAreNeverWide : Type 0 where
-  pub sum_left : (q : Fraction) → IsNumber q → (is_wide Sum (whole (pos 0)) q ≡ false) × (outcome Sum (whole (pos 0)) q ≡ q)
-  pub sum_right : (q : Fraction) → IsNumber q → (is_wide Sum q (whole (pos 0)) ≡ false) × (outcome Sum q (whole (pos 0)) ≡ q)
-  pub product_left : (q : Fraction) → (is_wide Product (whole (pos 0)) q ≡ false) × (outcome Product (whole (pos 0)) q ≡ whole (pos 0))
-  pub product_right : (q : Fraction) → (is_wide Product q (whole (pos 0)) ≡ false) × (outcome Product q (whole (pos 0)) ≡ whole (pos 0))
-  pub quotient : (q : Fraction) → (is_wide Quotient (whole (pos 0)) q ≡ false) × (outcome Quotient (whole (pos 0)) q ≡ whole (pos 0))
 
 -- An exchange leaves a basis, and its rows are those that are computed.
 pub record ExchangeKeepsBasis : Type 0 where

@@ -1,8 +1,9 @@
--- Points over a basis, bounds of forms, and the check steps of the simplex: which forms are exchanged, by Bland's rule. Where no
--- form can be, the bounds contradict.
--- Source: Dutertre and de Moura, A Fast Linear-Arithmetic Solver for DPLL(T), CAV 2006, sections 3 to 5 (checking, conflicts,
--- strict bounds). The order of a value's operations is this solver's own.
-use Rattle.std.specs.Prelude.{◌≡◌, ℕ, ◌<◌, ◌==◌, Bool, true, false, ◌&&◌, ◌⊎◌, List, [], ◌∷◌, length, Option, Some, None, option_map, unwrap_or, is_some, pos, negsuc, ◌↔◌, if◌then◌else◌}
+-- Points over a basis, bounds of forms, and the check steps and climb steps of the simplex: which forms are exchanged, by Bland's
+-- rule. Where a check finds no form to exchange, the bounds contradict.
+-- Sources: Dutertre and de Moura, A Fast Linear-Arithmetic Solver for DPLL(T), CAV 2006, sections 3 to 5 (checking, conflicts,
+-- strict bounds); Bland, New Finite Pivoting Rules for the Simplex Method, 1977 (climbs). The order of a value's operations is this
+-- solver's own.
+use Rattle.std.specs.Prelude.{◌≡◌, ℕ, ◌<◌, ◌≤◌, ◌==◌, Bool, true, false, ◌&&◌, ◌⊎◌, List, [], ◌∷◌, length, Option, Some, None, option_map, unwrap_or, is_some, pos, negsuc, ◌↔◌, if◌then◌else◌}
 use Rattle.std.specs.declared.cmp.Ordering.TheVariants.{Less}
 use Rattle.nz_fractions.specs.Fraction.{Fraction, whole, ◌≤ℚ◌, ◌<ℚ◌, fraction_eq, Sum, Product}
 use Rattle.nz_spec.specs.Infinitesimal.{Infinitesimal, ◌=δ◌, infinitesimal_cmp, ◌+δ◌, ◌-δ◌, scaled, at}
@@ -157,6 +158,39 @@ pub record IsCheckStep (s t : Position) (i j : ℕ) : Type 0 where
   pub least_helper : (k : ℕ) → k < j → CanHelp s i (other_side side) k → ⊥
   pub after : t ≡ record s { point = exchanged_point s.point i j bound }
 
+-- ---- Climb steps
+
+-- A form with this coefficient at another is led to a side where the other one goes this way.
+abbrev pub IsLed : (way : Side) → Fraction → (side : Side) → Type 0
+IsLed way q side = ((whole (pos 0) <ℚ q) × (side ≡ way)) ⊎ ((q <ℚ whole (pos 0)) × (side ≡ other_side way))
+
+-- Where form j goes this way by so much, form k comes to its bound on the side that it is led to. Form k may be j itself.
+pub record Blocks (s : Position) (j : ℕ) (way : Side) (k : ℕ) (move : Infinitesimal) : Type 0 where
+  pub listed : k < length s.forms
+  pub coefficient : Fraction
+  pub at : IsCoefficient s.forms (is_nonbasic s.point) k j coefficient
+  pub side : Side
+  pub led : IsLed way coefficient side
+  pub bound : Infinitesimal
+  pub bounded : bound_on side s k ≡ Some bound
+  pub value : Infinitesimal
+  pub has : HasValue s k value
+  pub reaches : (value +δ scaled move coefficient) =δ bound
+
+-- The least-numbered nonbasic form that can take the goal up, or down, goes that way until a form blocks it: of those that block it
+-- first, i is the least-numbered one. They are exchanged, and i stands at its bound. Where i is the form that goes, it moves there
+-- and stays nonbasic.
+pub record IsClimbStep (s t : Position) (goal : ℕ) (up : Side) (i j : ℕ) : Type 0 where
+  pub helps : CanHelp s goal up j
+  pub least_helper : (k : ℕ) → k < j → CanHelp s goal up k → ⊥
+  pub way : Side
+  pub led : IsLed way helps.coefficient up
+  pub move : Infinitesimal
+  pub blocks : Blocks s j way i move
+  pub first : (k : ℕ) (other : Infinitesimal) → Blocks s j way k other → IsInside way move other → ⊥
+  pub least_first : (k : ℕ) (other : Infinitesimal) → k < i → Blocks s j way k other → other =δ move → ⊥
+  pub after : t ≡ record s { point = exchanged_point s.point i j blocks.bound }
+
 -- ---- Contradictions
 
 -- these values of all forms break no bound
@@ -209,13 +243,15 @@ pub record RowsTell : Type 0 where
       → (((whole (pos 0) <ℚ rows i j) × HasRoom s side j) ⊎ ((rows i j <ℚ whole (pos 0)) × HasRoom s (other_side side) j)) ↔ CanHelp s i side j
 
 -- Each form has one value at a position. The values of all forms fit the basis, with any fraction for δ. Where no form breaks a
--- bound, these values meet the bounds.
+-- bound, these values meet the bounds. A sum stays the same over more forms, where the others have the value 0.
 pub record PositionsHaveValues : Type 0 where
   pub some : (s : Position) → HasBasis s → (y : ℕ → Infinitesimal) × ((k : ℕ) → k < length s.forms → HasValue s k (y k))
   pub one : (s : Position) (k : ℕ) (x y : Infinitesimal) → HasBasis s → k < length s.forms → HasValue s k x → HasValue s k y → x =δ y
   pub fit : (s : Position) (y : ℕ → Infinitesimal) (e : Fraction) → HasBasis s → ((k : ℕ) → k < length s.forms → HasValue s k (y k)) → IsSolution s.forms (is_nonbasic s.point) (λ k. at (y k) e)
   pub feasible : (s : Position) (y : ℕ → Infinitesimal) → HasBasis s → ((k : ℕ) → k < length s.forms → HasValue s k (y k)) → NonbasicFormsFit s
       → ((side : Side) (bound : Infinitesimal) (i : ℕ) → Breaks s side bound i → ⊥) → MeetsBounds s y
+  pub longer : (n m : ℕ) (c : Coefficients) (x y : ℕ → Infinitesimal) → n ≤ m → ((k : ℕ) → k < n → y k ≡ x k) → ((k : ℕ) → n ≤ k → y k ≡ zero_infinitesimal)
+      → sum_at m c y =δ sum_at n c x
 
 -- Where one value moves, a sum moves by its coefficient there.
 abbrev pub SumMoves : Type 0
@@ -232,11 +268,16 @@ pub record CheckStepsKeepBasis : Type 0 where
   pub moves : (s t : Position) (i j r : ℕ) (v w : Infinitesimal) (q : Fraction) → HasBasis s → (step : IsCheckStep s t i j) → r < length s.forms
       → HasValue s r v → HasValue s i w → IsCoefficient t.forms (is_nonbasic t.point) r i q → HasValue t r (v +δ scaled (step.bound -δ w) q)
 
--- Where a basic form breaks a bound and no nonbasic form can help, its row refutes the bounds: no values that fit the forms meet them, and
--- so none of an assignment.
+-- A climb step leads from basis to basis, and the form that blocked it stands at its bound.
+pub record ClimbStepsKeepBasis : Type 0 where
+  pub basis : (s t : Position) (goal : ℕ) (up : Side) (i j : ℕ) → HasBasis s → IsClimbStep s t goal up i j → HasBasis t
+  pub stands : (s t : Position) (goal : ℕ) (up : Side) (i j : ℕ) → HasBasis s → (step : IsClimbStep s t goal up i j) → HasValue t i step.blocks.bound
+
+-- Where a basic form breaks a bound and no nonbasic form can help, the row by which it breaks it refutes the bounds: no values that fit the
+-- forms meet them, and so none of an assignment.
 pub record NoHelpRefutes : Type 0 where
-  pub found : (s : Position) (side : Side) (bound : Infinitesimal) (i : ℕ) → HasBasis s → Breaks s side bound i → ((j : ℕ) → CanHelp s i (other_side side) j → ⊥)
-      → (row : Coefficients) × (bounds : ℕ → Infinitesimal) × IsRefutation s i side bound row bounds
+  pub found : (s : Position) (side : Side) (bound : Infinitesimal) (i : ℕ) (breaks : Breaks s side bound i) → ((j : ℕ) → CanHelp s i (other_side side) j → ⊥)
+      → (bounds : ℕ → Infinitesimal) × IsRefutation s i side bound breaks.has.row bounds
   pub refutes : (s : Position) (i : ℕ) (side : Side) (bound : Infinitesimal) (row : Coefficients) (bounds : ℕ → Infinitesimal) → IsRefutation s i side bound row bounds
       → (y : ℕ → Infinitesimal) → y i =δ sum_at (length s.forms) row y → MeetsBounds s y → ⊥
   pub assignments : (s : Position) (i : ℕ) (side : Side) (bound : Infinitesimal) (row : Coefficients) (bounds : ℕ → Infinitesimal) → IsRefutation s i side bound row bounds

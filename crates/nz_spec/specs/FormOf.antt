@@ -1,14 +1,16 @@
 -- The form of a normal linear term, and the operations that it takes: those of the arguments, from the left, and then its own.
 -- Sources: SMT-LIB 2.6, theory Reals_Ints (+, -, *, / and to_real); which terms are units, and the order of the operations, is
 -- this solver's own.
-use Rattle.std.specs.Prelude.{◌≡◌, ℕ, suc, ◌<◌, Bool, true, false, IsTrue, List, [], ◌∷◌, length, fold, Option, Some, None, pos, if◌then◌else◌}
+use Rattle.std.specs.Prelude.{◌≡◌, Contains, ℕ, suc, ◌<◌, Bool, true, false, IsTrue, List, [], ◌∷◌, length, fold, Option, Some, None, pos, if◌then◌else◌}
+use Rattle.std.specs.List.{AllByRecursion}
 use Rattle.nz_fractions.specs.Fraction.{Fraction, whole, ◌=ℚ◌, Sum, Difference, Product, Quotient, Operation, first_wide}
 use Rattle.nz_spec.specs.Computation.{Computation, operated, at_once, turned_into, and_then}
 use Rattle.nz_spec.specs.Term.{Head, sum, difference, product, quotient, to_real, Term, apply, Terms, no_terms, terms, Assignment}
 use Rattle.nz_spec.specs.Linear.{head_constant, constant_values, is_linear}
 use Rattle.nz_spec.specs.Same.{are_same_term}
+use Rattle.nz_spec.specs.Order.{post_order}
 use Rattle.nz_spec.specs.Table.{Node, IsTable, with_term, term_in}
-use Rattle.nz_spec.specs.Form.{Numbering, Form, constant_form, unit_form, negated_form, all_joined, scaled, unit_value, form_value, IsSum}
+use Rattle.nz_spec.specs.Form.{Numbering, Part, Form, constant_form, unit_form, negated_form, all_joined, scaled, unit_value, form_value, IsSum}
 
 -- Arithmetic opens these terms where they aren't constant. Any other term of sort Int or Real is a unit.
 abbrev pub is_opened : Head → Bool
@@ -108,3 +110,7 @@ FormsAreSums = (number : Numbering) (t : Term) → IsSum number (form_of number 
 -- The number of a term in a table is the one by which it is found there.
 abbrev pub TermHasItsNumber : Type 0
 TermHasItsNumber = (ns : List Node) → IsTable ns → (i : ℕ) → i < length ns → number_in ns (term_in ns i) ≡ i
+
+-- The units of a term's form are among what the term is made of.
+abbrev pub UnitsAreParts : Type 0
+UnitsAreParts = (number : Numbering) (t : Term) → AllByRecursion (λ (p : Part). Contains (post_order t) p.unit) (form_of number t).result.parts

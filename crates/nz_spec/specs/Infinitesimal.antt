@@ -1,8 +1,10 @@
 -- Infinitesimal numbers c + k*δ, where δ is above 0 and below each fraction above 0, and a fraction that can stand for δ.
 -- Source: Dutertre and de Moura, A Fast Linear-Arithmetic Solver for DPLL(T), CAV 2006, section 5 (strict bounds).
-use Rattle.std.specs.Prelude.{Bool, ◌⊎◌, List, [], ◌∷◌, ◌++◌, if◌then◌else◌, pos, All, Contains}
-use Rattle.std.specs.Ordering.{ordering_then}
+use Rattle.std.specs.Prelude.{◌≡◌, Bool, false, ◌⊎◌, List, [], ◌∷◌, ◌++◌, if◌then◌else◌, pos, All, Contains}
+use Rattle.std.specs.Cmp.{IsTotalOrder}
+use Rattle.std.specs.Ordering.{is_gt, ordering_then}
 use Rattle.std.specs.declared.cmp.Ordering.{Ordering}
+use Rattle.std.specs.declared.cmp.Ordering.TheVariants.{Less}
 use Rattle.nz_fractions.specs.Fraction.{Fraction, whole, ◌=ℚ◌, ◌≤ℚ◌, ◌<ℚ◌, fraction_lt, fraction_cmp, fraction_min, ◌+ℚ◌, ◌-ℚ◌, ◌*ℚ◌, Difference, Quotient, outcome, Operation}
 
 -- standard + coefficient * δ
@@ -98,3 +100,14 @@ AreOrdered pairs = All (λ pair. pair.0 ≤δ pair.1) pairs
 -- they stay in order where e stands for δ
 abbrev pub AreOrderedAt : List Pair → Fraction → Type 0
 AreOrderedAt pairs e = All (λ pair. at pair.0 e ≤ℚ at pair.1 e) pairs
+
+-- ---- Laws
+
+-- Infinitesimals are in order: of two, one is at most the other, nothing is less than itself, and what is less goes along with what is at most.
+pub record InfinitesimalsAreOrdered : Type 0 where
+  pub total : IsTotalOrder infinitesimal_cmp
+  pub at_most : (x y : Infinitesimal) → (infinitesimal_cmp y x ≡ Less → ⊥) → is_gt (infinitesimal_cmp x y) ≡ false
+  pub never_less : (x : Infinitesimal) → infinitesimal_cmp x x ≡ Less → ⊥
+  pub at_most_less : (x y z : Infinitesimal) → is_gt (infinitesimal_cmp x y) ≡ false → infinitesimal_cmp y z ≡ Less → infinitesimal_cmp x z ≡ Less
+  pub less_at_most : (x y z : Infinitesimal) → infinitesimal_cmp x y ≡ Less → is_gt (infinitesimal_cmp y z) ≡ false → infinitesimal_cmp x z ≡ Less
+  pub by_parts : (x y : Infinitesimal) → is_gt (infinitesimal_cmp x y) ≡ false → x ≤δ y

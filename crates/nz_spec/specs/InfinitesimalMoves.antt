@@ -2,7 +2,7 @@
 use Rattle.std.specs.Prelude.{◌≡◌, true}
 use Rattle.std.specs.declared.cmp.Ordering.TheVariants.{Less}
 use Rattle.nz_fractions.specs.Fraction.{Fraction}
-use Rattle.nz_spec.specs.Infinitesimal.{Infinitesimal, ◌=δ◌, ◌+δ◌, ◌-δ◌, scaled, infinitesimal_cmp}
+use Rattle.nz_spec.specs.Infinitesimal.{Infinitesimal, ◌=δ◌, ◌+δ◌, scaled, infinitesimal_cmp}
 use Rattle.nz_spec.specs.Term.{is_zero}
 
 -- ---- Laws

@@ -2,9 +2,9 @@
 -- shows while it stands, and the options.
 use Rattle.std.specs.Prelude.{ℕ, suc, ◌-◌, Bool, true, false, List, [], ◌∷◌, ◌++◌, map, flat_map, length, Option, None, if◌then◌else◌}
 use Rattle.std.specs.List.{list_any}
-use Rattle.nz_fractions.specs.Fraction.{Fraction}
+use Rattle.nz_fractions.specs.Fraction.{Fraction, Operation}
 use Rattle.nz_spec.specs.Tree.{Tree}
-use Rattle.nz_spec.specs.Term.{int_sort, Constant, constant, integer, choice, holds_number, Term, apply, no_terms, terms}
+use Rattle.nz_spec.specs.Term.{int_sort, Constant, constant, integer, choice, holds_integer, Term, apply, no_terms, terms}
 use Rattle.nz_spec.specs.Normal.{normal_of}
 use Rattle.nz_spec.specs.Elaboration.{Definition}
 use Rattle.nz_spec.specs.Model.{Binding}
@@ -51,9 +51,10 @@ item_terms (wished w) = normal_of (cost_of w) ∷ []
 
 -- ---- The state
 
--- why a check wasn't decided: each of so many units of work was used
+-- why a check wasn't decided: each of so many units of work was used, or an operation left the numbers
 pub data Reason : Type 0 where
   units_spent : ℕ → Reason
+  number_left : Operation → Reason
 
 -- what the last answer was
 pub data LastAnswer : Type 0 where
@@ -154,6 +155,6 @@ grown s i = record s { levels = with_item s.levels (record { number = s.next; it
 abbrev pub pushed_levels : State → ℕ
 pushed_levels s = length s.levels - 1
 
--- a term of an item is of sort Int or Real, or is made of one that is
-abbrev pub items_hold_numbers : List Item → Bool
-items_hold_numbers items = list_any holds_number (flat_map item_terms items)
+-- a term of an item is, or is made of, one of sort Int that arithmetic takes as it is
+abbrev pub items_hold_integers : List Item → Bool
+items_hold_integers items = list_any holds_integer (flat_map item_terms items)

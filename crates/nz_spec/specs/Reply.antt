@@ -7,10 +7,11 @@ use Rattle.nz_spec.specs.Term.{Sort, bool_sort, int_sort, real_sort, Term, sort_
 use Rattle.nz_spec.specs.Normal.{normal_of}
 use Rattle.nz_spec.specs.Operations.{operations_of}
 use Rattle.nz_spec.specs.Model.{Binding}
-use Rattle.nz_spec.specs.Live.{Reason, units_spent}
+use Rattle.nz_spec.specs.Live.{Reason, units_spent, number_left}
 use Rattle.nz_spec.specs.Command.{Info, name_info, version_info, authors_info, error_behavior_info}
 use Rattle.nz_spec.specs.Error.{Error, error_line}
 use Rattle.nz_spec.specs.Work.{WorkList}
+use Rattle.nz_spec.specs.Notes.{Note, Place}
 
 -- what is told of the value of a term: the value, or the first operation that left the numbers
 pub data Shown : Type 0 where
@@ -36,14 +37,12 @@ pub data Reply : Type 0 where
   unsupported : Reply
   error : Error → Reply
 
--- a line of a work list that is no unit: the next atom is this Boolean term
-pub data Note : Type 0 where
-  atom_note : Term → Note
-
--- Why a reply is what it is, where the reply alone doesn't tell: the work of a check that ended for want of units.
+-- Why a reply is what it is, where the reply alone doesn't tell: the work of a check that ended for want of units, or where an operation left the
+-- numbers.
 pub data Cause : Type 0 where
   plain : Cause
   spent : WorkList Note → Cause
+  stopped : Place → WorkList Note → Cause
 
 -- ---- Texts
 
@@ -147,6 +146,7 @@ shown_pair_text p = list_text (tree_text p.0 ∷ shown_text p.1 ∷ [])
 -- why a check wasn't decided
 abbrev pub reason_text : Reason → List ℕ
 reason_text (units_spent n) = codes "(spent " ++ decimal n ++ codes ")"
+reason_text (number_left w) = wide_text w
 
 abbrev pub info_text : Info → List ℕ
 info_text name_info = codes "(:name \"nuz\")"

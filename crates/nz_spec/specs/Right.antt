@@ -5,13 +5,14 @@ use Rattle.nz_spec.specs.Term.{Term, Assignment}
 use Rattle.nz_spec.specs.Text.{What, intact, faulty, unclosed, unread}
 use Rattle.nz_spec.specs.Error.{nothing_to_show, incomplete, out_of_memory}
 use Rattle.nz_spec.specs.Model.{assignment_of, AreModel, IsUnsatisfiable}
-use Rattle.nz_spec.specs.Live.{units_spent, declared, defined, asserted, LastAnswer, model_found, refutation, undecided, Options, State, start, constants_of, assertions_of, grown, pushed_levels}
+use Rattle.nz_spec.specs.Live.{units_spent, number_left, declared, defined, asserted, LastAnswer, model_found, refutation, undecided, Options, State, start, constants_of, assertions_of, grown, pushed_levels}
 use Rattle.nz_spec.specs.Command.{Asked, Command, declare_const, define, assert_term, check_sat, get_model, get_value, get_info, get_levels, get_reason, set_print_success, echo, exit, Outcome, accepted, refused, not_taken}
 use Rattle.nz_spec.specs.Script.{outcome_of}
 use Rattle.nz_spec.specs.TermList.{terms_added}
 use Rattle.nz_spec.specs.Gates.{holds}
 use Rattle.nz_spec.specs.Legal.{Task, IsSpentLegally}
-use Rattle.nz_spec.specs.Reply.{Shown, term_shown, Reply, quiet, success, sat, unsat, unknown, model, values, info, levels, reason, echoed, unsupported, error, Cause, plain, spent}
+use Rattle.nz_spec.specs.Places.{IsStoppedLegally}
+use Rattle.nz_spec.specs.Reply.{Shown, term_shown, Reply, quiet, success, sat, unsat, unknown, model, values, info, levels, reason, echoed, unsupported, error, Cause, plain, spent, stopped}
 
 -- What a reply is judged by: the most units of work that a check may use, the states before, the newest first, and the state
 -- that the command meets.
@@ -36,6 +37,9 @@ IsRightCheck c assumed unsat cause = IsUnsatisfiable (assertions_of c.state) ass
 IsRightCheck c assumed (unknown r) plain = ⊥
 IsRightCheck c assumed (unknown r) (spent list) =
     (r ≡ units_spent c.limit) × (list.limit ≡ c.limit) × IsSpentLegally (task_of c.state assumed) list
+-- An operation left the numbers, at its place.
+IsRightCheck c assumed (unknown r) (stopped place list) =
+    (r ≡ number_left place.operation) × (list.limit ≡ c.limit) × IsStoppedLegally (task_of c.state assumed) list place
 IsRightCheck c assumed reply cause = ⊥
 
 -- what the last answer shows, where it has something to show

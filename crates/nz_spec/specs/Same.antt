@@ -87,3 +87,8 @@ abbrev mutual
 -- The test says which heads are one.
 abbrev pub TellsHeads : Type 0
 TellsHeads = (g h : Head) → IsTrue (are_same_head g h) → g ≡ h
+
+-- The test says which terms are one.
+pub record TellsTerms : Type 0 where
+  pub same : (t u : Term) → IsTrue (are_same_term t u) → t ≡ u
+  pub one : (t : Term) → IsTrue (are_same_term t t)

@@ -11,7 +11,7 @@ use Rattle.nz_spec.specs.Expression.{Expression, Expressions, no_expressions, ex
 use Rattle.nz_spec.specs.Request.{WrittenSort, named_sort, listed_sort, Parameter, Question, lex_priority, Setting, success_setting, models_setting, priority_setting, InfoKey, name_key, version_key, authors_key, behavior_key, levels_key, reason_key, other_key, Request, declares, defines, asserts, checks, shows_model, shows_values, shows_info, sets_option, sets_nothing, echoes, exits}
 use Rattle.nz_spec.specs.Parse.{request_of}
 use Rattle.nz_spec.specs.Elaboration.{is_declared, sort_named, has_sort, placed, Scope, term_of, terms_of}
-use Rattle.nz_spec.specs.Live.{State, items_of, items_hold_numbers, constants_of, definitions_of}
+use Rattle.nz_spec.specs.Live.{State, items_of, items_hold_integers, constants_of, definitions_of}
 use Rattle.nz_spec.specs.Command.{name_info, version_info, authors_info, error_behavior_info, Asked, Command, declare_const, define, assert_term, check_sat, get_model, get_value, get_info, get_levels, get_reason, set_print_success, no_effect, echo, exit, Outcome, accepted, refused, not_taken}
 use Rattle.nz_spec.specs.Error.{bad_syntax, unknown_symbol, wrong_sort, not_linear, too_wide, past_limit, already_declared}
 use Rattle.nz_spec.specs.Limits.{passes_limit}
@@ -138,12 +138,12 @@ option_set (models_setting b) = accepted no_effect
 option_set (priority_setting lex_priority) = accepted no_effect
 option_set s = not_taken
 
--- What becomes of a command that is within the limits. The program takes no other commands yet, and checks over Bool alone.
+-- What becomes of a command that is within the limits. The program takes no other commands yet, and no checks over Int.
 abbrev pub outcome_by : State → Request → Outcome
 outcome_by s (declares name arguments sort) = declaration_of s name arguments sort
 outcome_by s (defines name parameters sort body) = definition_of s name parameters sort body
 outcome_by s (asserts e) = assertion_of s e
-outcome_by s checks = if items_hold_numbers (items_of s.levels) then not_taken else accepted (check_sat [])
+outcome_by s checks = if items_hold_integers (items_of s.levels) then not_taken else accepted (check_sat [])
 outcome_by s shows_model = accepted get_model
 outcome_by s (shows_values qs) = values_asked s qs
 outcome_by s (shows_info k) = info_asked k

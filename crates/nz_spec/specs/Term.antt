@@ -107,6 +107,10 @@ abbrev pub is_bool : Sort → Bool
 is_bool bool_sort = true
 is_bool s = false
 
+abbrev pub is_int_sort : Sort → Bool
+is_int_sort int_sort = true
+is_int_sort s = false
+
 -- a term of this head is of sort Int or Real, or asks something of one that is
 abbrev pub is_numeric : Head → Bool
 is_numeric is_int = true
@@ -120,6 +124,25 @@ abbrev mutual
   pub hold_number : Terms → Bool
   hold_number no_terms = false
   hold_number (terms t ts) = holds_number t || hold_number ts
+
+-- a term of this head is of sort Int and one that arithmetic takes as it is, or asks something of such a term
+abbrev pub is_integral : Head → Bool
+is_integral (constant c) = is_int_sort c.sort
+is_integral (choice s) = is_int_sort s
+is_integral integer_quotient = true
+is_integral modulus = true
+is_integral magnitude = true
+is_integral to_int = true
+is_integral is_int = true
+is_integral h = false
+
+abbrev mutual
+  pub holds_integer : Term → Bool
+  holds_integer (apply h ts) = is_integral h || hold_integer ts
+
+  pub hold_integer : Terms → Bool
+  hold_integer no_terms = false
+  hold_integer (terms t ts) = holds_integer t || hold_integer ts
 
 -- ---- Values
 

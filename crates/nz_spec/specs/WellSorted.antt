@@ -1,9 +1,9 @@
 -- Well sorted terms (SMT-LIB 2.6, section 3.6): each operator has as many arguments as it takes, of the sorts that it takes.
 use Rattle.std.specs.Prelude.{◌≡◌, ◌&&◌, not, Bool, true, false, IsTrue, List, [], Some, slice_get, ⊤}
-use Rattle.nz_spec.specs.Term.{Sort, bool_sort, int_sort, real_sort, is_bool, Head, constant, parameter, integer, decimal_number, Term, apply, Terms, no_terms, terms, sort_of, holds_number}
+use Rattle.nz_spec.specs.Term.{Sort, bool_sort, int_sort, real_sort, is_bool, Head, constant, parameter, integer, decimal_number, negation, conjunction, disjunction, exclusion, equality, choice, less, at_most, sum, difference, product, quotient, to_real, Term, apply, Terms, no_terms, terms, sort_of, holds_number}
 use Rattle.nz_spec.specs.Normal.{normal_of}
 use Rattle.nz_spec.specs.Elaboration.{has_sort, all_terms, term_count, Operator, takes, Operands, bools, ints, reals, numbers, alike, branches, operands_of, operator_head, Definition}
-use Rattle.nz_spec.specs.Gates.{IsGated}
+use Rattle.nz_spec.specs.Gates.{is_boolean_term, IsGated}
 use Rattle.nz_spec.specs.Linear.{is_linear}
 use Rattle.nz_spec.specs.Form.{Numbering}
 use Rattle.nz_spec.specs.FormOf.{form_of}
@@ -40,6 +40,28 @@ IsSortedHead ss (integer n) ts = ts ≡ no_terms
 IsSortedHead ss (decimal_number n places) ts = ts ≡ no_terms
 IsSortedHead ss h ts = IsApplied h ts
 
+-- each is of sort Bool, or none is
+abbrev pub AllAre : Bool → Terms → Type 0
+AllAre b no_terms = ⊤
+AllAre b (terms t ts) = (is_boolean_term t ≡ b) × AllAre b ts
+
+-- The arguments are of sort Bool where the head takes such, and of no such sort where it takes numbers.
+abbrev pub HaveOperands : Head → Terms → Type 0
+HaveOperands negation ts = AllAre true ts
+HaveOperands conjunction ts = AllAre true ts
+HaveOperands disjunction ts = AllAre true ts
+HaveOperands exclusion ts = AllAre true ts
+HaveOperands equality ts = (b : Bool) × AllAre b ts
+HaveOperands (choice s) (terms c ts) = (is_boolean_term c ≡ true) × AllAre (is_bool s) ts
+HaveOperands less ts = AllAre false ts
+HaveOperands at_most ts = AllAre false ts
+HaveOperands (sum s) ts = AllAre false ts
+HaveOperands (difference s) ts = AllAre false ts
+HaveOperands (product s) ts = AllAre false ts
+HaveOperands quotient ts = AllAre false ts
+HaveOperands to_real ts = AllAre false ts
+HaveOperands h ts = ⊤
+
 -- The term is well sorted under parameters of these sorts.
 abbrev mutual
   pub IsWellSorted : List Sort → Term → Type 0
@@ -72,3 +94,7 @@ NormalStaysSorted = (ss : List Sort) (t : Term) → IsWellSorted ss t → IsWell
 pub record SortedTermsAreArithmetic : Type 0 where
   pub tables : (t : Term) → IsWellSorted [] t → IsTrue (is_linear t) → IsArithmetic t
   pub units : (number : Numbering) (t : Term) → IsWellSorted [] t → HaveSortedUnits (form_of number t).result.parts
+
+-- The arguments of a well sorted term without parameters are as its head takes them.
+abbrev pub OperandsAreSorted : Type 0
+OperandsAreSorted = (h : Head) (ts : Terms) → IsSortedHead [] h ts → HaveOperands h ts

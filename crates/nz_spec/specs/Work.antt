@@ -1,12 +1,14 @@
 -- The work list of one check: what the search did, step by step, and how many of its steps count.
 use Rattle.std.specs.Prelude.{◌≡◌, ℕ, Bool, true, false, List, [], ◌∷◌, ◌++◌, count_by}
 
--- A step that counts as one unit of work. Atoms are named by their numbers.
+-- A step that counts as one unit of work. Atoms and forms are named by their numbers.
 pub data WorkEntry : Type 0 where
   -- an undecided atom is decided with this sign
   DecisionEntry : (atom : ℕ) (sign : Bool) → WorkEntry
   -- a new clause is learned, and so many of the decisions are kept
   LearnedEntry : (keep : ℕ) (lits : List (ℕ × Bool)) → WorkEntry
+  -- a basic form leaves the basis, and a nonbasic one enters it
+  PivotEntry : (leaves enters : ℕ) → WorkEntry
 
 -- A line of the list: a step that counts, or a note that doesn't.
 pub data WorkLine (T : Type 0) : Type 0 where

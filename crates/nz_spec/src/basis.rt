@@ -1,7 +1,7 @@
 //! Laws of bases of linear forms.
 ghost use Rattle.nz_spec.specs.Basis.{CoefficientsAreUnique, NonbasicFormIsItself, ValueIsWorth, WorthIsByUnits};
-ghost use Rattle.nz_spec.specs.BasisMoves.{ExchangeKeepsBasis, JoinsKeepBasis, SolutionsAreWorth, SolutionsStay, ZerosAreNeverWide};
-ghost use Rattle.nz_spec.specs.Bland.{BoundsSayWhatTheyMean, CheckStepsKeepBasis, NoHelpRefutes, PositionsHaveValues, RowsTell, SumMoves, ValueIsComputed};
+ghost use Rattle.nz_spec.specs.BasisMoves.{ExchangeKeepsBasis, JoinsKeepBasis, SolutionsAreWorth, SolutionsStay};
+ghost use Rattle.nz_spec.specs.Bland.{BoundsSayWhatTheyMean, CheckStepsKeepBasis, ClimbStepsKeepBasis, NoHelpRefutes, PositionsHaveValues, RowsTell, SumMoves, ValueIsComputed};
 ghost use Rattle.nz_spec.specs.BlandRuns.{NoPostureReturns, RunsAreShort};
 ghost use Rattle.nz_spec.specs.PositionMoves.{MovesKeepReady};
 ghost use Rattle.nz_spec.specs.WorkedBasis.{HasExchange, HasJoiningRow};
@@ -56,6 +56,11 @@ pub fn check_steps_keep_basis()
     ensures kept { CheckStepsKeepBasis }
 {}
 
+/// A climb step leads from basis to basis.
+pub fn climb_steps_keep_basis()
+    ensures kept { ClimbStepsKeepBasis }
+{}
+
 /// Where a form breaks a bound and no nonbasic form can help, its row refutes the bounds.
 pub fn no_help_refutes()
     ensures refutes { NoHelpRefutes }
@@ -95,11 +100,6 @@ pub fn rows_tell()
 pub fn worked_basis()
     ensures joining { HasJoiningRow }
     ensures exchange { HasExchange }
-{}
-
-/// Beside 0 no operation leaves the numbers.
-pub fn zeros_are_never_wide()
-    ensures zeros { ZerosAreNeverWide }
 {}
 
 /// In a run of check steps no posture returns.

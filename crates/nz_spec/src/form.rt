@@ -1,5 +1,5 @@
 //! Laws of linear forms.
-ghost use Rattle.nz_spec.specs.FormOf.{FormHasValue, FormsAreSums, TermHasItsNumber};
+ghost use Rattle.nz_spec.specs.FormOf.{FormHasValue, FormsAreSums, TermHasItsNumber, UnitsAreParts};
 ghost use Rattle.nz_spec.specs.FormPlace.{JoinsAtItsPlace};
 
 /// The form of a linear term has the value of the term.
@@ -10,6 +10,11 @@ pub fn form_has_value()
 /// In the form of a term each unit stands once, in order, with a coefficient other than 0.
 pub fn forms_are_sums()
     ensures sums { FormsAreSums }
+{}
+
+/// The units of a term's form are among what the term is made of.
+pub fn units_are_parts()
+    ensures parts { UnitsAreParts }
 {}
 
 /// The number of a term in a table is the one by which it is found there.

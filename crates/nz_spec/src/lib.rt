@@ -7,6 +7,7 @@ pub mod arithmetic;
 pub mod basis;
 pub mod climb;
 pub mod computation;
+pub mod deciding;
 pub mod derivation;
 pub mod elaboration;
 pub mod example;

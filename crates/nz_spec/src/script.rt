@@ -1,6 +1,6 @@
 //! Laws of commands.
 ghost use Rattle.nz_spec.specs.Argument.{ArgumentTells};
-ghost use Rattle.nz_spec.specs.TermList.{NumbersAreListed};
+ghost use Rattle.nz_spec.specs.TermList.{IntegersAreListed};
 ghost use Rattle.nz_spec.specs.WorkedScript.{HasAdditions, HasAsking, HasEffects, HasRefusals};
 
 /// What becomes of commands, and what they leave, by the definitions alone.
@@ -11,9 +11,9 @@ pub fn worked_script()
     ensures effects { HasEffects }
 {}
 
-/// The live items hold a number exactly where their term list has one.
-pub fn numbers_are_listed()
-    ensures listed { NumbersAreListed }
+/// The live items hold a unit of sort Int exactly where their term list has one.
+pub fn integers_are_listed()
+    ensures listed { IntegersAreListed }
 {}
 
 /// What a reply shows of its command stands in the command's argument.

@@ -1,10 +1,10 @@
 //! Laws of terms.
 ghost use Rattle.nz_spec.specs.Term.{DecimalsAreNumbers, Divides, DividesOnce};
-ghost use Rattle.nz_spec.specs.Same.{TellsHeads};
+ghost use Rattle.nz_spec.specs.Same.{TellsHeads, TellsTerms};
 ghost use Rattle.nz_spec.specs.Numerals.{NumeralsAreWhole};
 ghost use Rattle.nz_spec.specs.Normal.{NormalKeepsValue};
 ghost use Rattle.nz_spec.specs.Elaboration.{InstanceKeepsNormal};
-ghost use Rattle.nz_spec.specs.WellSorted.{NormalStaysSorted, NormalTermsAreGated};
+ghost use Rattle.nz_spec.specs.WellSorted.{NormalStaysSorted, NormalTermsAreGated, OperandsAreSorted};
 ghost use Rattle.nz_spec.specs.TruthTables.{HasNormalTerms, HasPairs, HasTriples};
 ghost use Rattle.nz_spec.specs.WorkedLinear.{HasConstants, HasLinearTerms};
 ghost use Rattle.nz_spec.specs.WorkedListings.{HasListings};
@@ -31,6 +31,11 @@ pub fn normal_stays_sorted()
     ensures stays { NormalStaysSorted }
 {}
 
+/// The arguments of a well sorted term are of sort Bool where its head takes such, and of no such sort where it takes numbers.
+pub fn operands_are_sorted()
+    ensures sorted { OperandsAreSorted }
+{}
+
 /// `div` and `mod` compute the quotient and the remainder of integers, and no other two numbers are so.
 pub fn divides()
     ensures divides { Divides }
@@ -40,6 +45,11 @@ pub fn divides()
 /// Two heads are one where the test says so.
 pub fn tells_heads()
     ensures tells { TellsHeads }
+{}
+
+/// Two terms are one where the test says so.
+pub fn tells_terms()
+    ensures tells { TellsTerms }
 {}
 
 /// A decimal that fits is a number.

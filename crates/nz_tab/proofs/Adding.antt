@@ -3,6 +3,7 @@ use Rattle.std.proofs.Common.{◌≡◌, ℕ, zero, suc, ◌+◌, ◌<◌, ◌�
 use Rattle.std.specs.Prelude.{if◌then◌else◌, ◌==◌, ◌≢◌}
 use Rattle.std.proofs.lemmas.Grind.{flat_map-append}
 use Rattle.std.proofs.lemmas.List.{append-nil, append_assoc, drop_all, drop_more, get_or-map, get_or_at, length-map, length-take-le, map_push, set-append_left, set_at, take-append-drop, take_all, take_more}
+use Rattle.nz_lists.proofs.Numbers.{equal-number, other-number, same_or_below}
 use Rattle.nz_fractions.specs.Fraction.{Fraction, Operation, Product, Sum, first_wide, outcome, whole}
 use Rattle.nz_spec.specs.Computation.{Computation, and_then, operated, turned_into}
 use Rattle.nz_spec.specs.Basis.{Coefficients}
@@ -11,7 +12,7 @@ use Rattle.nz_tab.specs.Comes.{IsDone}
 use Rattle.nz_tab.specs.Each.{with_multiple}
 use Rattle.nz_tab.specs.Sums.{all_added, one_added}
 use Rattle.nz_tab.proofs.Firsts.{first_wide-none, first_wide-some, no_operation}
-use Rattle.nz_tab.proofs.Numbers.{equal-number, number_at, one_passes, other-number, place_within, same_or_below}
+use Rattle.nz_tab.proofs.Numbers.{number_at, one_passes, place_within}
 
 -- ---- One form after another
 

@@ -5,11 +5,12 @@ use Rattle.std.proofs.lemmas.Grind.{flat_map-append}
 use Rattle.std.proofs.Math.Seq.{take-append_seam, drop-append-add}
 use Rattle.std.proofs.lemmas.List.{append-nil, get_or-map, get_or_past, length-map, length-append, get_or-set_same, get_or-set_other, length-set, length_push, map_push}
 use Rattle.std.proofs.lemmas.Nat.{mul-le}
+use Rattle.nz_lists.proofs.Numbers.{below_or_past, equal-number, same-number}
 use Rattle.nz_fractions.specs.Fraction.{Fraction, whole}
 use Rattle.nz_spec.specs.Basis.{Coefficients}
 use Rattle.nz_spec.specs.BasisMoves.{numbers, exchanged}
 use Rattle.nz_tab.specs.Rows.{ArePlaces, DenseRow, IsGrid, basic, coefficient, counted, is_marked, place_of, row_in, row_of, rows_of}
-use Rattle.nz_tab.proofs.Numbers.{below_or_past, count_both, one_fails, one_passes, equal-number, same-number, number_at, place_within, count_counted, counted_at}
+use Rattle.nz_tab.proofs.Numbers.{count_both, one_fails, one_passes, number_at, place_within, count_counted, counted_at}
 
 -- ---- Rows in a block
 

@@ -3,6 +3,7 @@ use Rattle.std.proofs.Common.{◌≡◌, ℕ, ◌*◌, ◌<◌, Bool, true, fals
 use Rattle.std.specs.Prelude.{◌==◌, ◌&&◌, if◌then◌else◌, not, set, ◌≢◌}
 use Rattle.std.proofs.Math.Path.{fun_ext}
 use Rattle.std.proofs.lemmas.List.{length-set}
+use Rattle.nz_lists.proofs.Numbers.{equal-number, other-number}
 use Rattle.nz_fractions.specs.Fraction.{Fraction, Operation, first_wide}
 use Rattle.nz_spec.specs.BasisMoves.{Rows, exchange, exchanged, numbers, replaced, solved}
 use Rattle.nz_tab.specs.Comes.{IsDone}
@@ -12,7 +13,7 @@ use Rattle.nz_tab.specs.Rows.{basic, counted, is_marked, size_of}
 use Rattle.nz_tab.proofs.Blocks.{marked_within, marks_exchanged}
 use Rattle.nz_tab.proofs.Exchanging.{entering, rows_operations, rows_same, solved_operations, solved_same}
 use Rattle.nz_tab.proofs.Firsts.{first_wide-none, first_wide-some}
-use Rattle.nz_tab.proofs.Numbers.{equal-number, other-number, count_both, count_more}
+use Rattle.nz_tab.proofs.Numbers.{count_both, count_more}
 
 -- ---- Sizes
 

@@ -4,6 +4,7 @@ use Rattle.std.specs.Prelude.{◌==◌, not, ◌&&◌, if◌then◌else◌, ◌�
 use Rattle.std.specs.List.{AllByRecursion}
 use Rattle.std.proofs.lemmas.List.Concat.{flat_map_single}
 use Rattle.nz_lists.proofs.Elements.{AllByRecursion-weaker}
+use Rattle.nz_lists.proofs.Numbers.{equal-number, other-number, same-number}
 use Rattle.nz_fractions.specs.Fraction.{Fraction, whole, neg_ℚ, outcome, Sum, Product, Quotient, Operation}
 use Rattle.nz_spec.specs.Computation.{operated, at_once, turned_into}
 use Rattle.nz_spec.specs.Term.{is_zero}
@@ -12,7 +13,7 @@ use Rattle.nz_spec.specs.BasisMoves.{numbers, Rows, plus_multiple, exchanged, so
 use Rattle.nz_tab.specs.Each.{alone, each, with_multiple}
 use Rattle.nz_tab.specs.Exchanges.{solved_part, solved_row, sum_row, replaced_row, row_after}
 use Rattle.nz_tab.specs.Rows.{basic, counted}
-use Rattle.nz_tab.proofs.Numbers.{equal-number, other-number, same-number, all_pass, flat_numbers, flat-same, flat_all, where_passes}
+use Rattle.nz_tab.proofs.Numbers.{all_pass, flat_numbers, flat-same, flat_all, where_passes}
 
 -- ---- Tests of numbers
 

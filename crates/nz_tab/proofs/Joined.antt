@@ -4,6 +4,7 @@ use Rattle.std.specs.Prelude.{if◌then◌else◌, nat_lt}
 use Rattle.std.specs.List.{AllByRecursion}
 use Rattle.std.proofs.Math.Path.{fun_ext}
 use Rattle.std.proofs.lemmas.List.{get_or_past, length-map, length_push}
+use Rattle.nz_lists.proofs.Numbers.{below_or_past, below_same_or_past, equal-number, other-number, below, not_below}
 use Rattle.nz_spec.specs.FormOf.{TermHasItsNumber, number_in}
 use Rattle.nz_spec.specs.Table.{Node, term_in}
 use Rattle.nz_spec.specs.Basis.{IsBasis, IsRow}
@@ -14,8 +15,7 @@ use Rattle.nz_tab.specs.Rows.{Grid, is_nonbasic, rows_of}
 use Rattle.nz_tab.specs.Sums.{IsWidened}
 use Rattle.nz_tab.specs.Tables.{HasRows, IsTableau, forms_over}
 use Rattle.nz_tab.specs.Units.{unit_number, unit_of}
-use Rattle.nz_tab.proofs.Numbers.{below_or_past, below_same_or_past, equal-number, other-number}
-use Rattle.nz_tab.proofs.Uniting.{Holds, below, joined_to, not_below, unit_joins}
+use Rattle.nz_tab.proofs.Uniting.{Holds, joined_to, unit_joins}
 
 -- ---- Fronts
 

@@ -1,24 +1,14 @@
 -- Numbers below a bound that pass a test.
 use Rattle.std.proofs.Common.{◌≡◌, ℕ, zero, suc, ◌+◌, ◌<◌, ◌≤◌, Bool, true, false, ◌⊎◌, inl, inr, List, [], ◌∷◌, ◌++◌, length, flat_map, refl, sym, ap, ◌∙◌, subst, arith}
-use Rattle.std.specs.Prelude.{◌==◌, if◌then◌else◌, not, ◌≢◌, slice_index_or}
+use Rattle.std.specs.Prelude.{if◌then◌else◌, not, ◌≢◌, slice_index_or}
 use Rattle.std.proofs.Math.Seq.{get_or-append_seam}
 use Rattle.std.proofs.lemmas.Grind.{flat_map-append}
 use Rattle.std.proofs.lemmas.List.{append-nil, append_assoc, length_push, length-append}
 use Rattle.std.specs.List.{AllByRecursion}
 use Rattle.nz_lists.proofs.Elements.{AllByRecursion-append}
+use Rattle.nz_lists.proofs.Numbers.{same_or_below}
 use Rattle.nz_spec.specs.BasisMoves.{numbers}
 use Rattle.nz_tab.specs.Rows.{basic, counted}
-
--- ---- Tests of two numbers
-
-pub equal-number : (k i : ℕ) → k ≡ i → (k == i) ≡ true
-equal-number k i e = grind (arith, e)
-
-pub same-number : (k i : ℕ) → (k == i) ≡ true → k ≡ i
-same-number k i e = grind (arith, e)
-
-pub other-number : (k i : ℕ) → k ≢ i → (k == i) ≡ false
-other-number k i h = grind (arith, h)
 
 -- ---- One number more
 
@@ -27,15 +17,6 @@ one_passes f n e = ap (λ b. if b then numbers n f ++ n ∷ [] else numbers n f)
 
 pub one_fails : (f : ℕ → Bool) (n : ℕ) → f n ≡ false → numbers (suc n) f ≡ numbers n f
 one_fails f n e = ap (λ b. if b then numbers n f ++ n ∷ [] else numbers n f) e
-
-pub below_or_past : (k n : ℕ) → (k < n) ⊎ (n ≤ k)
-below_or_past k n = grind arith
-
-pub below_same_or_past : (k n : ℕ) → (k < n) ⊎ ((k ≡ n) ⊎ (n < k))
-below_same_or_past k n = grind arith
-
-pub same_or_below : (k n : ℕ) → k < suc n → (k ≡ n) ⊎ (k < n)
-same_or_below k n h = grind (arith, h)
 
 -- a number that passes, and those before it
 pub numbers_split : (f : ℕ → Bool) (k n : ℕ) → f k ≡ true → k < n → (rest : List ℕ) × (numbers n f ≡ numbers k f ++ k ∷ rest)

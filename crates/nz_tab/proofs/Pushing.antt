@@ -4,13 +4,14 @@ use Rattle.std.specs.Prelude.{if◌then◌else◌, not, slice_index_or}
 use Rattle.std.proofs.Math.Path.{fun_ext}
 use Rattle.std.proofs.Math.Seq.{drop-append_seam}
 use Rattle.std.proofs.lemmas.List.{drop-append-le, get_or-append_right, get_or-map, get_or_append_left, get_or_past, length-append, length-drop, length_push, take-append-le, take_all}
+use Rattle.nz_lists.proofs.Numbers.{below_or_past}
 use Rattle.nz_fractions.specs.Fraction.{Fraction, whole}
 use Rattle.nz_spec.specs.Basis.{Coefficients}
 use Rattle.nz_spec.specs.BasisMoves.{numbers}
 use Rattle.nz_tab.specs.Rows.{ArePlaces, Grid, IsGrid, basic, is_nonbasic, row_in, rows_of, size_of}
 use Rattle.nz_tab.specs.Sums.{IsSummed, sum_over}
 use Rattle.nz_tab.proofs.Blocks.{marked_within, row_within}
-use Rattle.nz_tab.proofs.Numbers.{below_or_past, number_at, one_fails, one_passes, place_within}
+use Rattle.nz_tab.proofs.Numbers.{number_at, one_fails, one_passes, place_within}
 
 -- ---- Rows in longer blocks
 

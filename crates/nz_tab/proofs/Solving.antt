@@ -3,6 +3,7 @@ use Rattle.std.proofs.Common.{◌≡◌, ℕ, ◌<◌, Bool, true, false, List, 
 use Rattle.std.specs.Prelude.{◌==◌, if◌then◌else◌, ◌≢◌}
 use Rattle.std.specs.List.{AllByRecursion}
 use Rattle.std.proofs.lemmas.List.{append-nil, get_or-map}
+use Rattle.nz_lists.proofs.Numbers.{equal-number, other-number}
 use Rattle.nz_fractions.specs.Fraction.{Fraction, Operation, Product, Quotient, Sum, first_wide, whole}
 use Rattle.nz_spec.specs.Computation.{Computation, and_then, at_once, operated, turned_into}
 use Rattle.nz_spec.specs.Term.{is_zero}
@@ -13,7 +14,6 @@ use Rattle.nz_tab.specs.Comes.{Comes, IsDone}
 use Rattle.nz_tab.specs.Each.{behind, with_multiple}
 use Rattle.nz_tab.specs.Exchanges.{replaced_row, row_after, solved_parts, solved_row, sum_row}
 use Rattle.nz_tab.proofs.Firsts.{first_wide-none, first_wide-some, no_operation}
-use Rattle.nz_tab.proofs.Numbers.{equal-number, other-number}
 use Rattle.nz_tab.proofs.Exchanging.{row_moves, row_stays, sums_same, sum_operations}
 
 -- ---- The row of the form that enters

@@ -4,6 +4,7 @@ use Rattle.std.specs.Prelude.{if◌then◌else◌}
 use Rattle.std.specs.List.{AllByRecursion}
 use Rattle.std.proofs.Math.Path.{fun_ext}
 use Rattle.std.proofs.lemmas.List.{length-append, length-map, length_push, map_push}
+use Rattle.nz_lists.proofs.Numbers.{below_or_past, same_or_below}
 use Rattle.nz_fractions.specs.Fraction.{first_wide, whole, ◌=ℚ◌}
 use Rattle.nz_fractions.proofs.Laws.{=ℚ-from_same, =ℚ_sym, =ℚ_trans}
 use Rattle.nz_spec.specs.Computation.{Computation, and_then}
@@ -24,7 +25,6 @@ use Rattle.nz_tab.specs.Units.{addends, new_units, with_units}
 use Rattle.nz_tab.proofs.Blocks.{no_coefficient}
 use Rattle.nz_tab.proofs.Joined.{back_all, front_all, nonbasic_then}
 use Rattle.nz_tab.proofs.Numbering.{HasNumber, all_within, are_numbered, has_its_units, number_is, number_of, units_numbered}
-use Rattle.nz_tab.proofs.Numbers.{below_or_past, same_or_below}
 use Rattle.nz_tab.proofs.SameRow.{same_row}
 use Rattle.nz_tab.proofs.Uniting.{Holds, addends_numbered, joined_to, numbered, units_join}
 

@@ -7,6 +7,7 @@ use Rattle.std.proofs.lemmas.Bool.{and_parts}
 use Rattle.std.proofs.lemmas.Bool.Decides.{Decides-int_eq, nat_tests}
 use Rattle.std.proofs.lemmas.List.{get_or-map, get_or_default, length-map}
 use Rattle.std.proofs.lemmas.List.Elements.{All-from_recursion}
+use Rattle.nz_lists.proofs.Numbers.{equal-number, same-number}
 use Rattle.nz_fractions.specs.Fraction.{Fraction, whole}
 use Rattle.nz_spec.specs.Form as spec
 use Rattle.nz_spec.specs.Form.{unit_form}
@@ -17,7 +18,6 @@ use Rattle.nz_lin.specs.declared.form.Part.{Part}
 use Rattle.nz_lin.specs.Forms.{AreUnits, part_over, parts_over}
 use Rattle.nz_tab.specs.Tables.{forms_over}
 use Rattle.nz_tab.specs.Units.{AreNumbers, is_form_of, is_one, is_unit_form, unit_number}
-use Rattle.nz_tab.proofs.Numbers.{equal-number, same-number}
 
 -- ---- One form
 

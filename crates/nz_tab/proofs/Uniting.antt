@@ -4,8 +4,8 @@ use Rattle.std.specs.Prelude.{if◌then◌else◌, ◌&&◌, nat_lt, Contains, i
 use Rattle.std.specs.List.{AllByRecursion}
 use Rattle.std.proofs.Math.Path.{fun_ext}
 use Rattle.std.proofs.lemmas.List.{append-nil, append_assoc, length-append, length-map, length_push, map_push}
-use Rattle.std.proofs.lemmas.Bool.Decides.{nat_tests}
 use Rattle.nz_lists.proofs.Elements.{AllByRecursion-append}
+use Rattle.nz_lists.proofs.Numbers.{below, not_below, below_or_past, below_same_or_past, equal-number, other-number, same_or_below}
 use Rattle.nz_fractions.specs.Fraction.{Fraction}
 use Rattle.nz_spec.specs.Form as spec
 use Rattle.nz_spec.specs.FormOf.{number_in}
@@ -16,14 +16,7 @@ use Rattle.nz_lin.specs.declared.form.Part.{Part}
 use Rattle.nz_lin.specs.Forms.{AreInOrder, AreUnits, NamesUnit, parts_over}
 use Rattle.nz_tab.specs.Tables.{forms_over}
 use Rattle.nz_tab.specs.Units.{addends, new_units, unit_number, unit_of, with_units}
-use Rattle.nz_tab.proofs.Numbers.{below_or_past, below_same_or_past, equal-number, other-number, same_or_below}
 use Rattle.nz_tab.proofs.UnitForms.{number_behind, number_stays, unit_parts, unit_unlisted}
-
-pub below : (k n : ℕ) → k < n → nat_lt k n ≡ true
-below k n h = grind (arith, nat_tests, h)
-
-pub not_below : (k n : ℕ) → n ≤ k → nat_lt k n ≡ false
-not_below k n h = grind (arith, nat_tests, h)
 
 -- a number and its coefficient before others, by whether the unit has a number
 abbrev numbered_first : ℕ → Fraction → List (ℕ × Fraction) → List (ℕ × Fraction) → Option ℕ → List (ℕ × Fraction)

@@ -3,12 +3,13 @@ use Rattle.std.proofs.Common.{◌≡◌, ℕ, zero, suc, ◌+◌, ◌-◌, ◌*�
 use Rattle.std.specs.Prelude.{if◌then◌else◌, not, slice_index_or}
 use Rattle.std.proofs.Math.Path.{fun_ext}
 use Rattle.std.proofs.lemmas.List.{get_or-append_right, get_or-replicate, get_or_append_left, get_or_past, length-append, length-replicate, length_push, take_all}
+use Rattle.nz_lists.proofs.Numbers.{below_or_past}
 use Rattle.nz_fractions.specs.Fraction.{Fraction, whole}
 use Rattle.nz_spec.specs.BasisMoves.{numbers}
 use Rattle.nz_tab.specs.Rows.{Grid, basic, coefficient, is_marked, is_nonbasic, row_in, row_of, rows_of, size_of}
 use Rattle.nz_tab.specs.Sums.{IsWidened}
 use Rattle.nz_tab.proofs.Blocks.{block_long, coefficient_found, no_coefficient}
-use Rattle.nz_tab.proofs.Numbers.{below_or_past, one_passes}
+use Rattle.nz_tab.proofs.Numbers.{one_passes}
 
 -- ---- Numbers below a bound
 

@@ -6,11 +6,11 @@ use Rattle.std.proofs.lemmas.List.{map-append, length-map, take-map, take-append
 use Rattle.std.proofs.lemmas.List.Sums.{fold-append}
 use Rattle.nz_lists.proofs.Places.{slice_index_or-map}
 use Rattle.nz_fractions.specs.Fraction.{Fraction}
-use Rattle.nz_spec.specs.Term.{Head, falsum, is_numeric, Term, apply, no_terms, holds_number, hold_number}
+use Rattle.nz_spec.specs.Term.{Head, falsum, is_integral, Term, apply, no_terms, holds_integer, hold_integer}
 use Rattle.nz_spec.specs.Linear.{constant_value, constant_values, head_constant, is_linear_node, is_linear, are_linear}
 use Rattle.nz_spec.specs.Table.{Node, terms_at, listed_term, with_term, term_in}
 use Rattle.nz_term.specs.declared.facts.Fact.{Fact}
-use Rattle.nz_term.specs.Facts.{fact_with, fact_of, fact_at, constants_at, are_linear_at, hold_number_at, IsKnown}
+use Rattle.nz_term.specs.Facts.{fact_with, fact_of, fact_at, constants_at, are_linear_at, hold_integer_at, IsKnown}
 use Rattle.nz_term.specs.Growth.{GoesOn}
 use Rattle.nz_term.proofs.Tables.{front_table}
 
@@ -30,17 +30,17 @@ linear_listed ts (i ∷ is) =
     ap (λ (f : Fact). f.is_linear && are_linear_at (map fact_of ts) is) (fact_listed ts i)
     ∙ ap (λ b. (fact_of (listed_term ts i)).is_linear && b) (linear_listed ts is)
 
-numbers_listed : (ts : List Term) (is : List ℕ) → hold_number_at (map fact_of ts) is ≡ hold_number (terms_at (listed_term ts) is)
+numbers_listed : (ts : List Term) (is : List ℕ) → hold_integer_at (map fact_of ts) is ≡ hold_integer (terms_at (listed_term ts) is)
 numbers_listed ts [] = refl
 numbers_listed ts (i ∷ is) =
-    ap (λ (f : Fact). f.holds_number || hold_number_at (map fact_of ts) is) (fact_listed ts i)
-    ∙ ap (λ b. (fact_of (listed_term ts i)).holds_number || b) (numbers_listed ts is)
+    ap (λ (f : Fact). f.holds_integer || hold_integer_at (map fact_of ts) is) (fact_listed ts i)
+    ∙ ap (λ b. (fact_of (listed_term ts i)).holds_integer || b) (numbers_listed ts is)
 
 -- what is known of a term by what is known of its arguments
 pub fact_is : (ts : List Term) (fs : List Fact) (h : Head) (is : List ℕ) (c : Option Fraction) (linear number : Bool) → fs ≡ map fact_of ts
     → c ≡ head_constant h (constants_at fs is)
     → linear ≡ (is_linear_node h (constants_at fs is) && are_linear_at fs is)
-    → number ≡ (is_numeric h || hold_number_at fs is)
+    → number ≡ (is_integral h || hold_integer_at fs is)
     → fact_with c linear number ≡ fact_of (apply h (terms_at (listed_term ts) is))
 fact_is ts fs h is c linear number known constant linearly numbered =
     let us = terms_at (listed_term ts) is in
@@ -49,8 +49,8 @@ fact_is ts fs h is c linear number known constant linearly numbered =
     let by_linear : linear ≡ (is_linear_node h (constant_values us) && are_linear us) =
     linearly ∙ ap (λ cs. is_linear_node h cs && are_linear_at fs is) same
     ∙ ap (λ b. is_linear_node h (constant_values us) && b) (ap (λ l. are_linear_at l is) known ∙ linear_listed ts is) in
-    let by_number : number ≡ (is_numeric h || hold_number us) =
-    numbered ∙ ap (λ b. is_numeric h || b) (ap (λ l. hold_number_at l is) known ∙ numbers_listed ts is) in
+    let by_number : number ≡ (is_integral h || hold_integer us) =
+    numbered ∙ ap (λ b. is_integral h || b) (ap (λ l. hold_integer_at l is) known ∙ numbers_listed ts is) in
     ap (λ x. fact_with x linear number) by_constant
     ∙ ap (λ x. fact_with (head_constant h (constant_values us)) x number) by_linear
     ∙ ap (fact_with (head_constant h (constant_values us)) (is_linear_node h (constant_values us) && are_linear us)) by_number

@@ -56,16 +56,16 @@ cut f j (suc n) (m ∷ ms) = ap (λ l. fact_by (f j) m ∷ l) (cut f (suc j) n m
 
 -- what is marked so is known, where the value of a constant is there
 whole : (v c : Option Fraction) (linear number : Bool) → (is_some c ≡ true → v ≡ c)
-    → fact_by v (record { is_constant = is_some c; is_linear = linear; holds_number = number }) ≡ record { constant = c; is_linear = linear; holds_number = number }
+    → fact_by v (record { is_constant = is_some c; is_linear = linear; holds_integer = number }) ≡ record { constant = c; is_linear = linear; holds_integer = number }
 whole v None linear number same = refl
-whole v (Some q) linear number same = ap (λ x. record { constant = x; is_linear = linear; holds_number = number }) (same refl)
+whole v (Some q) linear number same = ap (λ x. record { constant = x; is_linear = linear; holds_integer = number }) (same refl)
 
 pub put : (f g : ℕ → Option Fraction) (ms : List Marks) (c : Option Fraction) (linear number : Bool) → ((i : ℕ) → i < length ms → g i ≡ f i)
     → (is_some c ≡ true → g (length ms) ≡ c)
-    → facts_by g 0 (ms ++ record { is_constant = is_some c; is_linear = linear; holds_number = number } ∷ [])
-    ≡ facts_by f 0 ms ++ record { constant = c; is_linear = linear; holds_number = number } ∷ []
+    → facts_by g 0 (ms ++ record { is_constant = is_some c; is_linear = linear; holds_integer = number } ∷ [])
+    ≡ facts_by f 0 ms ++ record { constant = c; is_linear = linear; holds_integer = number } ∷ []
 put f g ms c linear number same own =
-    let m : Marks = record { is_constant = is_some c; is_linear = linear; holds_number = number } in
+    let m : Marks = record { is_constant = is_some c; is_linear = linear; holds_integer = number } in
     let last : 0 + length ms ≡ length ms = omega arith in
     one_more g 0 ms m ∙ ap (λ k. facts_by g 0 ms ++ fact_by (g k) m ∷ []) last ∙ ap (λ x. facts_by g 0 ms ++ x ∷ []) (whole (g (length ms)) c linear number own)
-    ∙ ap (λ l. l ++ record { constant = c; is_linear = linear; holds_number = number } ∷ []) (agreeing g f 0 ms (λ i below. same i (omega arith)))
+    ∙ ap (λ l. l ++ record { constant = c; is_linear = linear; holds_integer = number } ∷ []) (agreeing g f 0 ms (λ i below. same i (omega arith)))

@@ -2,18 +2,18 @@
 use Rattle.std.specs.Prelude.{◌≡◌, ℕ, List, [], ◌∷◌, map, fold, Bool, false, not, Option, Some, None, slice_index_or}
 use Rattle.std.specs.List.{list_all, list_any}
 use Rattle.nz_fractions.specs.Fraction.{Fraction, Arithmetic}
-use Rattle.nz_spec.specs.Term.{Term, apply, no_terms, falsum, is_zero, holds_number}
+use Rattle.nz_spec.specs.Term.{Term, apply, no_terms, falsum, is_zero, holds_integer}
 use Rattle.nz_spec.specs.Table.{Node, IsTable, with_term}
 use Rattle.nz_spec.specs.Linear.{constant_value, folded, is_linear}
 use Rattle.nz_term.specs.declared.facts.Fact.{Fact}
 
 -- what is known by these three answers
 abbrev pub fact_with : Option Fraction → Bool → Bool → Fact
-fact_with c linear number = record { constant = c; is_linear = linear; holds_number = number }
+fact_with c linear integral = record { constant = c; is_linear = linear; holds_integer = integral }
 
 -- what is known of a term
 abbrev pub fact_of : Term → Fact
-fact_of t = fact_with (constant_value t) (is_linear t) (holds_number t)
+fact_of t = fact_with (constant_value t) (is_linear t) (holds_integer t)
 
 -- what is listed for the term of a number; a number past the end stands for `false`
 abbrev pub fact_at : List Fact → ℕ → Fact
@@ -26,9 +26,9 @@ constants_at fs is = map (λ i. (fact_at fs i).constant) is
 abbrev pub are_linear_at : List Fact → List ℕ → Bool
 are_linear_at fs is = list_all (λ i. (fact_at fs i).is_linear) is
 
--- one of these terms is a number, or made of one
-abbrev pub hold_number_at : List Fact → List ℕ → Bool
-hold_number_at fs is = list_any (λ i. (fact_at fs i).holds_number) is
+-- one of these terms is a unit of sort `Int`, or made of one
+abbrev pub hold_integer_at : List Fact → List ℕ → Bool
+hold_integer_at fs is = list_any (λ i. (fact_at fs i).holds_integer) is
 
 -- an operation over all of these constants, from the left
 abbrev pub folded_all : Arithmetic → List (Option Fraction) → Option Fraction

@@ -6,7 +6,7 @@ use Rattle.nz_term.specs.declared.facts.Fact.{Fact}
 
 -- what is known of a term that has this value if it is constant
 abbrev pub fact_by : Option Fraction → Marks → Fact
-fact_by value m = record { constant = if m.is_constant then value else None; is_linear = m.is_linear; holds_number = m.holds_number }
+fact_by value m = record { constant = if m.is_constant then value else None; is_linear = m.is_linear; holds_integer = m.holds_integer }
 
 -- likewise of terms, where the first has this number
 abbrev pub facts_by : (ℕ → Option Fraction) → ℕ → List Marks → List Fact

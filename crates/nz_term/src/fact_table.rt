@@ -16,7 +16,7 @@ use std::marker::Model;
 struct Marks {
     is_constant: bool,
     is_linear: bool,
-    holds_number: bool,
+    holds_integer: bool,
 }
 
 /// What is known of terms, in order. A contract sees it as a list.
@@ -58,7 +58,7 @@ impl Facts {
         self.marks.push(Marks {
             is_constant: fact.constant.is_some(),
             is_linear: fact.is_linear,
-            holds_number: fact.holds_number,
+            holds_integer: fact.holds_integer,
         })?;
         Ok(())
     }
@@ -90,12 +90,12 @@ impl Facts {
         self.marks[id].is_linear
     }
 
-    /// Whether the term, or one that it is made of, is of sort `Int` or `Real`.
-    pub(crate) fn holds_number(&self, id: TermId) -> bool
+    /// Whether the term, or one that it is made of, is a unit of sort `Int`.
+    pub(crate) fn holds_integer(&self, id: TermId) -> bool
         requires within { id < length self.now }
-        ensures holds { result ≡ (fact_at self.now id).holds_number }
+        ensures holds { result ≡ (fact_at self.now id).holds_integer }
     {
-        self.marks[id].holds_number
+        self.marks[id].holds_integer
     }
 }
 

@@ -4,8 +4,8 @@ ghost use Rattle.nz_spec.specs.Bounds.{place_limit};
 ghost use Rattle.nz_fractions.specs.Fraction.{exceeds, whole};
 ghost use Rattle.nz_spec.specs.Linear.{are_divisors, divides_by_constants, folded, folded_step, head_constant, is_linear_node, variable_count};
 ghost use Rattle.nz_spec.specs.Table.{listed_term, terms_at};
-ghost use Rattle.nz_spec.specs.Term.{Term, apply, decimal_number, difference, head_fits, is_numeric, over_int, decimal_value};
-ghost use Rattle.nz_term.specs.Facts.{are_linear_at, constants_at, fact_of, folded_all, hold_number_at, is_divisor};
+ghost use Rattle.nz_spec.specs.Term.{Term, apply, decimal_number, difference, head_fits, is_integral, over_int, decimal_value};
+ghost use Rattle.nz_term.specs.Facts.{are_linear_at, constants_at, fact_of, folded_all, hold_integer_at, is_divisor};
 ghost use Rattle.nz_frac.specs.Operations.{operator_of as arithmetic_of};
 ghost use Rattle.nz_term.specs.Heads.{head_of, operator_of};
 
@@ -21,8 +21,8 @@ pub(crate) struct Fact {
     /// The value of a constant term; none of another.
     pub(crate) constant: Option<Frac>,
     pub(crate) is_linear: bool,
-    /// Whether the term, or one that it is made of, is of sort `Int` or `Real`.
-    pub(crate) holds_number: bool,
+    /// Whether the term, or one that it is made of, is a unit of sort `Int`.
+    pub(crate) holds_integer: bool,
 }
 
 /// What is known of the term of this head over the terms of these numbers, where this is known of all terms.
@@ -34,7 +34,7 @@ pub(crate) fn fact_over(facts: &Facts, head: Head<'_>, kids: &[TermId]) -> Fact
     Fact {
         constant: constant_over(facts, head, kids),
         is_linear: is_linear_over(facts, head, kids),
-        holds_number: holds_number_over(facts, head, kids),
+        holds_integer: holds_integer_over(facts, head, kids),
     }
 }
 
@@ -254,21 +254,21 @@ fn are_linear(facts: &Facts, kids: &[TermId]) -> bool
     true
 }
 
-/// Whether the term of this head over these terms, or one that it is made of, is numeric.
-fn holds_number_over(facts: &Facts, head: Head<'_>, kids: &[TermId]) -> bool
+/// Whether the term of this head over these terms, or one that it is made of, is such a unit.
+fn holds_integer_over(facts: &Facts, head: Head<'_>, kids: &[TermId]) -> bool
     requires within { All (λ k. k < length facts.now) kids.now }
-    ensures holds { result ≡ (is_numeric (head_of head.entry) || hold_number_at facts.now kids.now) }
+    ensures holds { result ≡ (is_integral (head_of head.entry) || hold_integer_at facts.now kids.now) }
 {
-    head.is_numeric() || hold_number(facts, kids)
+    head.is_integral() || hold_integer(facts, kids)
 }
 
-/// Whether one of these terms is numeric, or made of one that is.
-fn hold_number(facts: &Facts, kids: &[TermId]) -> bool
+/// Whether one of these terms is a unit of sort `Int`, or made of one.
+fn hold_integer(facts: &Facts, kids: &[TermId]) -> bool
     requires within { All (λ k. k < length facts.now) kids.now }
-    ensures hold { result ≡ hold_number_at facts.now kids.now }
+    ensures hold { result ≡ hold_integer_at facts.now kids.now }
 {
     for kid in kids {
-        if facts.holds_number(*kid) {
+        if facts.holds_integer(*kid) {
             return true;
         }
     }

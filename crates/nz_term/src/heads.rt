@@ -3,7 +3,7 @@ ghost use Rattle.std.specs.Prelude.{◌≡◌, ℕ, List, IsTrue, IfSome, IfNone
 ghost use Rattle.nz_spec.specs.Elaboration.{numbers_at};
 ghost use Rattle.nz_spec.specs.Literal.{are_same_head, head_digits, head_kind, head_name, head_place, sort_number};
 ghost use Rattle.nz_spec.specs.Table.{HasItsArguments};
-ghost use Rattle.nz_spec.specs.Term.{head_fits, head_sort, is_numeric, sort_over};
+ghost use Rattle.nz_spec.specs.Term.{head_fits, head_sort, is_integral, sort_over};
 ghost use Rattle.nz_term.specs.Constants.{number_sort_of, sort_of};
 ghost use Rattle.nz_term.specs.Growth.{IsOperator};
 ghost use Rattle.nz_term.specs.Heads.{head_of, operator_of};
@@ -136,13 +136,15 @@ impl Operator {
         }
     }
 
-    /// Whether a term of this operator is of sort `Int` or `Real`, or asks something of one that is.
-    fn is_numeric(self) -> bool
-        ensures numeric { result ≡ is_numeric (operator_of self) }
+    /// Whether a term of this operator is a unit of sort `Int`, or asks something of one.
+    fn is_integral(self) -> bool
+        ensures integral { result ≡ is_integral (operator_of self) }
     {
         match self {
-            Operator::IsInt => true,
-            _ => self.sort() != Sort::Bool,
+            Operator::Ite(sort) => sort == Sort::Int,
+            Operator::Div | Operator::Mod | Operator::Abs | Operator::ToInt | Operator::IsInt =>
+                true,
+            _ => false,
         }
     }
 
@@ -233,13 +235,14 @@ impl<'a> Head<'a> {
             && self.name() == other.name()
     }
 
-    /// Whether a term of this head is of sort `Int` or `Real`, or asks something of one that is.
-    pub(crate) fn is_numeric(self) -> bool
-        ensures numeric { result ≡ is_numeric (head_of self.entry) }
+    /// Whether a term of this head is a unit of sort `Int`, or asks something of one.
+    pub(crate) fn is_integral(self) -> bool
+        ensures integral { result ≡ is_integral (head_of self.entry) }
     {
         match self {
-            Head::Operator(operator) => operator.is_numeric(),
-            _ => self.sort() != Sort::Bool,
+            Head::Constant(constant) => constant.sort == Sort::Int,
+            Head::Operator(operator) => operator.is_integral(),
+            _ => false,
         }
     }
 

@@ -1,7 +1,7 @@
 //! The table of shared terms.
 ghost use Rattle.std.specs.Prelude.{◌≡◌, ℕ, ◌<◌, ◌==◌, ◌⊎◌, [], ◌∷◌, ◌++◌, length, take, All, Some, IsTrue, IfOk, OnOk, OnErr, IsOkAnd, option_map, slice_get};
 ghost use Rattle.nz_spec.specs.Linear.{constant_value, is_linear};
-ghost use Rattle.nz_spec.specs.Term.{apply, head_fits, holds_number};
+ghost use Rattle.nz_spec.specs.Term.{apply, head_fits, holds_integer};
 ghost use Rattle.nz_spec.specs.Table.{HasItsArguments, HasOneNumberEach, IsTable, term_in, terms_at};
 ghost use Rattle.nz_term.specs.Facts.{fact_of};
 ghost use Rattle.nz_term.specs.Found.{IsFound};
@@ -175,12 +175,12 @@ impl Terms {
         self.facts.is_linear(id)
     }
 
-    /// Whether the term, or one that it is made of, is of sort `Int` or `Real`.
-    pub fn holds_number(&self, id: TermId) -> bool
+    /// Whether the term, or one that it is made of, is a unit of sort `Int`.
+    pub fn holds_integer(&self, id: TermId) -> bool
         requires within { id < length self.now }
-        ensures holds { result ≡ holds_number (term_in self.now id) }
+        ensures holds { result ≡ holds_integer (term_in self.now id) }
     {
-        self.facts.holds_number(id)
+        self.facts.holds_integer(id)
     }
 }
 

@@ -91,9 +91,9 @@ pub(crate) fn has_constant(terms: &Terms, id: TermId, value: Option<Frac>) -> bo
     id < terms.len() && terms.constant(id) == value
 }
 
-/// Whether the term is linear, and holds a number.
-pub(crate) fn is_linear_number(terms: &Terms, id: TermId) -> bool {
-    id < terms.len() && terms.is_linear(id) && terms.holds_number(id)
+/// Whether the term is linear, and made of none of sort Int but numbers.
+pub(crate) fn is_linear_real(terms: &Terms, id: TermId) -> bool {
+    id < terms.len() && terms.is_linear(id) && !terms.holds_integer(id)
 }
 
 /// Whether the term isn't linear.

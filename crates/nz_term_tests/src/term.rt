@@ -1,6 +1,6 @@
 //! Each public call of `nz_term` once on its happy path.
 use crate::calls::{
-    found, has_constant, has_head, has_kids, instantiated, is_constant, is_linear_number,
+    found, has_constant, has_head, has_kids, instantiated, is_constant, is_linear_real,
     is_not_linear, listed, ordered, pair,
 };
 use nz_base::{Memory, Text};
@@ -259,7 +259,7 @@ fn constants_have_their_values(rt: HostRuntime) -> Result<(), Fail> {
     let mut terms = Terms::new(rt.alloc())?;
     let sum = three_and_a_half(&mut terms)?;
     assert!(rt; has_constant(&terms, sum, Frac::of(7, 2)));
-    assert!(rt; is_linear_number(&terms, sum));
+    assert!(rt; is_linear_real(&terms, sum));
     Ok(())
 }
 
@@ -268,7 +268,7 @@ fn a_parameter_is_no_constant(rt: HostRuntime) -> Result<(), Fail> {
     let mut terms = Terms::new(rt.alloc())?;
     let body = tripled(&mut terms)?;
     assert!(rt; has_constant(&terms, body, None));
-    assert!(rt; is_linear_number(&terms, body));
+    assert!(rt; is_linear_real(&terms, body));
     Ok(())
 }
 

@@ -202,11 +202,12 @@ fn literals_give_their_list_back(rt: HostRuntime) -> Result<(), Fail> {
     Ok(())
 }
 
-// What a line is: the atom of a decision, the kept decisions of a clause, or the note itself.
+// What a line is: the atom of a decision, the kept decisions of a clause, the form that an exchange makes nonbasic, or the note itself.
 fn summary(line: Noted<'_, u8>) -> (char, usize) {
     match line {
         Noted::Unit(Entry::Decision { atom, .. }) => ('D', *atom),
         Noted::Unit(Entry::Learned { keep, .. }) => ('C', *keep),
+        Noted::Unit(Entry::Pivot { leaves, .. }) => ('P', *leaves),
         Noted::Note(note) => ('A', *note as usize),
     }
 }
@@ -239,6 +240,10 @@ fn learn(alloc: Global, work: &mut Work<u8>) -> Result<(), Fail> {
     Ok(())
 }
 
+fn exchange(work: &mut Work<u8>, leaves: usize) -> Result<(), Spent> {
+    work.unit(Entry::Pivot { leaves, enters: 0 })
+}
+
 fn note(work: &mut Work<u8>, note: u8) -> Result<(), Memory> {
     work.note(note)
 }
@@ -268,16 +273,17 @@ fn lines_are(rt: &impl Abort, lines: &Lines<u8>, want: &[(char, usize)]) {
     }
 }
 
-// A list of two units, which are both used.
+// A list of three units, which are all used.
 fn used_work(rt: &impl Abort, alloc: Global) -> Result<Work<u8>, Fail> {
     let mut work = new_work(alloc)?;
     is(rt, decide(&mut work, 0), Err(Spent));
-    reserve(&mut work, 2)?;
+    reserve(&mut work, 3)?;
     note(&mut work, 7)?;
     decide(&mut work, 5)?;
-    work_has(rt, &work, 2, 1);
+    work_has(rt, &work, 2, 2);
     note(&mut work, 8)?;
     learn(alloc, &mut work)?;
+    exchange(&mut work, 4)?;
     is(rt, decide(&mut work, 6), Err(Spent));
     note(&mut work, 9)?;
     Ok(work)
@@ -286,14 +292,14 @@ fn used_work(rt: &impl Abort, alloc: Global) -> Result<Work<u8>, Fail> {
 #[test]
 fn work_counts_units_and_keeps_lines(rt: HostRuntime) -> Result<(), Fail> {
     let mut work = used_work(&rt, rt.alloc())?;
-    work_has(&rt, &work, 5, 0);
+    work_has(&rt, &work, 6, 0);
     is(&rt, line_at(&work, 1), Some(('D', 5)));
     let lines = work.take();
     work_has(&rt, &work, 0, 0);
     lines_are(
         &rt,
         &lines,
-        &[('A', 7), ('D', 5), ('A', 8), ('C', 0), ('A', 9)],
+        &[('A', 7), ('D', 5), ('A', 8), ('C', 0), ('P', 4), ('A', 9)],
     );
     Ok(())
 }

@@ -190,6 +190,22 @@ fn replies_of_one_line_are_told(rt: HostRuntime) -> Result<(), Fail> {
 }
 
 #[test]
+fn a_reason_names_the_operation_that_left_the_numbers(rt: HostRuntime) -> Result<(), Fail> {
+    let wide = Wide {
+        op: Op::Mul,
+        a: number(-1, 2),
+        b: number(3, 1),
+    };
+    tells(
+        &rt,
+        rt.alloc(),
+        b"",
+        &Reply::Reason(Reason::Wide(Rc::new(rt.alloc(), wide)?)),
+        b"(:reason-unknown (wide mul (- (/ 1 2)) 3))\n",
+    )
+}
+
+#[test]
 fn a_command_without_a_text_repeats_none(rt: HostRuntime) -> Result<(), Fail> {
     tells(&rt, rt.alloc(), b"(echo a)", &Reply::Echo, b"\"\"\n")
 }

@@ -2,12 +2,14 @@ use Rattle.std.proofs.Common.{◌≡◌, ◌≤◌, ◌-◌, suc, length, arith}
 use Rattle.nz_engine.proofs.Answering.{settled}
 use Rattle.nz_engine.proofs.check.cut_to.Goals as goal
 
-pub returns-in-Some : goal.returns-in-Some
-returns-in-Some c =
+pub returns-then-cut : goal.returns-then-cut
+returns-then-cut c =
     let some : 1 ≤ c.len.result = c.in-Some.ensures.0 in
     let is : c.in-Some.last ≡ c.len.result - 1 = c.in-Some.ensures.1 in
     let count : c.len.result ≡ length c.args.levels.now = c.len.ensures.count in
     let end : suc c.in-Some.last ≡ length c.args.levels.now = omega (arith, some, is, count) in
     record {
-      low = λ ns old front r. settled c.covers_stay.ensures.stay c.logs_stay_leveled.ensures.stay ns old c.args.levels.now c.args.prepared c.cut.new.self c.in-Some.last front end c.cut.ensures.cuts r;
+      low = λ ns old front r.
+          settled c.covers_stay.ensures.stay c.logs_stay_leveled.ensures.stay ns old c.args.levels.now c.args.prepared c.cut.new.self c.in-Some.last front end c.cut.ensures.cuts
+          (c.cut.ensures.keeps c.if-cut.true) r;
     }

@@ -1,8 +1,11 @@
-use Rattle.std.proofs.Common.{◌<◌, length, sym, ◌∙◌}
-use Rattle.std.proofs.lemmas.List.Elements.{All-from_recursion, All-map}
-use Rattle.nz_spec.specs.Gates.{IsGated}
+use Rattle.std.proofs.Common.{rules, ◌≡◌, ◌<◌, ◌++◌, Err, IfErr, length, sym, subst, ◌∙◌}
+use Rattle.std.proofs.lemmas.List.Elements.{All-from_recursion, All-map, Contains-append_left, Contains-append_right}
+use Rattle.nz_spec.specs.Decide.{asserted_numbers}
+use Rattle.nz_spec.specs.Taken.{IsTakenBoolean}
 use Rattle.nz_spec.specs.Table.{term_in}
 use Rattle.nz_log.specs.declared.term_lits.TermLit.{TermLit}
+use Rattle.nz_engine.specs.Checking.{IsRootStop, terms_named}
+use Rattle.nz_engine.proofs.Ending.{root_more}
 use Rattle.nz_engine.proofs.check.posed.Goals as goal
 
 pub assume-requires-clause-within : goal.assume-requires-clause-within
@@ -10,20 +13,36 @@ assume-requires-clause-within c =
     let n = length c.args.terms.now in
     All-map (λ t. t < n) (λ (l : TermLit). l.term) c.args.assumed.now (All-from_recursion (λ (l : TermLit). l.term < n) c.args.assumed.now c.requires.within)
 
-pub assume-requires-clause-gated : goal.assume-requires-clause-gated
-assume-requires-clause-gated c = All-map (λ t. IsGated (term_in c.args.terms.now t)) (λ (l : TermLit). l.term) c.args.assumed.now c.requires.assumed_gated
+pub assume-requires-clause-taken : goal.assume-requires-clause-taken
+assume-requires-clause-taken c = All-map (λ t. IsTakenBoolean (term_in c.args.terms.now t)) (λ (l : TermLit). l.term) c.args.assumed.now c.requires.assumed_taken
 
-pub returns : goal.returns
-returns c =
+pub returns-clause-posed : goal.returns-clause-posed
+returns-clause-posed c =
     let n = length c.args.terms.now in
     record {
-      posed = record {
-        table = c.known_table.ensures.table;
-        standing = c.in_ok-assume.ensures.stands;
-        all_given = c.in_ok-add_assertions.ensures.all_given ∙ sym c.in_ok-assume.ensures.given;
-        assumed_covered = c.in_ok-assume.ensures.covered;
-        gated = c.requires.gated;
-        assumed_gated = All-map (λ t. IsGated (term_in c.args.terms.now t)) (λ (l : TermLit). l.term) c.args.assumed.now c.requires.assumed_gated;
-        assumed_within = All-map (λ t. t < n) (λ (l : TermLit). l.term) c.args.assumed.now (All-from_recursion (λ (l : TermLit). l.term < n) c.args.assumed.now c.requires.within);
-      };
+      table = c.known_table.ensures.table;
+      standing = c.in_ok-assume.ensures.stands;
+      all_given = c.in_ok-add_assertions.ensures.all_given ∙ sym c.in_ok-assume.ensures.given;
+      assumed_covered = c.in_ok-assume.ensures.covered;
+      taken = c.requires.taken;
+      assumed_taken = All-map (λ t. IsTakenBoolean (term_in c.args.terms.now t)) (λ (l : TermLit). l.term) c.args.assumed.now c.requires.assumed_taken;
+      assumed_within = All-map (λ t. t < n) (λ (l : TermLit). l.term) c.args.assumed.now (All-from_recursion (λ (l : TermLit). l.term < n) c.args.assumed.now c.requires.within);
     }
+
+pub returns-in_err-add_assertions-clause-stop : goal.returns-in_err-add_assertions-clause-stop
+returns-in_err-add_assertions-clause-stop c =
+    let same : Err c.in_err-add_assertions.field-0.0 ≡ c.from_residual-in_err-add_assertions.result = search rules in
+    let ns = c.args.terms.now in
+    let asserted = asserted_numbers c.args.levels.now in
+    let assumed = terms_named c.args.assumed.now in
+    subst (λ r. IfErr r (IsRootStop ns (asserted ++ assumed))) same
+    (root_more ns asserted (asserted ++ assumed) c.in_err-add_assertions.field-0.0 (λ r has. Contains-append_left asserted assumed r has) c.in_err-add_assertions.ensures.stop)
+
+pub returns-in_err-assume-clause-stop : goal.returns-in_err-assume-clause-stop
+returns-in_err-assume-clause-stop c =
+    let same : Err c.in_err-assume.field-0.0 ≡ c.from_residual-in_err-assume.result = search rules in
+    let ns = c.args.terms.now in
+    let asserted = asserted_numbers c.args.levels.now in
+    let assumed = terms_named c.args.assumed.now in
+    subst (λ r. IfErr r (IsRootStop ns (asserted ++ assumed))) same
+    (root_more ns assumed (asserted ++ assumed) c.in_err-assume.field-0.0 (λ r has. Contains-append_right asserted assumed r has) c.in_err-assume.ensures.stop)

@@ -1,25 +1,26 @@
--- What was told is the whole trail.
-use Rattle.std.proofs.Common.{◌≡◌, None, rules}
-use Rattle.std.proofs.lemmas.List.Elements.{All-weaker}
-use Rattle.nz_log.specs.Atoms.{IsLitIn}
-use Rattle.nz_sat.specs.declared.trail.Assigned.{Assigned}
-use Rattle.nz_sat.specs.Trails.{literals_on}
-use Rattle.nz_sat.proofs.Advancing.{grows_far}
-use Rattle.nz_sat.proofs.Staying.{lit_stays}
-use Rattle.nz_sat.proofs.Telling.{all_within}
+-- The pivots of the check lead on from where the theory was told the trail.
+use Rattle.std.proofs.Common.{◌≡◌, ℕ, None, Ok, Option, subst, rules}
+use Rattle.nz_sat.specs.Theories.{Consults, TheoryState, state_of}
+use Rattle.nz_sat.proofs.Telling.{consults_checked}
 use Rattle.nz_sat.proofs.consult.consult.Goals as goal
 
-pub returns-clause-sound : goal.returns-clause-sound
-returns-clause-sound g c ns levels known within order =
+-- Of the atoms it knows still, with those that joined since.
+pub check-requires : goal.check-requires
+check-requires g c =
+    let told = c.tell.ensures.comes in
+    record {
+      known = (c.args.atoms.now, g.T.Theory.stays c.tell.new.theory c.args.log.now.atoms c.tell.new.log.atoms c.args.atoms.now (told.keeps.of c.args.log.now.atoms c.args.atoms.now c.requires.of) told.grows.atoms);
+    }
+
+pub returns-clause-comes : goal.returns-clause-comes
+returns-clause-comes g c =
     let none : c.in_ok-clash.clash ≡ None = search rules in
-    let es = c.args.trail.now.entries in
-    c.check.ensures.sound (literals_on es) ns levels (c.in_ok-clash.ensures.all none) (c.tell.ensures.over ns known) (all_within ns c.tell.new.log.atoms es
-    (All-weaker (λ (e : Assigned). IsLitIn ns c.args.log.now.atoms e.literal) (λ (e : Assigned). IsLitIn ns c.tell.new.log.atoms e.literal)
-    (λ e l. lit_stays c.args.log.now.atoms c.tell.new.log.atoms c.tell.ensures.grows.atoms ns e.literal l) es within))
-    (c.tell.ensures.sound ns levels known within order)
-
-pub returns-clause-grows : goal.returns-clause-grows
-returns-clause-grows g c = grows_far c.args.log.now c.tell.new.log c.check.new.log c.tell.ensures.grows c.check.ensures.grows
-
-pub returns-clause-legal : goal.returns-clause-legal
-returns-clause-legal g c ns q known legal = c.check.ensures.legal ns q (c.tell.ensures.over ns known) legal
+    let theory : g.row.T.Denot → TheoryState = state_of g.T.Theory.is_over g.T.Theory.has_told g.T.Theory.is_feasible g.T.Theory.is_of g.T.Theory.is_at in
+    let told : Consults (theory c.args.theory.now) (theory c.tell.new.theory) c.args.log.now c.tell.new.log c.args.atoms.now c.args.bounds.now c.tell.new.bounds c.args.trail.now c.args.work.now
+    c.tell.new.work (Ok None) =
+    subst
+    (λ (o : Option ℕ). Consults (theory c.args.theory.now) (theory c.tell.new.theory) c.args.log.now c.tell.new.log c.args.atoms.now c.args.bounds.now c.tell.new.bounds c.args.trail.now
+    c.args.work.now c.tell.new.work (Ok o))
+    none c.in_ok-clash.ensures.comes in
+    consults_checked c.pivots_are_legal.ensures.legal {m₂ = theory c.check.new.self} told (record { over = c.check.ensures.over; of = c.check.ensures.of }) c.check.ensures.pivots c.check.result
+    c.check.ensures.told c.check.ensures.clash c.check.ensures.grows c.check.ensures.sound c.check.ensures.leads

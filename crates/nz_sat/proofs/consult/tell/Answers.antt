@@ -1,51 +1,92 @@
--- One literal more is told.
-use Rattle.std.proofs.Common.{take}
-use Rattle.nz_sat.specs.Trails.{literals_on}
-use Rattle.nz_sat.proofs.Telling.{tells_clash, tells_first, tells_on, tells_sound, tells_told}
+-- One entry more.
+use Rattle.std.proofs.Common.{◌≡◌, ℕ, ◌+◌, true, false, None, Option, Err, Ok, sym, subst, arith, rules}
+use Rattle.std.specs.Prelude.{is_some}
+use Rattle.nz_spec.specs.Work.{WorkList}
+use Rattle.nz_log.specs.declared.note.Note.{Note}
+use Rattle.nz_log.specs.Logs.{LogState}
+use Rattle.nz_sat.specs.Conflicts.{is_marked}
+use Rattle.nz_sat.specs.Theories.{Consults, TellsOne, TheoryState, state_of}
+use Rattle.nz_sat.proofs.Telling.{consults_clash, consults_err, consults_more, consults_none, consults_same, consults_skip, next_atom}
+use Rattle.nz_sat.proofs.Tracking.{marked_bound}
+use Rattle.nz_sat.proofs.consult.tell.Goals.{then-has+in_ok-clash+else-is_some, else-has}
 use Rattle.nz_sat.proofs.consult.tell.Goals as goal
 
-pub loop-i-init : goal.loop-i-init
-loop-i-init g c =
-    let told = c.requires.told in
-    tells_first (g.T.Theory.has_told c.args.theory.now) (g.T.Theory.is_over c.args.theory.now) c.args.trail.now.entries c.args.log.now c.mark-i.result told
-    (c.mark-i.ensures.count (literals_on (take told.count c.args.trail.now.entries)) told.told)
+pub loop-bounds-init : goal.loop-bounds-init
+loop-bounds-init g c =
+    consults_none (state_of g.T.Theory.is_over g.T.Theory.has_told g.T.Theory.is_feasible g.T.Theory.is_of g.T.Theory.is_at c.args.theory.now) c.args.log.now c.args.atoms.now c.args.bounds.now
+    c.args.trail.now c.args.work.now c.requires.trail c.requires.told c.requires.noted
 
-pub returns-in_err-clash-clause-over : goal.returns-in_err-clash-clause-over
-returns-in_err-clash-clause-over g c ns known = c.assert_lit.ensures.over ns (c.loop-i.invariant.keeps ns known)
+pub tell_one-requires-clause-named : goal.tell_one-requires-clause-named
+tell_one-requires-clause-named g c =
+    next_atom c.loop-bounds.log c.args.atoms.now c.loop-bounds.bounds c.args.trail.now c.loop-bounds.invariant.trail c.entry.result c.entry.ensures.entry
 
-pub returns-in_err-clash-clause-sound : goal.returns-in_err-clash-clause-sound
-returns-in_err-clash-clause-sound g c =
-    let told = c.loop-i.invariant.told in
-    tells_sound (g.T.Theory.has_told c.loop-i.theory) (g.T.Theory.is_over c.args.theory.now) (g.T.Theory.is_over c.loop-i.theory) c.args.trail.now.entries c.args.log.now c.loop-i.log
-    c.assert_lit.new.log c.loop-i.i c.loop-i.invariant c.entry.result c.entry.ensures.entry
-    (λ ns levels known. c.assert_lit.ensures.sound (literals_on (take c.loop-i.i c.args.trail.now.entries)) ns levels told known)
+pub tell_one-requires-clause-bound : goal.tell_one-requires-clause-bound
+tell_one-requires-clause-bound g c =
+    let b = c.loop-bounds.bounds in
+    let marked : is_marked b.marks.items c.entry.result.literal.atom ≡ true = search rules in
+    marked_bound c.loop-bounds.log c.args.atoms.now b.marks.items c.loop-bounds.invariant.trail.marked c.entry.result.literal
+    (next_atom c.loop-bounds.log c.args.atoms.now b c.args.trail.now c.loop-bounds.invariant.trail c.entry.result c.entry.ensures.entry) marked
 
-pub returns-then-is_some-clause-told : goal.returns-then-is_some-clause-told
-returns-then-is_some-clause-told g c =
-    let es = c.args.trail.now.entries in
-    tells_told (g.T.Theory.has_told c.assert_lit.new.self) es c.loop-i.i c.entry.result c.entry.ensures.entry
-    (c.in_ok-clash.ensures.told (literals_on (take c.loop-i.i es)) c.loop-i.invariant.told)
+pub tell_one-requires-clause-of : goal.tell_one-requires-clause-of
+tell_one-requires-clause-of g c =
+    g.T.Theory.stays c.loop-bounds.theory c.args.log.now.atoms c.loop-bounds.log.atoms c.args.atoms.now (c.loop-bounds.invariant.keeps.of c.args.log.now.atoms c.args.atoms.now c.requires.of)
+    c.loop-bounds.invariant.grows.atoms
 
-pub returns-then-is_some-clause-clash : goal.returns-then-is_some-clause-clash
-returns-then-is_some-clause-clash g c =
-    let es = c.args.trail.now.entries in
-    tells_clash c.assert_lit.new.log es c.loop-i.i c.entry.result c.entry.ensures.entry c.in_ok-clash.clash
-    (c.in_ok-clash.ensures.clash (literals_on (take c.loop-i.i es)) c.loop-i.invariant.told)
+pub returns-in_err-clash-clause-comes : goal.returns-in_err-clash-clause-comes
+returns-in_err-clash-clause-comes g c =
+    let same : Err c.in_err-clash.field-0.0 ≡ c.from_residual.result = search rules in
+    consults_same same
+    (consults_err c.loop-bounds.invariant c.entry.result c.entry.ensures.entry c.in_err-clash.ensures.comes c.tells_lits.ensures.tells c.clauses_are_true.ensures.clauses
+    c.negation_is_other.ensures.other)
 
-pub returns-then-is_some-clause-sound : goal.returns-then-is_some-clause-sound
-returns-then-is_some-clause-sound g c =
-    let told = c.loop-i.invariant.told in
-    tells_sound (g.T.Theory.has_told c.loop-i.theory) (g.T.Theory.is_over c.args.theory.now) (g.T.Theory.is_over c.loop-i.theory) c.args.trail.now.entries c.args.log.now c.loop-i.log
-    c.assert_lit.new.log c.loop-i.i c.loop-i.invariant c.entry.result c.entry.ensures.entry
-    (λ ns levels known. c.assert_lit.ensures.sound (literals_on (take c.loop-i.i c.args.trail.now.entries)) ns levels told known)
+pub returns-then-is_some-clause-comes : goal.returns-then-is_some-clause-comes
+returns-then-is_some-clause-comes g c =
+    let some : is_some c.in_ok-clash.clash ≡ true = search rules in
+    consults_clash c.loop-bounds.invariant c.entry.result c.entry.ensures.entry c.in_ok-clash.clash some c.in_ok-clash.ensures.comes c.tells_lits.ensures.tells c.clauses_are_true.ensures.clauses
+    c.negation_is_other.ensures.other
 
-pub loop-i-preserved : goal.loop-i-preserved
-loop-i-preserved g c =
-    let es = c.args.trail.now.entries in
-    let told = c.loop-i.invariant.told in
-    let sound = tells_sound (g.T.Theory.has_told c.loop-i.theory) (g.T.Theory.is_over c.args.theory.now) (g.T.Theory.is_over c.loop-i.theory) es c.args.log.now c.loop-i.log
-    c.assert_lit.new.log c.loop-i.i c.loop-i.invariant c.entry.result c.entry.ensures.entry
-    (λ ns levels known. c.assert_lit.ensures.sound (literals_on (take c.loop-i.i es)) ns levels told known) in
-    tells_on (g.T.Theory.has_told c.loop-i.theory) (g.T.Theory.has_told c.assert_lit.new.self) (g.T.Theory.is_over c.args.theory.now) (g.T.Theory.is_over c.loop-i.theory)
-    (g.T.Theory.is_over c.assert_lit.new.self) es c.args.log.now c.loop-i.log c.assert_lit.new.log c.loop-i.i c.loop-i.invariant c.entry.result c.entry.ensures.entry
-    (c.in_ok-clash.ensures.told (literals_on (take c.loop-i.i es)) told) c.assert_lit.ensures.grows sound c.assert_lit.ensures.over
+pub loop-bounds-smaller : goal.loop-bounds-smaller
+loop-bounds-smaller g c =
+    let count = c.len.ensures.count in
+    let more = c.loop-bounds-test.true in
+    omega arith
+
+pub loop-bounds-preserved : goal.loop-bounds-preserved
+loop-bounds-preserved g c =
+    let b = c.loop-bounds.bounds in
+    let e = c.entry.result in
+    let at = c.entry.ensures.entry in
+    let theory : g.row.T.Denot → TheoryState = state_of g.T.Theory.is_over g.T.Theory.has_told g.T.Theory.is_feasible g.T.Theory.is_of g.T.Theory.is_at in
+    let F : LogState → g.row.T.Denot → WorkList Note → Type 0 =
+    λ log t work. Consults (theory c.args.theory.now) (theory t) c.args.log.now log c.args.atoms.now c.args.bounds.now (record b { told = b.told + 1 }) c.args.trail.now c.args.work.now work (Ok None) in
+    elim c.if-has.branch [
+      | then-has+in_ok-clash+else-is_some w ↦
+          let marked : is_marked b.marks.items e.literal.atom ≡ true = search rules in
+          let none : w.in_ok-clash.clash ≡ None = search rules in
+          let log = w.tell_one.new.log in
+          let t = w.tell_one.new.theory in
+          let work = w.tell_one.new.work in
+          let one : TellsOne (theory c.loop-bounds.theory) (theory t) c.loop-bounds.log log c.args.atoms.now e.literal c.loop-bounds.work work (Ok None) =
+          subst (λ (o : Option ℕ). TellsOne (theory c.loop-bounds.theory) (theory t) c.loop-bounds.log log c.args.atoms.now e.literal c.loop-bounds.work work (Ok o)) none
+          w.in_ok-clash.ensures.comes in
+          let made : F log t work =
+          consults_more c.loop-bounds.invariant e at one c.tells_lits.ensures.tells c.clauses_are_true.ensures.clauses c.negation_is_other.ensures.other marked in
+          subst (λ (x : LogState). F x c.if-has.theory c.if-has.work) (sym w.log-is)
+          (subst (λ (x : g.row.T.Denot). F log x c.if-has.work) (sym w.theory-is) (subst (λ (x : WorkList Note). F log t x) (sym w.work-is) made))
+      | else-has w ↦
+          let unmarked : is_marked b.marks.items e.literal.atom ≡ false = search rules in
+          let made : F c.loop-bounds.log c.loop-bounds.theory c.loop-bounds.work = consults_skip c.loop-bounds.invariant e at unmarked in
+          subst (λ (x : LogState). F x c.if-has.theory c.if-has.work) (sym w.log-is)
+          (subst (λ (x : g.row.T.Denot). F c.loop-bounds.log x c.if-has.work) (sym w.theory-is)
+          (subst (λ (x : WorkList Note). F c.loop-bounds.log c.loop-bounds.theory x) (sym w.work-is) made))
+    ]
+
+pub returns-clause-comes : goal.returns-clause-comes
+returns-clause-comes g c = c.loop-bounds.invariant
+
+pub returns-clause-all : goal.returns-clause-all
+returns-clause-all g c none =
+    let count = c.len.ensures.count in
+    let less = c.loop-bounds-test.false in
+    let inside = c.loop-bounds.invariant.trail.inside in
+    omega arith

@@ -1,11 +1,10 @@
 use Rattle.std.proofs.Common.{◌≡◌, ◌+◌, ◌∷◌, ◌++◌, [], take, sym, ap, ◌∙◌, subst}
 use Rattle.std.proofs.lemmas.List.{take_more}
 use Rattle.std.specs.Prelude.{Some}
-use Rattle.nz_spec.specs.Work.{WorkLine, WorkList, NoteLine, unit_count}
+use Rattle.nz_spec.specs.Work.{WorkList}
 use Rattle.nz_log.specs.declared.note.Note.{Note}
-use Rattle.nz_log.specs.declared.note.Note.TheVariants.{Atom}
-use Rattle.nz_sat.specs.Numbers.{AreNotedIn}
-use Rattle.nz_sat_tests.proofs.Noting.{noted_one, units_push}
+use Rattle.nz_sat.specs.Numbers.{AreBeginnings, AreNotedIn}
+use Rattle.nz_sat_tests.proofs.Noting.{beginnings_push, noted_one, term_note}
 use Rattle.nz_sat_tests.proofs.problem.note_atoms.Goals as goal
 
 pub loop-atom-preserved : goal.loop-atom-preserved
@@ -14,10 +13,10 @@ loop-atom-preserved c =
     let atoms = c.args.atoms.now in
     let old = c.loop-atom.work.lines in
     let t = c.in-Term.term in
-    let lines : c.note.new.self.lines ≡ old ++ NoteLine (Atom t) ∷ [] = ap (λ (w : WorkList Note). w.lines) c.in_ok-note-in-Term.ensures.ok in
+    let lines : c.note.new.self.lines ≡ old ++ term_note t ∷ [] = ap (λ (w : WorkList Note). w.lines) c.in_ok-note-in-Term.ensures.ok in
     let so_far = c.loop-atom.invariant in
     let one = noted_one c.args.log.now.atoms old (take i atoms) _ t (c.atom.ensures.atom ∙ ap Some c.in-Term.is) so_far.0 in (
       subst (λ ls. AreNotedIn c.args.log.now.atoms ls (take (i + 1) atoms)) (sym lines)
-          (subst (AreNotedIn c.args.log.now.atoms (old ++ NoteLine (Atom t) ∷ [])) (sym (take_more atoms i _ c.loop-atom-test.true)) one),
-      ap unit_count lines ∙ units_push old t ∙ so_far.1,
+          (subst (AreNotedIn c.args.log.now.atoms (old ++ term_note t ∷ [])) (sym (take_more atoms i _ c.loop-atom-test.true)) one),
+      subst AreBeginnings (sym lines) (beginnings_push old t so_far.1),
     )

@@ -1,8 +1,7 @@
 -- The atoms so far are noted, and nothing else.
-use Rattle.std.proofs.Common.{◌≡◌, take}
-use Rattle.nz_spec.specs.Work.{unit_count}
-use Rattle.nz_sat.specs.Numbers.{AreNotedIn}
+use Rattle.std.proofs.Common.{take}
+use Rattle.nz_sat.specs.Numbers.{AreBeginnings, AreNotedIn}
 use Rattle.nz_sat_tests.proofs.problem.note_atoms.Given as goal
 
 abbrev pub invariant-loop-atom : goal.invariant-loop-atom
-invariant-loop-atom l = AreNotedIn l.log.atoms l.work.lines (take l.atom-index l.atoms) × (unit_count l.work.lines ≡ 0)
+invariant-loop-atom l = AreNotedIn l.log.atoms l.work.lines (take l.atom-index l.atoms) × AreBeginnings l.work.lines

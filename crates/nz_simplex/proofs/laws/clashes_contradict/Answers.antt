@@ -3,4 +3,4 @@ use Rattle.nz_simplex.proofs.Contradicting as contradicting
 use Rattle.nz_simplex.proofs.laws.clashes_contradict.Goals as goal
 
 pub returns : goal.returns
-returns c = record { contradict = contradicting.clashes_contradict }
+returns c = record { contradict = contradicting.clashes_contradict c.tells_terms.ensures.tells c.worth_is_by_units.ensures.units c.infinitesimals_are_ordered.ensures.ordered }

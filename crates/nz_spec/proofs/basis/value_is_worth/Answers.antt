@@ -1,5 +1,5 @@
 -- The law, as it is proved over plain data.
-use Rattle.nz_spec.proofs.BasisRows as laws
+use Rattle.nz_spec.proofs.FormValues as laws
 use Rattle.nz_spec.proofs.basis.value_is_worth.Goals as goal
 
 pub returns : goal.returns

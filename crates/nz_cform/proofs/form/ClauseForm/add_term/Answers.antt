@@ -1,12 +1,27 @@
 -- The stack leads from one term to what it is made of.
-use Rattle.std.proofs.Common.{◌<◌, [], ◌∷◌, ◌++◌, Some, None, ap, sym, subst, ◌∙◌}
+use Rattle.std.proofs.Common.{◌≡◌, ◌<◌, [], ◌∷◌, ◌++◌, Some, None, Err, ap, sym, subst, ◌∙◌, rules}
+use Rattle.std.specs.Prelude.{IfErr}
 use Rattle.nz_spec.specs.Table.{term_in}
 use Rattle.nz_term.specs.Heads.{head_of}
-use Rattle.nz_cform.specs.Forms.{covered_at}
-use Rattle.nz_cform.proofs.Listing.{grows_more, has_some}
+use Rattle.nz_cform.specs.declared.stop.FormStop.{FormStop}
+use Rattle.nz_cform.specs.Forms.{Grows, covered_at}
+use Rattle.nz_cform.specs.Stops.{IsStopIn, OnWide}
+use Rattle.nz_cform.proofs.Listed.{has_some}
 use Rattle.nz_cform.proofs.Sizes.{less_gone, less_opened, total}
-use Rattle.nz_cform.proofs.Underway.{IsUnderway, cover_on, no_parts, parts_on, skip, sound_on, start_underway}
+use Rattle.nz_cform.proofs.Underway.{IsUnderway, cover_on, grows_more, is_taken, is_within, no_parts, parts_on, skip, start_underway, stops_too}
 use Rattle.nz_cform.proofs.form.ClauseForm.add_term.Goals as goal
+use Rattle.nz_cform.proofs.form.ClauseForm.add_term.Goals.{After-cover, In-Some}
+
+-- how far it has come, by what waits last
+underway : (c : In-Some)
+    → IsUnderway c.args.terms.now c.args.id c.args.level c.args.log.now c.args.self.now c.loop-term.log c.loop-term.self c.loop-term.clauses.items (c.pop.new.self.items ++ c.in-Some.term ∷ [])
+underway c =
+    subst (IsUnderway c.args.terms.now c.args.id c.args.level c.args.log.now c.args.self.now c.loop-term.log c.loop-term.self c.loop-term.clauses.items)
+    c.in-Some.ensures.items c.loop-term.invariant
+
+-- what a term that is covered adds
+grown_here : (c : After-cover) → Grows c.args.self.now c.args.level c.cover.new.self
+grown_here c = grows_more c.args.self.now c.loop-term.self c.cover.new.self c.args.level c.loop-term.invariant.grown c.cover.ensures.grown
 
 pub loop-term-init : goal.loop-term-init
 loop-term-init c =
@@ -17,20 +32,34 @@ loop-term-init c =
 
 -- ---- A term that isn't covered
 
+pub cover-requires-clause-taken : goal.cover-requires-clause-taken
+cover-requires-clause-taken c =
+    is_taken c.args.terms.now c.args.id c.args.level c.args.log.now c.args.self.now c.loop-term.log c.loop-term.self c.loop-term.clauses.items
+    c.pop.new.self.items c.in-Some.term (underway (goal.at.cover-requires-clause-taken c).In-Some) c.taken_terms_are_in_order.ensures.order c.requires.taken
+
+pub node-node-requires : goal.node-node-requires
+node-node-requires c =
+    is_within c.args.terms.now c.args.id c.args.level c.args.log.now c.args.self.now c.loop-term.log c.loop-term.self c.loop-term.clauses.items
+    c.pop.new.self.items c.in-Some.term (underway (goal.at.node-node-requires c).In-Some)
+
 pub returns-in_err-cover-clause-grown : goal.returns-in_err-cover-clause-grown
-returns-in_err-cover-clause-grown c = grows_more c.args.self.now c.loop-term.self c.cover.new.self c.args.level c.loop-term.invariant.grown c.cover.ensures.grown
+returns-in_err-cover-clause-grown c = grown_here (goal.at.returns-in_err-cover-clause-grown c).After-cover
 
 pub returns-in_err-cover-clause-sound : goal.returns-in_err-cover-clause-sound
-returns-in_err-cover-clause-sound c =
-    let P = IsUnderway c.args.terms.now c.args.id c.args.level c.args.log.now c.args.self.now c.loop-term.log c.loop-term.self c.loop-term.clauses.items in
-    sound_on c.args.terms.now c.args.id c.args.level c.args.log.now c.args.self.now c.loop-term.log c.loop-term.self c.loop-term.clauses.items
-    c.pop.new.self.items c.in-Some.term (subst P c.in-Some.ensures.items c.loop-term.invariant) c.gates_are_true.ensures.plain c.cover.new.log c.cover.ensures.sound
+returns-in_err-cover-clause-sound c levels order = c.cover.ensures.sound levels (c.loop-term.invariant.sound levels order)
 
 pub returns-in_err-cover-clause-made_of : goal.returns-in_err-cover-clause-made_of
 returns-in_err-cover-clause-made_of c =
-    let P = IsUnderway c.args.terms.now c.args.id c.args.level c.args.log.now c.args.self.now c.loop-term.log c.loop-term.self c.loop-term.clauses.items in
     parts_on c.args.terms.now c.args.id c.args.level c.args.log.now c.args.self.now c.loop-term.log c.loop-term.self c.loop-term.clauses.items
-    c.pop.new.self.items c.in-Some.term (subst P c.in-Some.ensures.items c.loop-term.invariant) c.cover.new.self c.cover.ensures.only
+    c.pop.new.self.items c.in-Some.term (underway (goal.at.returns-in_err-cover-clause-made_of c).In-Some) c.cover.new.self c.cover.ensures.only
+
+pub returns-in_err-cover-clause-stop : goal.returns-in_err-cover-clause-stop
+returns-in_err-cover-clause-stop c =
+    let same : c.from_residual-in_err-cover.result ≡ Err c.in_err-cover.field-0.0 = search rules in
+    let stop : FormStop = c.in_err-cover.field-0.0 in
+    subst (λ r. IfErr r (λ (e : FormStop). OnWide e (IsStopIn c.args.terms.now (term_in c.args.terms.now c.args.id)))) (sym same)
+    (stops_too c.args.terms.now c.args.id c.args.level c.args.log.now c.args.self.now c.loop-term.log c.loop-term.self c.loop-term.clauses.items
+    c.pop.new.self.items c.in-Some.term (underway (goal.at.returns-in_err-cover-clause-stop c).In-Some) stop c.in_err-cover.ensures.stop)
 
 pub loop-term-smaller-in-Continue-branch-3 : goal.loop-term-smaller-in-Continue-branch-3
 loop-term-smaller-in-Continue-branch-3 c =
@@ -43,30 +72,24 @@ loop-term-smaller-in-Continue-branch-3 c =
 pub loop-term-preserved-in-Continue-branch-3 : goal.loop-term-preserved-in-Continue-branch-3
 loop-term-preserved-in-Continue-branch-3 c =
     let ns = c.args.terms.now in
-    let P = IsUnderway ns c.args.id c.args.level c.args.log.now c.args.self.now c.loop-term.log c.loop-term.self c.loop-term.clauses.items in
     let did = c.in_ok-cover.ensures in
     let after = c.in_ok-extend_from_slice.ensures.items in
     subst (IsUnderway ns c.args.id c.args.level c.args.log.now c.args.self.now c.cover.new.log c.cover.new.self c.cover.new.clauses.items) (sym after)
     (cover_on ns c.args.id c.args.level c.args.log.now c.args.self.now c.loop-term.log c.loop-term.self c.loop-term.clauses.items
-    c.pop.new.self.items c.in-Some.term (subst P c.in-Some.ensures.items c.loop-term.invariant) c.gates_are_true.ensures.plain c.cover.new.log did.sound
-    c.cover.new.self c.cover.new.clauses.items did.taken did.grown did.kept did.gates did.added did.told
-    (head_of c.node-node.result.head) c.node-node.result.kids.now (ap (λ o. elim o [ None ↦ [] | Some n ↦ n.kids ]) c.node-node.ensures.node) c.node-node.ensures.term c.node-node.ensures.before did.only)
+    c.pop.new.self.items c.in-Some.term (underway (goal.at.loop-term-preserved-in-Continue-branch-3 c).In-Some) c.cover.new.log
+    c.cover.new.self c.cover.new.clauses.items did.taken did.rows did.bounds did.adds did.grown did.kept did.told did.only did.sound
+    (head_of c.node-node.result.head) c.node-node.result.kids.now (ap (λ o. elim o [ None ↦ [] | Some n ↦ n.kids ]) c.node-node.ensures.node) c.node-node.ensures.term c.node-node.ensures.before)
 
 pub returns-in_err-extend_from_slice-clause-grown : goal.returns-in_err-extend_from_slice-clause-grown
-returns-in_err-extend_from_slice-clause-grown c =
-    grows_more c.args.self.now c.loop-term.self c.cover.new.self c.args.level c.loop-term.invariant.grown c.cover.ensures.grown
+returns-in_err-extend_from_slice-clause-grown c = grown_here (goal.at.returns-in_err-extend_from_slice-clause-grown c).After-cover
 
 pub returns-in_err-extend_from_slice-clause-sound : goal.returns-in_err-extend_from_slice-clause-sound
-returns-in_err-extend_from_slice-clause-sound c =
-    let P = IsUnderway c.args.terms.now c.args.id c.args.level c.args.log.now c.args.self.now c.loop-term.log c.loop-term.self c.loop-term.clauses.items in
-    sound_on c.args.terms.now c.args.id c.args.level c.args.log.now c.args.self.now c.loop-term.log c.loop-term.self c.loop-term.clauses.items
-    c.pop.new.self.items c.in-Some.term (subst P c.in-Some.ensures.items c.loop-term.invariant) c.gates_are_true.ensures.plain c.cover.new.log c.cover.ensures.sound
+returns-in_err-extend_from_slice-clause-sound c levels order = c.cover.ensures.sound levels (c.loop-term.invariant.sound levels order)
 
 pub returns-in_err-extend_from_slice-clause-made_of : goal.returns-in_err-extend_from_slice-clause-made_of
 returns-in_err-extend_from_slice-clause-made_of c =
-    let P = IsUnderway c.args.terms.now c.args.id c.args.level c.args.log.now c.args.self.now c.loop-term.log c.loop-term.self c.loop-term.clauses.items in
     parts_on c.args.terms.now c.args.id c.args.level c.args.log.now c.args.self.now c.loop-term.log c.loop-term.self c.loop-term.clauses.items
-    c.pop.new.self.items c.in-Some.term (subst P c.in-Some.ensures.items c.loop-term.invariant) c.cover.new.self c.cover.ensures.only
+    c.pop.new.self.items c.in-Some.term (underway (goal.at.returns-in_err-extend_from_slice-clause-made_of c).In-Some) c.cover.new.self c.cover.ensures.only
 
 pub returns-in_err-push-clause-made_of : goal.returns-in_err-push-clause-made_of
 returns-in_err-push-clause-made_of c = no_parts c.args.terms.now c.args.id c.args.self.now
@@ -80,7 +103,6 @@ loop-term-smaller c =
 
 pub loop-term-preserved : goal.loop-term-preserved
 loop-term-preserved c =
-    let P = IsUnderway c.args.terms.now c.args.id c.args.level c.args.log.now c.args.self.now c.loop-term.log c.loop-term.self c.loop-term.clauses.items in
     let level = has_some (covered_at c.loop-term.self c.in-Some.term) (sym c.is_covered.ensures.covered ∙ c.if-not-is_covered.false) in
     skip c.args.terms.now c.args.id c.args.level c.args.log.now c.args.self.now c.loop-term.log c.loop-term.self c.loop-term.clauses.items
-    c.pop.new.self.items c.in-Some.term (subst P c.in-Some.ensures.items c.loop-term.invariant) level.0 level.1
+    c.pop.new.self.items c.in-Some.term (underway (goal.at.loop-term-preserved c).In-Some) level.0 level.1

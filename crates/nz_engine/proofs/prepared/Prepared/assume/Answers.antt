@@ -1,15 +1,16 @@
-use Rattle.std.proofs.Common.{◌<◌, ◌≤◌, false, length, get_or, take, refl, sym, ◌∙◌, subst, arith}
-use Rattle.std.specs.Prelude.{All, IsSome}
+use Rattle.std.proofs.Common.{rules, Err, IfErr, ◌≡◌, ◌<◌, ◌≤◌, false, length, get_or, take, refl, sym, ◌∙◌, subst, arith}
+use Rattle.std.specs.Prelude.{All, Contains, IsSome}
 use Rattle.std.proofs.lemmas.List.{take_all, take_more}
 use Rattle.std.proofs.lemmas.List.Elements.{All-push, All-weaker, Contains-get_or}
-use Rattle.nz_spec.specs.Gates.{IsGated}
+use Rattle.nz_spec.specs.Taken.{IsTakenBoolean}
 use Rattle.nz_spec.specs.Table.{term_in}
 use Rattle.nz_log.specs.declared.term_lits.TermLit.{TermLit}
 use Rattle.nz_cform.specs.Forms.{covered_at}
-use Rattle.nz_engine.specs.Checking.{AreCovered, terms_named}
+use Rattle.nz_engine.specs.Checking.{AreCovered, IsRootStop, terms_named}
 use Rattle.nz_engine.proofs.Going.{standing}
 use Rattle.nz_engine.proofs.Posing.{all_named}
-use Rattle.nz_engine.proofs.Putting.{contains_map}
+use Rattle.nz_engine.proofs.Ending.{root_of}
+use Rattle.nz_engine.proofs.RowFacts.{contains_map}
 use Rattle.nz_engine.proofs.prepared.Prepared.assume.Goals as goal
 
 pub loop-literal-init : goal.loop-literal-init
@@ -24,6 +25,10 @@ pub assume_term-requires-clause-within : goal.assume_term-requires-clause-within
 assume_term-requires-clause-within c =
     all_named (λ t. t < length c.args.terms.now) c.args.assumed.now c.requires.within c.loop-literal.literal-index (record { term = 0; sign = false }) c.loop-literal-test.true
 
+pub assume_term-requires-clause-taken : goal.assume_term-requires-clause-taken
+assume_term-requires-clause-taken c =
+    (all_named (λ t. IsTakenBoolean (term_in c.args.terms.now t)) c.args.assumed.now c.requires.taken c.loop-literal.literal-index (record { term = 0; sign = false }) c.loop-literal-test.true).taken
+
 pub loop-literal-preserved : goal.loop-literal-preserved
 loop-literal-preserved c =
     let ns = c.args.terms.now in
@@ -34,13 +39,13 @@ loop-literal-preserved c =
     let did = c.in_ok-assume_term.ensures in
     let form = c.assume_term.new.self.form in
     let P : TermLit → Type 0 = λ m. IsSome (covered_at form m.term) in
-    let plain = c.gates_decide.ensures.plain (term_in ns l.term) (all_named (λ t. IsGated (term_in ns t)) assumed c.requires.gated k (record { term = 0; sign = false }) c.loop-literal-test.true) in
+    let taken = all_named (λ t. IsTakenBoolean (term_in ns t)) assumed c.requires.taken k (record { term = 0; sign = false }) c.loop-literal-test.true in
     record {
       standing = did.stands c.args.levels.now (terms_named assumed)
           (record {
             last = sym c.len-level.ensures.count;
             named = contains_map (λ (m : TermLit). m.term) assumed l (Contains-get_or assumed k (record { term = 0; sign = false }) c.loop-literal-test.true);
-            plain = plain;
+            taken = taken.taken;
             all_given = c.requires.all_given ∙ sym before.given;
             standing = before.standing;
           });
@@ -55,3 +60,13 @@ returns-clause-covered c =
     let assumed = c.args.assumed.now in
     let past : length assumed ≤ c.loop-literal.literal-index = omega (arith, c.loop-literal-test.false) in
     subst (AreCovered c.loop-literal.self) (take_all c.loop-literal.literal-index assumed past) c.loop-literal.invariant.covered
+
+pub returns-in_err-assume_term-clause-stop : goal.returns-in_err-assume_term-clause-stop
+returns-in_err-assume_term-clause-stop c =
+    let same : Err c.in_err-assume_term.field-0.0 ≡ c.from_residual.result = search rules in
+    let ns = c.args.terms.now in
+    let assumed = c.args.assumed.now in
+    let k = c.loop-literal.literal-index in
+    let l : TermLit = get_or assumed k (record { term = 0; sign = false }) in
+    let has : Contains (terms_named assumed) l.term = contains_map (λ (m : TermLit). m.term) assumed l (Contains-get_or assumed k (record { term = 0; sign = false }) c.loop-literal-test.true) in
+    subst (λ r. IfErr r (IsRootStop ns (terms_named assumed))) same (root_of ns (terms_named assumed) l.term c.in_err-assume_term.field-0.0 has c.in_err-assume_term.ensures.stop)

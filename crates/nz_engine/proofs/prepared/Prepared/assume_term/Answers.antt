@@ -13,6 +13,6 @@ returns-clause-stands c =
     subst P c.self.view_is
     (on_ok_weaker c.cover.result
     (λ also levels more a.
-    term_assumed ns levels more own c.cover.new.self t c.args.level c.atoms_of_terms.ensures.atoms c.gates_are_named.ensures.named c.known_table.ensures.table c.requires.within
+    term_assumed ns levels more own c.cover.new.self t c.args.level c.atoms_of_terms.ensures.atoms c.rows_name_covered.ensures.named c.taken_terms_are_in_order.ensures.order (record { sums = c.forms_are_sums.ensures.sums; operands = c.operands_are_sorted.ensures.sorted }) c.known_table.ensures.table c.requires.within
     (also_from ns own c.cover.new.self true t c.args.level also) c.cover.ensures.above a)
     c.cover.ensures.covered)

@@ -1,5 +1,5 @@
-use Rattle.std.proofs.Common.{◌++◌, OnOk, map, refl, ap, ◌∙◌, subst}
-use Rattle.std.proofs.lemmas.Result.{on_ok_weaker}
+use Rattle.std.proofs.Common.{◌++◌, map, refl, ap, ◌∙◌, subst}
+use Rattle.nz_spec.specs.Table.{term_in}
 use Rattle.nz_sat.specs.Sats.{held_of}
 use Rattle.nz_engine.specs.Preparing.{PreparedState, CoversAlso}
 use Rattle.nz_engine.proofs.prepared.Prepared.cover.Goals as goal
@@ -7,22 +7,22 @@ use Rattle.nz_engine.proofs.prepared.Prepared.cover.Goals as goal
 pub returns-clause-covered : goal.returns-clause-covered
 returns-clause-covered c =
     let ns = c.args.terms.now in
-    let did = c.in_ok-clauses.ensures in
+    let did = c.in-Ok.ensures in
     let new : PreparedState = record { log = c.add_term.new.log; form = c.add_term.new.self; sat = c.hold.new.sat; given = c.self.inside.given; above = c.self.inside.above } in
-    let P : PreparedState → Type 0 = λ s. OnOk c.hold.result (CoversAlso ns s c.args.term c.args.level new) in
-    subst P c.self.view_is
-    (on_ok_weaker c.hold.result
-    (λ joined. record {
+    subst (λ (s : PreparedState). CoversAlso ns s c.args.term c.args.level new) c.self.view_is
+    (record {
       covers = did.covers;
       kept = did.kept;
       grown = did.grown;
       made = did.made_of;
       here = did.covered;
-      ids = c.in_ok-clauses.clauses.items;
+      ids = c.in-Ok.clauses.items;
       added = did.answered;
-      joined = joined ∙ ap (λ is. c.self.inside.sat.clauses ++ map (held_of c.add_term.new.log) is) c.deref.ensures.value;
+      joined = c.in_ok-hold.ensures.held ∙ ap (λ is. c.self.inside.sat.clauses ++ map (held_of c.add_term.new.log) is) c.deref.ensures.value;
       told = did.told;
       sound = did.sound;
       given = refl;
     })
-    c.hold.ensures.held)
+
+pub returns-in-Err-clause-stop : goal.returns-in-Err-clause-stop
+returns-in-Err-clause-stop c = c.stop_of.ensures.stop c.args.terms.now (term_in c.args.terms.now c.args.term) c.in-Err.ensures.stop

@@ -1,20 +1,29 @@
-use Rattle.std.proofs.Common.{false, refl, subst}
+use Rattle.std.proofs.Common.{rules, ◌≡◌, ℕ, false, length, refl, sym, ap, subst, ◌∙◌}
+use Rattle.std.specs.Prelude.{Contains, IsSome}
+use Rattle.nz_cform.specs.Listings.{listed_at}
 use Rattle.nz_engine.specs.Levels.{count_of}
-use Rattle.nz_engine.specs.Preparing.{PreparedState, CutsTo}
+use Rattle.nz_engine.specs.Preparing.{PreparedState, CutsTo, KeepsBounds}
+use Rattle.nz_engine.proofs.Going.{all_kept}
 use Rattle.nz_engine.proofs.prepared.Prepared.cut.Goals as goal
 
-pub returns : goal.returns
-returns c =
+pub returns-clause-cuts : goal.returns-clause-cuts
+returns-clause-cuts c =
     let new : PreparedState = record { log = c.drop_above.new.self; form = c.cut.new.self; sat = c.cut-2.new.self; given = c.count_up_to-self-inside.result; above = false } in
     let P : PreparedState → Type 0 = λ s. CutsTo s c.args.level (count_of c.args.levels.now) new in
-    record {
-      cuts = subst P c.self.view_is
-          (record {
-            log = c.drop_above.ensures.drops;
-            sound = c.drop_above.ensures.sound;
-            form = c.cut.ensures.cuts;
-            clauses = c.cut-2.ensures.clauses;
-            given = c.count_up_to-self-inside.ensures.count;
-            above = refl;
-          });
-    }
+    subst P c.self.view_is
+    (record {
+      log = c.drop_above.ensures.drops;
+      sound = c.drop_above.ensures.sound;
+      form = c.cut.ensures.cuts;
+      clauses = c.cut-2.ensures.clauses;
+      given = c.count_up_to-self-inside.ensures.count;
+      above = refl;
+    })
+
+pub returns-clause-keeps : goal.returns-clause-keeps
+returns-clause-keeps c = λ same.
+    let old = c.self.inside.form in
+    let long : length c.bounds.result.now ≡ length c.bounds-count.result.now = search rules in
+    let listed : (i : ℕ) → IsSome (listed_at old.bounds i) → Contains old.bounds.ids i = λ i some. subst (λ is. Contains is i) c.bounds-count.ensures.bounds ((c.bounds-count.ensures.listed i).1 some) in
+    subst (λ (s : PreparedState). KeepsBounds s.form c.cut.new.self) c.self.view_is
+    (all_kept old.bounds c.cut.new.self.bounds c.args.level listed c.cut.ensures.cuts.bounds (ap length (sym c.bounds.ensures.bounds) ∙ long ∙ ap length c.bounds-count.ensures.bounds))

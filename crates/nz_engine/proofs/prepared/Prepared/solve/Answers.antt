@@ -1,146 +1,180 @@
--- The atoms are noted and named, and the search runs over them.
-use Rattle.std.proofs.Common.{◌≡◌, ℕ, List, map, None, IfOk, OnOk, refl, sym, ap, ◌∙◌, subst}
-use Rattle.std.specs.Prelude.{◌↔◌, All, Contains, IsSome, IfSome}
+-- The atoms are named and noted, the theory learns of them, neighbouring bounds get their clauses, and the search runs over them.
+use Rattle.std.proofs.Common.{rules, ◌≡◌, ℕ, List, Option, Result, Err, IfErr, IfOk, refl, sym, ap, ◌∙◌, subst}
+use Rattle.std.specs.Prelude.{IfSome}
 use Rattle.nz_lists.proofs.Results.{on_ok}
-use Rattle.nz_spec.specs.Table.{Node}
-use Rattle.nz_spec.specs.Work.{unit_count}
+use Rattle.nz_spec.specs.Work.{IsSpent}
+use Rattle.nz_log.specs.declared.atoms.Atom.{Atom}
 use Rattle.nz_log.specs.declared.lits.Lit.{Lit}
-use Rattle.nz_log.specs.Atoms.{HasTerm, term_place}
+use Rattle.nz_log.specs.declared.stop.Stop.{Stop}
+use Rattle.nz_log.specs.declared.stop.Stop.TheVariants.{Memory}
 use Rattle.nz_log.specs.Logs.{IsLive, literals_at}
-use Rattle.nz_cform.specs.Forms.{covered_at}
+use Rattle.nz_log.specs.Standing.{Ends}
+use Rattle.nz_log.specs.Verdicts.{OnSpent, task_in}
+use Rattle.nz_reals.specs.Stands.{IsAt, IsOf}
 use Rattle.nz_sat.specs.Conflicts.{Refutes}
-use Rattle.nz_sat.specs.Numbers.{noted_atoms}
-use Rattle.nz_sat.specs.Sats.{IsAsked, IsSatisfied}
 use Rattle.nz_engine.specs.Checking.{IsPosed}
-use Rattle.nz_engine.specs.Preparing.{PreparedState, atoms_of}
-use Rattle.nz_engine.proofs.Naming.{atoms_noted, lines_noted, no_units}
+use Rattle.nz_engine.specs.Preparing.{PreparedState}
+use Rattle.nz_engine.proofs.Excluding.{prepared_in, ready_excluded}
+use Rattle.nz_engine.proofs.Ending.{legal_none, on_spent, works_begun, works_none, works_solved}
+use Rattle.nz_engine.proofs.Naming.{err_ends}
 use Rattle.nz_engine.proofs.Refuting.{refuted_by}
-use Rattle.nz_engine.proofs.Solving.{handed, named_atoms, named_consistent, named_have, named_ids, named_lits, named_noted, named_on_terms, named_within, posed_named, posed_on, told_lits, works_noted, works_on}
+use Rattle.nz_engine.proofs.Solving.{are_consistent, are_named, found_of, ids_learnable, ids_told, ids_within, is_asked, may_begin, named_have, named_lits, named_searched, posed_after, ready_as}
 use Rattle.nz_engine.proofs.prepared.Prepared.solve.Goals as goal
 
-pub returns-in_err-note_atoms-clause-works : goal.returns-in_err-note_atoms-clause-works
-returns-in_err-note_atoms-clause-works c = λ ns levels posed.
-    let own : PreparedState = record { log = c.self.inside.log; form = c.self.inside.form; sat = c.self.inside.sat; given = c.self.inside.given; above = c.self.inside.above } in
-    works_noted c.gates_decide.ensures.plain ns levels c.args.assumed.now own (subst (IsPosed ns levels c.args.assumed.now) (sym c.self.view_is) posed)
-    c.terms.result.now c.terms.ensures.once c.terms.ensures.covered c.args.work.now c.note_atoms.new.work (c.one_number.ensures.one ns posed.table)
-    c.requires.no_steps c.note_atoms.ensures.first
+pub ready-requires : goal.ready-requires
+ready-requires c = record { posed = c.requires.posed }
+
+pub returns-in_err-named-clause-ends : goal.returns-in_err-named-clause-ends
+returns-in_err-named-clause-ends c = λ levels posed.
+    let same : Err Memory ≡ c.from_residual.result = search rules in
+    let ns = c.args.terms.now in
+    let q = task_in ns levels c.args.assumed.now in
+    err_ends (Option ℕ) _ ns q c.args.work.now Memory _ same (legal_none q ns c.args.work.now c.requires.no_steps)
 
 pub returns-in_err-named-clause-works : goal.returns-in_err-named-clause-works
-returns-in_err-named-clause-works c = λ ns levels posed.
-    let own : PreparedState = record { log = c.self.inside.log; form = c.self.inside.form; sat = c.self.inside.sat; given = c.self.inside.given; above = c.self.inside.above } in
-    works_noted c.gates_decide.ensures.plain ns levels c.args.assumed.now own (subst (IsPosed ns levels c.args.assumed.now) (sym c.self.view_is) posed)
-    c.terms.result.now c.terms.ensures.once c.terms.ensures.covered c.args.work.now c.note_atoms.new.work (c.one_number.ensures.one ns posed.table)
-    c.requires.no_steps c.note_atoms.ensures.first
+returns-in_err-named-clause-works c = works_none c.args.terms.now c.args.work.now c.requires.no_steps
 
-pub solve-requires-clause-noted : goal.solve-requires-clause-noted
-solve-requires-clause-noted c =
-    let ts = c.terms.result.now in
-    let p = c.args.self.now in
-    let assumed = c.args.assumed.now in
-    let mid : PreparedState = record { log = c.self-2.inside.log; form = c.self-2.inside.form; sat = c.self-2.inside.sat; given = c.self-2.inside.given; above = c.self-2.inside.above } in
-    let named = handed c.named.new.self mid assumed c.deref.result.now _ c.deref-2.result.now _ c.in_ok-named.ensures.handed c.self-2.view_is c.deref.ensures.value c.deref-2.ensures.value in
-    let listed : mid.form.terms ≡ ts = ap (λ (s : PreparedState). s.form.terms) (c.self-2.view_is ∙ c.in_ok-named.ensures.rest) ∙ sym (c.terms.ensures.terms ∙ ap (λ (s : PreparedState). s.form.terms) c.self.view_is) in
-    named_noted c.atoms_of_terms.ensures.atoms mid assumed c.deref.result.now c.deref-2.result.now named c.note_atoms.new.work.lines
-    (ap noted_atoms (lines_noted ts c.args.work.now c.note_atoms.new.work c.requires.no_steps c.in_ok-note_atoms.ensures.all) ∙ atoms_noted ts ∙ sym listed)
+pub begun-requires-clause-learnable : goal.begun-requires-clause-learnable
+begun-requires-clause-learnable c =
+    let laws = c.search_laws.ensures.laws in
+    let r = ready_as c.self.view_is c.deref-atoms.ensures.value c.deref-literals.ensures.value c.in_ok-named.ensures.ready in
+    ids_learnable laws.rows laws.atoms r.some.1 r.handed
+
+pub returns-in_err-theory-clause-ends : goal.returns-in_err-theory-clause-ends
+returns-in_err-theory-clause-ends c =
+    let laws = c.search_laws.ensures.laws in
+    let r = ready_as c.self.view_is c.deref-atoms.ensures.value c.deref-literals.ensures.value c.in_ok-named.ensures.ready in
+    let ns = c.args.terms.now in
+    λ levels posed.
+    let same : Err c.in_err-theory.field-0.0 ≡ c.from_residual-in_err-theory.result = search rules in
+    let q = task_in ns levels c.args.assumed.now in
+    err_ends (Option ℕ) _ ns q c.begun.new.work c.in_err-theory.field-0.0 _ same (c.in_err-theory.ensures.stopped ns q (may_begin laws.rows laws.atoms (r.posed levels posed) r.handed))
+
+pub returns-in_err-theory-clause-works : goal.returns-in_err-theory-clause-works
+returns-in_err-theory-clause-works c =
+    let laws = c.search_laws.ensures.laws in
+    let r = ready_as c.self.view_is c.deref-atoms.ensures.value c.deref-literals.ensures.value c.in_ok-named.ensures.ready in
+    works_begun c.args.terms.now c.self.inside.log.atoms c.deref-atoms.result.now c.args.work.now c.begun.new.work (ids_within laws.rows laws.atoms r.some.1 r.handed) c.begun.ensures.begun
+
+pub returns-in_err-exclude-clause-ends : goal.returns-in_err-exclude-clause-ends
+returns-in_err-exclude-clause-ends c =
+    let laws = c.search_laws.ensures.laws in
+    let first = ready_as c.self.view_is c.deref-atoms.ensures.value c.deref-literals.ensures.value c.in_ok-named.ensures.ready in
+    let ns = c.args.terms.now in
+    λ levels posed.
+    let same : Err Memory ≡ c.from_residual-in_err-exclude.result = search (rules, c.from_residual-in_err-exclude.ensures, c.in_err-exclude.is, c.in_err-exclude.was) in
+    let q = task_in ns levels c.args.assumed.now in
+    let stands = c.in_ok-theory.ensures.stands ns q (may_begin laws.rows laws.atoms (first.posed levels posed) first.handed) in
+    err_ends (Option ℕ) _ ns q c.begun.new.work Memory _ same (stands.point, stands.legal)
+
+pub returns-in_err-exclude-clause-spent : goal.returns-in_err-exclude-clause-spent
+returns-in_err-exclude-clause-spent c =
+    let same : Err Memory ≡ c.from_residual-in_err-exclude.result = search (rules, c.from_residual-in_err-exclude.ensures, c.in_err-exclude.is, c.in_err-exclude.was) in
+    subst (λ (r : Result (Option ℕ) Stop). IfErr r (λ s. OnSpent s (IsSpent c.begun.new.work))) same tt
+
+pub returns-in_err-exclude-clause-works : goal.returns-in_err-exclude-clause-works
+returns-in_err-exclude-clause-works c =
+    let laws = c.search_laws.ensures.laws in
+    let first = ready_as c.self.view_is c.deref-atoms.ensures.value c.deref-literals.ensures.value c.in_ok-named.ensures.ready in
+    works_begun c.args.terms.now c.self.inside.log.atoms c.deref-atoms.result.now c.args.work.now c.begun.new.work (ids_within laws.rows laws.atoms first.some.1 first.handed) c.begun.ensures.begun
+
+pub solve-requires-clause-held : goal.solve-requires-clause-held
+solve-requires-clause-held c =
+    let laws = c.search_laws.ensures.laws in
+    let first = ready_as c.self.view_is c.deref-atoms.ensures.value c.deref-literals.ensures.value c.in_ok-named.ensures.ready in
+    let r = ready_excluded laws first c.self.view_is c.in_ok-exclude.ensures.excludes (ap prepared_in c.self-inside.view_is ∙ c.self-2.view_is) in
+    r.some.1.standing.raised.held
 
 pub solve-requires-clause-named : goal.solve-requires-clause-named
 solve-requires-clause-named c =
-    let p = c.args.self.now in
-    let assumed = c.args.assumed.now in
-    let mid : PreparedState = record { log = c.self-2.inside.log; form = c.self-2.inside.form; sat = c.self-2.inside.sat; given = c.self-2.inside.given; above = c.self-2.inside.above } in
-    let named = handed c.named.new.self mid assumed c.deref.result.now _ c.deref-2.result.now _ c.in_ok-named.ensures.handed c.self-2.view_is c.deref.ensures.value c.deref-2.ensures.value in
-    let begun = λ (ns : List Node) (levels : List (List ℕ)) (posed : IsPosed ns levels assumed p).
-    posed_named c.atoms_of_terms.ensures.atoms c.covers_stay.ensures.stay c.logs_stay.ensures.stay c.logs_stay_leveled.ensures.stay ns levels assumed p c.named.new.self mid
-    c.in_ok-named.ensures.rest c.self-2.view_is c.in_ok-named.ensures.joins c.in_ok-named.ensures.all posed in
-    let posed = c.requires.posed in
-    named_atoms c.atoms_of_terms.ensures.atoms mid assumed c.deref.result.now c.deref-2.result.now named c.gates_decide.ensures.plain posed.0 posed.1 (begun posed.0 posed.1 posed.2)
+    let laws = c.search_laws.ensures.laws in
+    let first = ready_as c.self.view_is c.deref-atoms.ensures.value c.deref-literals.ensures.value c.in_ok-named.ensures.ready in
+    let r = ready_excluded laws first c.self.view_is c.in_ok-exclude.ensures.excludes (ap prepared_in c.self-inside.view_is ∙ c.self-2.view_is) in
+    are_named laws.rows laws.atoms r.some.1 r.handed
+
+pub solve-requires-clause-told_terms : goal.solve-requires-clause-told_terms
+solve-requires-clause-told_terms c =
+    let laws = c.search_laws.ensures.laws in
+    let first = ready_as c.self.view_is c.deref-atoms.ensures.value c.deref-literals.ensures.value c.in_ok-named.ensures.ready in
+    let r = ready_excluded laws first c.self.view_is c.in_ok-exclude.ensures.excludes (ap prepared_in c.self-inside.view_is ∙ c.self-2.view_is) in
+    ids_told laws.rows laws.atoms r.some.1 r.handed
 
 pub solve-requires-clause-consistent : goal.solve-requires-clause-consistent
 solve-requires-clause-consistent c =
-    let p = c.args.self.now in
-    let assumed = c.args.assumed.now in
-    let mid : PreparedState = record { log = c.self-2.inside.log; form = c.self-2.inside.form; sat = c.self-2.inside.sat; given = c.self-2.inside.given; above = c.self-2.inside.above } in
-    let named = handed c.named.new.self mid assumed c.deref.result.now _ c.deref-2.result.now _ c.in_ok-named.ensures.handed c.self-2.view_is c.deref.ensures.value c.deref-2.ensures.value in
-    named_consistent c.atoms_of_terms.ensures.atoms mid assumed c.deref.result.now c.deref-2.result.now named c.requires.consistent
-
-pub solve-requires-clause-notes : goal.solve-requires-clause-notes
-solve-requires-clause-notes c =
-    let ts = c.terms.result.now in
-    ap unit_count (lines_noted ts c.args.work.now c.note_atoms.new.work c.requires.no_steps c.in_ok-note_atoms.ensures.all) ∙ no_units ts
-
-pub solve-requires-clause-told : goal.solve-requires-clause-told
-solve-requires-clause-told c = told_lits c.self-2.inside.sat.theory.told
+    let laws = c.search_laws.ensures.laws in
+    let first = ready_as c.self.view_is c.deref-atoms.ensures.value c.deref-literals.ensures.value c.in_ok-named.ensures.ready in
+    let r = ready_excluded laws first c.self.view_is c.in_ok-exclude.ensures.excludes (ap prepared_in c.self-inside.view_is ∙ c.self-2.view_is) in
+    are_consistent laws.rows laws.atoms r.some.1 r.handed c.requires.consistent
 
 pub returns-clause-posed : goal.returns-clause-posed
 returns-clause-posed c =
+    let laws = c.search_laws.ensures.laws in
+    let first = ready_as c.self.view_is c.deref-atoms.ensures.value c.deref-literals.ensures.value c.in_ok-named.ensures.ready in
+    let r = ready_excluded laws first c.self.view_is c.in_ok-exclude.ensures.excludes (ap prepared_in c.self-inside.view_is ∙ c.self-2.view_is) in
+    let new : PreparedState = record { log = c.solve.new.log; form = c.self-inside.inside.0.1.1.0; sat = c.solve.new.self; given = c.self-inside.inside.0.1.1.1.1.0; above = c.self-inside.inside.0.1.1.1.1.1.0 } in
+    let ns = c.args.terms.now in
+    let grows = c.solve.ensures.grows in
     on_ok c.solve.result
-    (λ ns levels posed.
-    let p = c.args.self.now in
-    let assumed = c.args.assumed.now in
-    let mid : PreparedState = record { log = c.self-2.inside.log; form = c.self-2.inside.form; sat = c.self-2.inside.sat; given = c.self-2.inside.given; above = c.self-2.inside.above } in
-    let named = handed c.named.new.self mid assumed c.deref.result.now _ c.deref-2.result.now _ c.in_ok-named.ensures.handed c.self-2.view_is c.deref.ensures.value c.deref-2.ensures.value in
-    let begun = λ (ns : List Node) (levels : List (List ℕ)) (posed : IsPosed ns levels assumed p).
-    posed_named c.atoms_of_terms.ensures.atoms c.covers_stay.ensures.stay c.logs_stay.ensures.stay c.logs_stay_leveled.ensures.stay ns levels assumed p c.named.new.self mid
-    c.in_ok-named.ensures.rest c.self-2.view_is c.in_ok-named.ensures.joins c.in_ok-named.ensures.all posed in
-    let new : PreparedState = record { log = c.solve.new.log; form = c.self-2.inside.form; sat = c.solve.new.self; given = c.self-2.inside.given; above = c.self-2.inside.above } in
-    let begin = begun ns levels posed in
-    let atoms = c.atoms_of_terms.ensures.atoms in
-    posed_on atoms c.covers_stay.ensures.stay ns levels assumed mid new refl refl refl c.solve.ensures.grows c.solve.ensures.held
-    (named_on_terms atoms mid assumed c.deref.result.now c.deref-2.result.now named new c.solve.ensures.grows refl c.solve.ensures.named)
-    (c.solve.ensures.sound ns levels tt (named_within atoms mid assumed c.deref.result.now c.deref-2.result.now named c.gates_decide.ensures.plain ns levels begin)) begin)
+    (λ levels posed.
+    let begun = r.posed levels posed in
+    let within = ids_within laws.rows laws.atoms begun r.handed in
+    posed_after laws.atoms laws.covers r new refl refl refl levels grows c.solve.ensures.held (named_searched laws.rows laws.atoms begun r.handed new grows refl c.solve.ensures.named)
+    (c.solve.ensures.sound ns levels (c.in_ok-theory.ensures.over ns begun.table (ids_within laws.rows laws.atoms (first.posed levels posed) first.handed)) within) begun)
 
-pub returns-clause-satisfied : goal.returns-clause-satisfied
-returns-clause-satisfied c =
-    let p = c.args.self.now in
+pub returns-clause-ends : goal.returns-clause-ends
+returns-clause-ends c =
+    let laws = c.search_laws.ensures.laws in
+    let first = ready_as c.self.view_is c.deref-atoms.ensures.value c.deref-literals.ensures.value c.in_ok-named.ensures.ready in
+    let r = ready_excluded laws first c.self.view_is c.in_ok-exclude.ensures.excludes (ap prepared_in c.self-inside.view_is ∙ c.self-2.view_is) in
+    let ns = c.args.terms.now in
     let assumed = c.args.assumed.now in
-    let mid : PreparedState = record { log = c.self-2.inside.log; form = c.self-2.inside.form; sat = c.self-2.inside.sat; given = c.self-2.inside.given; above = c.self-2.inside.above } in
-    let named = handed c.named.new.self mid assumed c.deref.result.now _ c.deref-2.result.now _ c.in_ok-named.ensures.handed c.self-2.view_is c.deref.ensures.value c.deref-2.ensures.value in
-    let new : PreparedState = record { log = c.solve.new.log; form = c.self-2.inside.form; sat = c.solve.new.self; given = c.self-2.inside.given; above = c.self-2.inside.above } in
-    let atoms = c.atoms_of_terms.ensures.atoms in
-    let own_lits = named_lits atoms mid assumed c.deref.result.now c.deref-2.result.now named new c.solve.ensures.grows refl in
-    let own_ids = named_ids atoms mid assumed c.deref.result.now c.deref-2.result.now named new c.solve.ensures.grows refl in
-    subst (λ (ls : List Lit). IfOk c.solve.result (λ r. r ≡ None → IsSatisfied c.solve.new.log c.solve.new.self ls (atoms_of new))) own_lits
-    (subst (λ (us : List ℕ). IfOk c.solve.result (λ r. r ≡ None → IsSatisfied c.solve.new.log c.solve.new.self c.deref-2.result.now us)) own_ids c.solve.ensures.satisfied)
+    let ends : (levels : List (List ℕ)) → IsPosed ns levels assumed c.args.self.now → Ends (IsAt c.solve.new.self.theory ns) ns (task_in ns levels assumed) c.solve.new.work c.solve.result = λ levels posed.
+    let begun = r.posed levels posed in
+    let was = first.posed levels posed in
+    let q = task_in ns levels assumed in
+    c.solve.ensures.ends ns levels q (c.in_ok-theory.ensures.over ns begun.table (ids_within laws.rows laws.atoms was first.handed)) (is_asked laws.rows laws.atoms begun r.handed)
+    (c.in_ok-theory.ensures.stands ns q (may_begin laws.rows laws.atoms was first.handed)) in
+    ends
 
-pub returns-clause-there : goal.returns-clause-there
-returns-clause-there c =
-    let p = c.args.self.now in
+pub returns-clause-found : goal.returns-clause-found
+returns-clause-found c =
+    let laws = c.search_laws.ensures.laws in
+    let first = ready_as c.self.view_is c.deref-atoms.ensures.value c.deref-literals.ensures.value c.in_ok-named.ensures.ready in
+    let r = ready_excluded laws first c.self.view_is c.in_ok-exclude.ensures.excludes (ap prepared_in c.self-inside.view_is ∙ c.self-2.view_is) in
+    let new : PreparedState = record { log = c.solve.new.log; form = c.self-inside.inside.0.1.1.0; sat = c.solve.new.self; given = c.self-inside.inside.0.1.1.1.1.0; above = c.self-inside.inside.0.1.1.1.1.1.0 } in
+    let ns = c.args.terms.now in
     let assumed = c.args.assumed.now in
-    let mid : PreparedState = record { log = c.self-2.inside.log; form = c.self-2.inside.form; sat = c.self-2.inside.sat; given = c.self-2.inside.given; above = c.self-2.inside.above } in
-    let named = handed c.named.new.self mid assumed c.deref.result.now _ c.deref-2.result.now _ c.in_ok-named.ensures.handed c.self-2.view_is c.deref.ensures.value c.deref-2.ensures.value in
-    let new : PreparedState = record { log = c.solve.new.log; form = c.self-2.inside.form; sat = c.solve.new.self; given = c.self-2.inside.given; above = c.self-2.inside.above } in
-    on_ok c.solve.result (named_have c.atoms_of_terms.ensures.atoms mid assumed c.deref.result.now c.deref-2.result.now named new c.solve.ensures.grows refl)
+    let ends : (levels : List (List ℕ)) → IsPosed ns levels assumed c.args.self.now → Ends (IsAt c.solve.new.self.theory ns) ns (task_in ns levels assumed) c.solve.new.work c.solve.result = λ levels posed.
+    let begun = r.posed levels posed in
+    let was = first.posed levels posed in
+    let q = task_in ns levels assumed in
+    c.solve.ensures.ends ns levels q (c.in_ok-theory.ensures.over ns begun.table (ids_within laws.rows laws.atoms was first.handed)) (is_asked laws.rows laws.atoms begun r.handed)
+    (c.in_ok-theory.ensures.stands ns q (may_begin laws.rows laws.atoms was first.handed)) in
+    let levels = c.requires.posed.0 in
+    let atoms : c.self-inside.inside.0.1.0.atoms ≡ c.self.inside.log.atoms =
+    ap (λ (s : PreparedState). s.log.atoms) (ap prepared_in c.self-inside.view_is ∙ c.self-2.view_is) ∙ c.in_ok-exclude.ensures.excludes.adds.keeps.atoms ∙ sym (ap (λ (s : PreparedState). s.log.atoms) c.self.view_is) in
+    let of : IsOf c.solve.new.self.theory c.self-inside.inside.0.1.0.atoms c.deref-atoms.result.now =
+    c.solve.ensures.of c.self-inside.inside.0.1.0.atoms c.deref-atoms.result.now (subst (λ (all : List Atom). IsOf c.in_ok-theory.theory all c.deref-atoms.result.now) (sym atoms) c.in_ok-theory.ensures.of) in
+    found_of laws.rows laws.atoms r.some.1 r.handed new c.solve.ensures.grows refl of (task_in ns levels assumed) c.solve.new.work c.solve.result c.solve.ensures.satisfied c.solve.ensures.feasible
+    (ends levels c.requires.posed.1)
 
 pub returns-clause-refuted : goal.returns-clause-refuted
 returns-clause-refuted c =
-    let p = c.args.self.now in
-    let assumed = c.args.assumed.now in
-    let mid : PreparedState = record { log = c.self-2.inside.log; form = c.self-2.inside.form; sat = c.self-2.inside.sat; given = c.self-2.inside.given; above = c.self-2.inside.above } in
-    let named = handed c.named.new.self mid assumed c.deref.result.now _ c.deref-2.result.now _ c.in_ok-named.ensures.handed c.self-2.view_is c.deref.ensures.value c.deref-2.ensures.value in
-    let new : PreparedState = record { log = c.solve.new.log; form = c.self-2.inside.form; sat = c.solve.new.self; given = c.self-2.inside.given; above = c.self-2.inside.above } in
-    let atoms = c.atoms_of_terms.ensures.atoms in
-    let have = named_have atoms mid assumed c.deref.result.now c.deref-2.result.now named new c.solve.ensures.grows refl in
-    let own_lits = named_lits atoms mid assumed c.deref.result.now c.deref-2.result.now named new c.solve.ensures.grows refl in
-    refuted_by c.solve.new.log assumed have.named c.solve.result
-    (subst (λ (ls : List Lit). IfOk c.solve.result (λ o. IfSome o (λ id. IsLive c.solve.new.log id × Refutes ls (literals_at c.solve.new.log id)))) own_lits c.solve.ensures.refuted)
+    let laws = c.search_laws.ensures.laws in
+    let first = ready_as c.self.view_is c.deref-atoms.ensures.value c.deref-literals.ensures.value c.in_ok-named.ensures.ready in
+    let r = ready_excluded laws first c.self.view_is c.in_ok-exclude.ensures.excludes (ap prepared_in c.self-inside.view_is ∙ c.self-2.view_is) in
+    let new : PreparedState = record { log = c.solve.new.log; form = c.self-inside.inside.0.1.1.0; sat = c.solve.new.self; given = c.self-inside.inside.0.1.1.1.1.0; above = c.self-inside.inside.0.1.1.1.1.1.0 } in
+    let grows = c.solve.ensures.grows in
+    let log = c.solve.new.log in
+    refuted_by log c.args.assumed.now (named_have laws.rows laws.atoms r.some.1 r.handed new grows refl).named c.solve.result
+    (subst (λ (ls : List Lit). IfOk c.solve.result (λ o. IfSome o (λ id. IsLive log id × Refutes ls (literals_at log id)))) (named_lits laws.rows laws.atoms r.some.1 r.handed new grows refl) c.solve.ensures.refuted)
 
 pub returns-clause-works : goal.returns-clause-works
-returns-clause-works c = λ ns levels posed.
-    let ts = c.terms.result.now in
-    let p = c.args.self.now in
-    let assumed = c.args.assumed.now in
-    let mid : PreparedState = record { log = c.self-2.inside.log; form = c.self-2.inside.form; sat = c.self-2.inside.sat; given = c.self-2.inside.given; above = c.self-2.inside.above } in
-    let named = handed c.named.new.self mid assumed c.deref.result.now _ c.deref-2.result.now _ c.in_ok-named.ensures.handed c.self-2.view_is c.deref.ensures.value c.deref-2.ensures.value in
-    let begun = λ (ns : List Node) (levels : List (List ℕ)) (posed : IsPosed ns levels assumed p).
-    posed_named c.atoms_of_terms.ensures.atoms c.covers_stay.ensures.stay c.logs_stay.ensures.stay c.logs_stay_leveled.ensures.stay ns levels assumed p c.named.new.self mid
-    c.in_ok-named.ensures.rest c.self-2.view_is c.in_ok-named.ensures.joins c.in_ok-named.ensures.all posed in
-    let begin = begun ns levels posed in
-    let listed : mid.form.terms ≡ ts = ap (λ (s : PreparedState). s.form.terms) (c.self-2.view_is ∙ c.in_ok-named.ensures.rest) ∙ sym (c.terms.ensures.terms ∙ ap (λ (s : PreparedState). s.form.terms) c.self.view_is) in
-    works_on c.gates_decide.ensures.plain ns levels assumed mid begin ts c.terms.ensures.once (subst (λ us. (t : ℕ) → Contains us t ↔ IsSome (covered_at mid.form t)) listed named.listed.covered)
-    c.atoms_of_terms.ensures.atoms (subst (All (HasTerm mid.log.atoms)) listed named.there.covered)
-    c.args.work.now c.note_atoms.new.work c.solve.new.work (c.one_number.ensures.one ns posed.table) c.requires.no_steps c.note_atoms.ensures.first c.in_ok-note_atoms.ensures.all named.there.named
-    (λ ns' levels' q asked legal.
-    c.solve.ensures.legal ns' levels' q tt
-    (subst (λ (us : List ℕ). IsAsked ns' levels' mid.log us c.deref-2.result.now q) (sym (named.terms ∙ ap (map (term_place mid.log.atoms)) listed))
-    (subst (λ (ls : List Lit). IsAsked ns' levels' mid.log (map (term_place mid.log.atoms) ts) ls q) (sym named.on_atoms) asked)) legal)
-    c.solve.ensures.notes c.solve.ensures.limit
+returns-clause-works c =
+    let laws = c.search_laws.ensures.laws in
+    let first = ready_as c.self.view_is c.deref-atoms.ensures.value c.deref-literals.ensures.value c.in_ok-named.ensures.ready in
+    works_solved c.args.terms.now c.self.inside.log.atoms c.deref-atoms.result.now c.args.work.now c.begun.new.work c.solve.new.work (ids_within laws.rows laws.atoms first.some.1 first.handed) c.begun.ensures.begun
+    c.solve.ensures.notes c.solve.ensures.limit c.solve.ensures.within
+
+pub returns-clause-spent : goal.returns-clause-spent
+returns-clause-spent c = on_spent c.solve.result (IsSpent c.solve.new.work) c.solve.ensures.spent

@@ -1,9 +1,10 @@
-use Rattle.std.proofs.Common.{◌<◌, length, rules}
+use Rattle.std.proofs.Common.{rules}
+use Rattle.nz_engine_tests.specs.Benches.{IsFormula}
 use Rattle.nz_engine_tests.proofs.Telling.{added}
 use Rattle.nz_engine_tests.proofs.bench.Bench.assert.Goals as goal
 
--- the term is one of the table, and is asserted
+-- the term is a formula of the table, and is asserted
 pub invariant_of-self-2 : goal.invariant_of-self-2
 invariant_of-self-2 c =
-    let within : c.args.term < length c.self.inside.terms = search rules in
-    added c.self.inside.terms c.self.inside.engine c.add.new.self c.self.inside.depth c.args.term c.self.invariant within c.in_ok-add.ensures.ok c.add.ensures.table
+    let formula : IsFormula c.self.inside.terms c.args.term = search rules in
+    added c.self.inside.terms c.self.inside.engine c.add.new.self c.self.inside.depth c.args.term c.self.invariant formula c.in_ok-add.ensures.ok c.add.ensures.table

@@ -1,11 +1,11 @@
 -- The clause is in order over the old log, and the old clauses stay so.
 use Rattle.std.proofs.Common.{◌≡◌, ℕ, ◌<◌, ◌≤◌, List, sym, subst, arith, rules}
 use Rattle.std.specs.Prelude.{IfOk, OnErr}
+use Rattle.std.proofs.lemmas.List.Elements.{recursion_from_All}
 use Rattle.nz_log.specs.declared.origins.Link.{Link}
 use Rattle.nz_log.specs.Atoms.{IsLitIn}
 use Rattle.nz_log.specs.Logs.{LogState, chain_entry, chain_of, level_at, level_of_links, level_with, IsLive, Puts, RestsOn}
 use Rattle.nz_log.proofs.Growing.{chain_grows}
-use Rattle.nz_log.proofs.Members.{each_of}
 use Rattle.nz_log.proofs.Ordering.{chain_rests}
 use Rattle.nz_log.proofs.Soundness.{chain_in_order, level_grows, rule_keeps_order}
 use Rattle.nz_log.proofs.log.Log.chain.Goals as goal
@@ -20,7 +20,7 @@ returns-clause-sound c ns levels within order =
     let atoms : c.put.new.self.atoms ≡ s.atoms = search rules in
     rule_keeps_order s c.put.new.self e c.put.result made unchanged atoms ns levels
     (λ id above. chain_in_order ns levels s order id c.args.first ks above c.requires.first
-    (each_of (λ (k : Link). IsLive s k.clause) ks c.requires.live) (each_of (λ (k : Link). IsLitIn ns s.atoms k.literal) ks within))
+    (recursion_from_All (λ (k : Link). IsLive s k.clause) ks c.requires.live) (recursion_from_All (λ (k : Link). IsLitIn ns s.atoms k.literal) ks within))
     order
 
 pub returns-clause-grows : goal.returns-clause-grows

@@ -1,5 +1,5 @@
 -- The sum is made, and then the clause is put.
-use Rattle.std.proofs.Common.{◌≡◌, ◌++◌, ℕ, List, Result, Ok, Err, ap, sym, subst, ◌∙◌, rules}
+use Rattle.std.proofs.Common.{◌≡◌, ◌++◌, ℕ, List, Result, Ok, Err, refl, ap, sym, subst, ◌∙◌, rules}
 use Rattle.std.specs.Prelude.{IfErr}
 use Rattle.std.proofs.lemmas.Result.{err_from_is_err_and}
 use Rattle.nz_base.specs.declared.errors.Memory.{Memory}
@@ -63,7 +63,7 @@ returns-clause-clause c =
 pub returns-clause-grows : goal.returns-clause-grows
 returns-clause-grows c =
     λ told.
-    axiom_grows c.args.self.now c.put_axiom.new.self c.in_ok-put_axiom.field-0 (farkas_of c.args.multiples.now) (once are_same_lit (negated_lits c.args.multiples.now))
+    axiom_grows c.args.self.now c.put_axiom.new.self c.in_ok-put_axiom.field-0 (farkas_of c.args.multiples.now) (once are_same_lit (negated_lits c.args.multiples.now)) refl
     (put_entry (goal.at.returns-clause-grows c).In_ok-put_axiom) told
 
 pub returns-clause-sound : goal.returns-clause-sound

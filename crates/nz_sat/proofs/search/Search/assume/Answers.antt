@@ -46,7 +46,7 @@ returns-in-None-clause-comes c held assumed may =
     (put_waits log held assumed l s may c.requires.undecided free t size goes i has) in
     subst (λ (n : ℕ). Waits c.assume.new.self.entries n (literals_at log i)) (sym c.len-from.ensures.count) at in
     assume_goes log held assumed l s may c.requires.undecided free t size goes c.propagate.result (p.order c.assume.ensures.order)
-    (p.implied (subst I (sym put) before.implied))
+    (p.implied (subst I (sym put) before.on.implied))
     (p.reasons (ids held) h.only (subst R (sym put) before.reasons))
     (λ told k d inside.
     p.all_open told (get_or (ids held) k d) (h.listed k d inside) (waits (get_or (ids held) k d) (Contains-get_or (ids held) k d inside)))

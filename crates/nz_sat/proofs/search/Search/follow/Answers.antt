@@ -12,7 +12,7 @@ returns-clause-comes c held may =
     let t = c.propagate.new.trail in
     let h = may.search in
     record {
-      search = goes_search log held s t h p.size (p.order h.order) p.goes_on (p.implied h.implied) (p.reasons (ids held) h.only h.reasons);
+      search = goes_search log held s t h p.size (p.order h.on.order) p.goes_on (p.implied h.on.implied) (p.reasons (ids held) h.only h.reasons);
       were_open = goes_were_open log held s.trail.entries t.entries p.goes_on may.were_open;
       goes_on = p.goes_on;
       told_so = open_or_falsified log held s t.entries c.propagate.result h

@@ -1,8 +1,9 @@
-use Rattle.std.proofs.Common.{◌≡◌, length}
+use Rattle.std.proofs.Common.{◌≡◌, ◌+◌, length}
+use Rattle.nz_sat.specs.Theories.{told_on}
 use Rattle.nz_sat.specs.Trails.{IsFrontOf, below}
 use Rattle.nz_sat.proofs.search.Search.jump.Given as goal
 
--- what is up to the level is as it was
+-- what is left of the trail, and how many bounds of what was taken off were told
 abbrev pub invariant-loop-literal : goal.invariant-loop-literal
 invariant-loop-literal l =
     record {
@@ -10,6 +11,7 @@ invariant-loop-literal l =
       size : l.self.trail.size ≡ l.fn.self.trail.size;
       kept : below l.level l.self.trail.entries ≡ below l.level l.fn.self.trail.entries;
       front : IsFrontOf l.self.trail.entries l.fn.self.trail.entries;
+      count : length (told_on l.fn.self.bounds l.fn.self.trail.entries) ≡ length (told_on l.fn.self.bounds l.self.trail.entries) + l.untold;
     }
 
 abbrev pub decreases-loop-literal : goal.decreases-loop-literal

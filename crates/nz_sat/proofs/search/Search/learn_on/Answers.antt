@@ -1,24 +1,34 @@
 -- The next conflict, after a clause was learned.
-use Rattle.std.proofs.Common.{ap, rules}
+use Rattle.std.proofs.Common.{◌≡◌, Err, ap, rules, subst, sym}
 use Rattle.nz_sat.specs.declared.search.Search.{Search}
-use Rattle.nz_sat.proofs.Consulting.{advances_on, learned_follows, turns_learned}
-use Rattle.nz_sat.proofs.Keeping.{search_usable}
+use Rattle.nz_sat.proofs.Advancing.{advances_err}
+use Rattle.nz_sat.proofs.Consulting.{learned_advances, learned_follows, turns_learned}
+use Rattle.nz_sat.proofs.Listing.{adds_limit}
 use Rattle.nz_sat.proofs.search.Search.learn_on.Goals as goal
-
-pub conflict-requires-clause-usable : goal.conflict-requires-clause-usable
-conflict-requires-clause-usable g c = search_usable c.learn.new.log c.learn.new.held.items c.learn.new.self c.in_ok-from.ensures.learned.search
 
 pub returns-in_err-from-clause-steps : goal.returns-in_err-from-clause-steps
 returns-in_err-from-clause-steps g c =
-    record { advances = c.learn.ensures.advances; known = c.learn.ensures.over; told = search rules; met = search rules; spent = search rules }
+    let same : Err c.in_err-from.field-0.0 ≡ c.from_residual.result = search rules in
+    record { advances = advances_err c.from_residual.result same c.in_err-from.ensures.advances; met = search rules; spent = search rules }
+
+pub conflict-requires-clause-follow : goal.conflict-requires-clause-follow
+conflict-requires-clause-follow g c = (c.learn.new.held.items, learned_follows c.in_ok-from.ensures.learned)
+
+pub conflict-requires-clause-of : goal.conflict-requires-clause-of
+conflict-requires-clause-of g c =
+    let l = c.in_ok-from.ensures.learned in
+    subst (g.T.Theory.is_of c.learn.new.theory c.learn.new.log.atoms) (sym l.carries.atoms)
+    (g.T.Theory.stays c.learn.new.theory c.args.log.now.atoms c.learn.new.log.atoms c.args.self.now.atoms
+    (c.learn.ensures.advances.keeps.of c.args.log.now.atoms c.args.self.now.atoms c.requires.of) c.learn.ensures.advances.grows.atoms)
+
+pub conflict-requires-clause-noted : goal.conflict-requires-clause-noted
+conflict-requires-clause-noted g c = c.in_ok-from.ensures.learned.noted.trail
 
 pub returns-clause-steps : goal.returns-clause-steps
 returns-clause-steps g c =
     let l = c.in_ok-from.ensures.learned in
     record {
-      advances = advances_on l.carries c.learn.ensures.advances c.learn.ensures.over (c.conflict.ensures.advances c.learn.new.held.items (learned_follows l));
-      known = λ ns over. c.conflict.ensures.over ns (c.learn.ensures.over ns over);
-      told = c.conflict.ensures.told;
+      advances = learned_advances l c.in_ok-from.ensures.advances (c.conflict.ensures.advances c.learn.new.held.items (learned_follows l));
       met = c.conflict.ensures.met;
       spent = c.conflict.ensures.spent;
     }
@@ -27,5 +37,5 @@ pub returns-clause-turns : goal.returns-clause-turns
 returns-clause-turns g c =
     let l = c.in_ok-from.ensures.learned in
     let may = learned_follows l in
-    turns_learned c.conflict.new.self l c.learn.ensures.advances.limit (c.conflict.ensures.advances c.learn.new.held.items may).grows c.conflict.ensures.units
-    (ap (λ (r : Search). r.atoms) c.conflict.ensures.rest) c.conflict.result (c.conflict.ensures.comes c.learn.new.held.items may)
+    turns_learned c.conflict.new.self l (adds_limit c.args.work.now c.learn.new.work c.learn.ensures.advances.adds) (c.conflict.ensures.advances c.learn.new.held.items may).grows c.conflict.ensures.adds
+    (ap (λ (r : Search). r.atoms) c.conflict.ensures.rest) c.conflict.result c.conflict.ensures.noted (c.conflict.ensures.comes c.learn.new.held.items may)

@@ -1,17 +1,20 @@
 -- One clause more is in the index.
 use Rattle.std.proofs.Common.{◌≡◌, ℕ, ◌<◌, List, length, false, get_or, inl, inr, ap, sym, subst, ◌∙◌, arith, below_more, rules}
-use Rattle.std.specs.Prelude.{All, Contains, IsSome, replicate, slice_get}
+use Rattle.std.specs.Prelude.{All, Contains, replicate}
 use Rattle.std.proofs.lemmas.List.{get_or_default, length-replicate}
 use Rattle.std.proofs.lemmas.List.Elements.{All-contains, All-map, All-nil}
 use Rattle.nz_log.specs.declared.lits.Lit.{Lit}
+use Rattle.nz_log.specs.Leveled.{AreToldAtoms}
 use Rattle.nz_log.specs.Logs.{literals_at}
 use Rattle.nz_sat.specs.declared.clauses.Held.{Held}
 use Rattle.nz_sat.specs.declared.trail.Assigned.{Assigned}
 use Rattle.nz_sat.specs.Clauses.{HasReasonOf, IsImplied, IsListed, IsOfSize}
-use Rattle.nz_sat.specs.Conflicts.{AreUnmarked}
+use Rattle.nz_sat.specs.Conflicts.{AreUnmarked, is_marked}
 use Rattle.nz_sat.specs.Trails.{EachBehind, IsTrail, TrailState, empty_trail}
 use Rattle.nz_sat.specs.Searching.{ids}
+use Rattle.nz_sat.specs.Theories.{AreLast, is_bound_at}
 use Rattle.nz_sat.proofs.Keeping.{held_has, none_marked}
+use Rattle.nz_sat.proofs.Tracking.{nothing_last}
 use Rattle.nz_sat.proofs.search.Search.new.Goals as goal
 
 abbrev blank : Held
@@ -62,6 +65,7 @@ returns-clause-search c =
     let empty : t ≡ empty_trail size = c.in_ok-new.ensures.empty in
     let noted = c.atoms.view_is ∙ c.in_ok-atoms.ensures.atoms in
     let N : List ℕ → ℕ → Type 0 = λ vs i. All (λ (l : Lit). Contains vs l.atom) (literals_at log i) in
+    let ids_are = c.ids.ensures.ids in
     let small : All (λ (u : ℕ). u < size) us = subst (λ (vs : List ℕ). All (λ (u : ℕ). u < size) vs) (sym c.atoms.view_is) c.size-size.ensures.within in
     let marks : c.in_ok-vec.field-0.items ≡ replicate size false = search rules in
     record {
@@ -69,13 +73,18 @@ returns-clause-search c =
       listed = All-map (IsListed log c.loop-clause.index) (λ (h : Held). h.id) held (λ k d inside. before.listed k d (omega arith));
       only = before.only;
       named = All-map (N us) (λ (h : Held). h.id) held (λ k d inside. subst (λ (vs : List ℕ). N vs (get_or held k d).id) (sym noted) (c.requires.named k d inside));
-      there = subst (All (λ (u : ℕ). IsSome (slice_get log.atoms u))) (sym noted) c.requires.there;
-      on_trail = subst (λ (u : TrailState). All (λ (e : Assigned). Contains us e.literal.atom) u.entries) (sym empty) (All-nil (λ (e : Assigned). Contains us e.literal.atom));
       within = subst (λ (u : TrailState). All (λ (v : ℕ). v < u.size) us) (sym empty) small;
       indexed = subst (λ (u : TrailState). IsOfSize u.size c.loop-clause.index) (sym empty) before.size;
       marks = ap length marks ∙ length-replicate size false ∙ sym (ap (λ (u : TrailState). u.size) empty);
       unmarked = subst AreUnmarked (sym marks) (none_marked size);
-      order = subst IsTrail (sym empty) (λ i e at. cc);
-      implied = subst (λ (u : TrailState). EachBehind (IsImplied log) u.entries) (sym empty) (λ i e at. cc);
+      on = record {
+        there = subst (AreToldAtoms log) (sym noted) c.requires.there;
+        marked = subst (All (λ (v : ℕ). is_marked c.in_ok-bounds.bounds.marks.items v ≡ is_bound_at log.atoms v)) (ids_are ∙ sym c.atoms.view_is) c.in_ok-bounds.ensures.marked;
+        on_trail = subst (λ (u : TrailState). All (λ (e : Assigned). Contains us e.literal.atom) u.entries) (sym empty) (All-nil (λ (e : Assigned). Contains us e.literal.atom));
+        order = subst IsTrail (sym empty) (λ i e at. cc);
+        implied = subst (λ (u : TrailState). EachBehind (IsImplied log) u.entries) (sym empty) (λ i e at. cc);
+        inside = omega (arith, c.in_ok-bounds.ensures.none);
+        untold_last = subst (λ (u : TrailState). AreLast c.in_ok-bounds.bounds.told u.entries) (sym empty) (nothing_last c.in_ok-bounds.bounds.told);
+      };
       reasons = subst (λ (u : TrailState). All (HasReasonOf (ids held)) u.entries) (sym empty) (All-nil (HasReasonOf (ids held)));
     }

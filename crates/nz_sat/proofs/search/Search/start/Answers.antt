@@ -24,7 +24,7 @@ returns-then-is_some-clause-comes c =
     let h = c.requires.search in
     let some : is_some c.visit_held-falsified.result ≡ true = search rules in
     record {
-      search = goes_search c.args.log.now held s t h v.size (v.order h.order) v.goes_on (v.implied h.implied) (v.reasons (ids held) (held_has held) h.reasons);
+      search = goes_search c.args.log.now held s t h v.size (v.order h.on.order) v.goes_on (v.implied h.on.implied) (v.reasons (ids held) (held_has held) h.reasons);
       by_reasons = goes_reasons s.trail.entries t.entries c.requires.none v.goes_on;
       undecided = goes_depth s.trail.entries t.entries v.goes_on ∙ ap depth c.requires.none;
       all_open = λ none. absurd (none_told c.visit_held-falsified.result some none);
@@ -56,7 +56,7 @@ returns-clause-comes c =
     All-map W (λ (x : Held). x.id) held
     (λ k d inside. waits_less t.entries 0 (length s.trail.entries) (literals_at log (get_or held k d).id) (omega arith) (v.waits none k d inside)) in
     record {
-      search = goes_search log held s u h (p.size ∙ v.size) (p.order (v.order h.order)) goes (p.implied (v.implied h.implied))
+      search = goes_search log held s u h (p.size ∙ v.size) (p.order (v.order h.on.order)) goes (p.implied (v.implied h.on.implied))
           (p.reasons (ids held) h.only (v.reasons (ids held) (held_has held) h.reasons));
       by_reasons = goes_reasons s.trail.entries u.entries c.requires.none goes;
       undecided = goes_depth s.trail.entries u.entries goes ∙ ap depth c.requires.none;

@@ -1,13 +1,14 @@
 -- What comes of a decision.
-use Rattle.std.proofs.Common.{◌≡◌, ℕ, ◌<◌, ◌∙◌, length, Option, None, ap, sym, subst, arith, rules}
-use Rattle.std.proofs.lemmas.List.{length-append}
+use Rattle.std.proofs.Common.{◌≡◌, ℕ, ◌<◌, Err, Option, None, sym, subst, arith, rules}
 use Rattle.std.proofs.lemmas.List.Elements.{All-contains}
 use Rattle.std.proofs.lemmas.Result.{IfOk-weaker}
+use Rattle.nz_spec.specs.Work.{WorkList}
+use Rattle.nz_log.specs.declared.note.Note.{Note}
 use Rattle.nz_sat.specs.Searching.{Advances, AreWaiting, Settles, SettlesOn}
-use Rattle.nz_sat.proofs.Advancing.{none_advances}
-use Rattle.nz_sat.proofs.Consulting.{steps_on}
+use Rattle.nz_sat.specs.Theories.{state_of}
+use Rattle.nz_sat.proofs.Advancing.{narrow_advances, reaches_then, steps_behind}
+use Rattle.nz_sat.proofs.Growing.{grows_none}
 use Rattle.nz_sat.proofs.Running.{has_decided, refutes_far, settles_far}
-use Rattle.nz_sat.proofs.Telling.{told_on}
 use Rattle.nz_sat.proofs.search.Search.turn.Goals as goal
 
 pub decide-requires-clause-within : goal.decide-requires-clause-within
@@ -19,61 +20,68 @@ returns-in_err-from-clause-steps g c =
     let s = c.args.self.now in
     let log = c.args.log.now in
     let held = c.args.held.now.items in
-    let over = g.T.Theory.is_over c.args.theory.now in
+    let m = (state_of g.T.Theory.is_over g.T.Theory.has_told g.T.Theory.is_feasible g.T.Theory.is_of g.T.Theory.is_at c.args.theory.now) in
+    let e = c.in_err-from.field-0.0 in
+    let same : Err e ≡ c.from_residual.result = search rules in
     record {
-      advances = subst (Advances over s.atoms s.trail.entries log log held held c.args.work.now) (sym c.in_err-from.ensures.err)
-          (none_advances over s.atoms s.trail.entries log held c.args.work.now c.requires.search.are_held);
-      known = λ ns known. known;
-      told = search rules;
+      advances = subst (λ (w : WorkList Note). Advances m m s s.trail.entries log log held held c.args.work.now w c.from_residual.result) (sym c.in_err-from.ensures.err)
+          (narrow_advances m s s.trail.entries log log held c.args.work.now c.requires.search.are_held (grows_none log) (λ ns levels known within order. order) e c.in_err-from.ensures.narrow
+          c.from_residual.result same);
       met = search rules;
       spent = search rules;
     }
 
 pub settle-requires-clause-search : goal.settle-requires-clause-search
 settle-requires-clause-search g c =
-    (has_decided c.legal_work_goes_on.ensures.goes_on (g.T.Theory.is_over c.args.theory.now) c.args.atom c.requires.search c.requires.all_open c.requires.were_open c.requires.noted
-    c.requires.free c.requires.named c.in_ok-from.ensures.rest c.in_ok-from.ensures.decides).search
+    (has_decided (state_of g.T.Theory.is_over g.T.Theory.has_told g.T.Theory.is_feasible g.T.Theory.is_of g.T.Theory.is_at c.args.theory.now) c.args.atom c.requires.search c.requires.all_open c.requires.were_open c.requires.noted c.requires.free
+    c.requires.named c.requires.whole c.in_ok-from.ensures.rest c.in_ok-from.ensures.decides).search
 
 pub settle-requires-clause-all_open : goal.settle-requires-clause-all_open
 settle-requires-clause-all_open g c =
-    (has_decided c.legal_work_goes_on.ensures.goes_on (g.T.Theory.is_over c.args.theory.now) c.args.atom c.requires.search c.requires.all_open c.requires.were_open c.requires.noted
-    c.requires.free c.requires.named c.in_ok-from.ensures.rest c.in_ok-from.ensures.decides).were_open
+    (has_decided (state_of g.T.Theory.is_over g.T.Theory.has_told g.T.Theory.is_feasible g.T.Theory.is_of g.T.Theory.is_at c.args.theory.now) c.args.atom c.requires.search c.requires.all_open c.requires.were_open c.requires.noted c.requires.free
+    c.requires.named c.requires.whole c.in_ok-from.ensures.rest c.in_ok-from.ensures.decides).were_open
 
 pub settle-requires-clause-from : goal.settle-requires-clause-from
 settle-requires-clause-from g c =
-    let d = has_decided c.legal_work_goes_on.ensures.goes_on (g.T.Theory.is_over c.args.theory.now) c.args.atom c.requires.search c.requires.all_open c.requires.were_open c.requires.noted
-    c.requires.free c.requires.named c.in_ok-from.ensures.rest c.in_ok-from.ensures.decides in
-    let long = ap length d.front.joined ∙ length-append c.args.self.now.trail.entries d.front.more in
+    let d = has_decided (state_of g.T.Theory.is_over g.T.Theory.has_told g.T.Theory.is_feasible g.T.Theory.is_of g.T.Theory.is_at c.args.theory.now) c.args.atom c.requires.search c.requires.all_open c.requires.were_open c.requires.noted c.requires.free
+    c.requires.named c.requires.whole c.in_ok-from.ensures.rest c.in_ok-from.ensures.decides in
+    let more = d.more in
     let place = c.in_ok-from.ensures.place in
-    omega (arith, long, place)
+    omega (arith, more, place)
 
 pub settle-requires-clause-waits : goal.settle-requires-clause-waits
 settle-requires-clause-waits g c =
     subst (AreWaiting c.args.log.now c.args.held.now.items c.decide.new.self.trail.entries) (sym c.in_ok-from.ensures.place)
-    (has_decided c.legal_work_goes_on.ensures.goes_on (g.T.Theory.is_over c.args.theory.now) c.args.atom c.requires.search c.requires.all_open c.requires.were_open c.requires.noted
-    c.requires.free c.requires.named c.in_ok-from.ensures.rest c.in_ok-from.ensures.decides).waits
+    (has_decided (state_of g.T.Theory.is_over g.T.Theory.has_told g.T.Theory.is_feasible g.T.Theory.is_of g.T.Theory.is_at c.args.theory.now) c.args.atom c.requires.search c.requires.all_open c.requires.were_open c.requires.noted c.requires.free
+    c.requires.named c.requires.whole c.in_ok-from.ensures.rest c.in_ok-from.ensures.decides).waits
 
 pub settle-requires-clause-noted : goal.settle-requires-clause-noted
 settle-requires-clause-noted g c =
-    (has_decided c.legal_work_goes_on.ensures.goes_on (g.T.Theory.is_over c.args.theory.now) c.args.atom c.requires.search c.requires.all_open c.requires.were_open c.requires.noted
-    c.requires.free c.requires.named c.in_ok-from.ensures.rest c.in_ok-from.ensures.decides).noted
+    (has_decided (state_of g.T.Theory.is_over g.T.Theory.has_told g.T.Theory.is_feasible g.T.Theory.is_of g.T.Theory.is_at c.args.theory.now) c.args.atom c.requires.search c.requires.all_open c.requires.were_open c.requires.noted c.requires.free
+    c.requires.named c.requires.whole c.in_ok-from.ensures.rest c.in_ok-from.ensures.decides).noted
+
+pub settle-requires-clause-of : goal.settle-requires-clause-of
+settle-requires-clause-of g c =
+    let d = has_decided (state_of g.T.Theory.is_over g.T.Theory.has_told g.T.Theory.is_feasible g.T.Theory.is_of g.T.Theory.is_at c.args.theory.now) c.args.atom c.requires.search c.requires.all_open c.requires.were_open c.requires.noted c.requires.free
+    c.requires.named c.requires.whole c.in_ok-from.ensures.rest c.in_ok-from.ensures.decides in
+    subst (g.T.Theory.is_of c.args.theory.now c.args.log.now.atoms) (sym d.carries.atoms) c.requires.of
 
 pub settle-requires-clause-told : goal.settle-requires-clause-told
 settle-requires-clause-told g c =
-    let d = has_decided c.legal_work_goes_on.ensures.goes_on (g.T.Theory.is_over c.args.theory.now) c.args.atom c.requires.search c.requires.all_open c.requires.were_open c.requires.noted
-    c.requires.free c.requires.named c.in_ok-from.ensures.rest c.in_ok-from.ensures.decides in
-    told_on (g.T.Theory.has_told c.args.theory.now) c.args.self.now.trail.entries c.decide.new.self.trail.entries d.front c.requires.told
+    let d = has_decided (state_of g.T.Theory.is_over g.T.Theory.has_told g.T.Theory.is_feasible g.T.Theory.is_of g.T.Theory.is_at c.args.theory.now) c.args.atom c.requires.search c.requires.all_open c.requires.were_open c.requires.noted c.requires.free
+    c.requires.named c.requires.whole c.in_ok-from.ensures.rest c.in_ok-from.ensures.decides in
+    subst (g.T.Theory.has_told c.args.theory.now) (sym d.told) c.requires.told
 
 pub returns-clause-steps : goal.returns-clause-steps
 returns-clause-steps g c =
-    let d = has_decided c.legal_work_goes_on.ensures.goes_on (g.T.Theory.is_over c.args.theory.now) c.args.atom c.requires.search c.requires.all_open c.requires.were_open c.requires.noted
-    c.requires.free c.requires.named c.in_ok-from.ensures.rest c.in_ok-from.ensures.decides in
-    steps_on d.carries d.advances (λ ns known. known) c.settle.ensures.steps
+    let d = has_decided (state_of g.T.Theory.is_over g.T.Theory.has_told g.T.Theory.is_feasible g.T.Theory.is_of g.T.Theory.is_at c.args.theory.now) c.args.atom c.requires.search c.requires.all_open c.requires.were_open c.requires.noted c.requires.free
+    c.requires.named c.requires.whole c.in_ok-from.ensures.rest c.in_ok-from.ensures.decides in
+    steps_behind (reaches_then d.reaches d.carries.atoms d.carries.assumed_only c.settle.ensures.steps.advances) c.settle.ensures.steps
 
 pub returns-clause-settled : goal.returns-clause-settled
 returns-clause-settled g c =
-    let d = has_decided c.legal_work_goes_on.ensures.goes_on (g.T.Theory.is_over c.args.theory.now) c.args.atom c.requires.search c.requires.all_open c.requires.were_open c.requires.noted
-    c.requires.free c.requires.named c.in_ok-from.ensures.rest c.in_ok-from.ensures.decides in
+    let d = has_decided (state_of g.T.Theory.is_over g.T.Theory.has_told g.T.Theory.is_feasible g.T.Theory.is_of g.T.Theory.is_at c.args.theory.now) c.args.atom c.requires.search c.requires.all_open c.requires.were_open c.requires.noted c.requires.free
+    c.requires.named c.requires.whole c.in_ok-from.ensures.rest c.in_ok-from.ensures.decides in
     IfOk-weaker c.settle.result
     (λ (o : Option ℕ). o ≡ None → Settles c.settle.new.log c.settle.new.held.items c.decide.new.self c.settle.new.self c.decide.new.work c.settle.new.work)
     (λ (o : Option ℕ). o ≡ None → SettlesOn c.settle.new.log c.settle.new.held.items c.args.self.now c.settle.new.self c.args.work.now c.settle.new.work)
@@ -81,6 +89,6 @@ returns-clause-settled g c =
 
 pub returns-clause-refuted : goal.returns-clause-refuted
 returns-clause-refuted g c =
-    let d = has_decided c.legal_work_goes_on.ensures.goes_on (g.T.Theory.is_over c.args.theory.now) c.args.atom c.requires.search c.requires.all_open c.requires.were_open c.requires.noted
-    c.requires.free c.requires.named c.in_ok-from.ensures.rest c.in_ok-from.ensures.decides in
+    let d = has_decided (state_of g.T.Theory.is_over g.T.Theory.has_told g.T.Theory.is_feasible g.T.Theory.is_of g.T.Theory.is_at c.args.theory.now) c.args.atom c.requires.search c.requires.all_open c.requires.were_open c.requires.noted c.requires.free
+    c.requires.named c.requires.whole c.in_ok-from.ensures.rest c.in_ok-from.ensures.decides in
     refutes_far c.args.self.now.trail.entries c.decide.new.self.trail.entries c.settle.new.log d.carries.assumed_only c.settle.result c.settle.ensures.refuted

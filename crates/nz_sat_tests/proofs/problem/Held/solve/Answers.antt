@@ -2,8 +2,9 @@ use Rattle.std.proofs.Common.{sym, subst}
 use Rattle.std.specs.Prelude.{All, Contains}
 use Rattle.nz_spec.specs.Literal.{StandOnce}
 use Rattle.nz_log.specs.declared.lits.Lit.{Lit}
+use Rattle.nz_log.specs.Leveled.{AreToldAtoms}
 use Rattle.nz_sat.specs.Sats.{AreConsistent, AreNamed, AreOn}
-use Rattle.nz_sat_tests.proofs.Posing.{any_told, joined_posed, posed_named, searched_posed}
+use Rattle.nz_sat_tests.proofs.Posing.{joined_posed, posed_named, searched_posed}
 use Rattle.nz_sat_tests.proofs.problem.Held.solve.Goals as goal
 
 pub invariant_of-self : goal.invariant_of-self
@@ -21,23 +22,33 @@ solve-requires-clause-named c =
     let posed = joined_posed c.self.inside.log log sat atoms c.lits_of.ensures.joins c.self.invariant in
     let once = subst StandOnce c.deref.ensures.value c.in_ok-note_question.ensures.once in
     let among = subst (λ xs. All (λ (l : Lit). Contains xs l.atom) assumed) c.deref.ensures.value (subst (All (λ (l : Lit). Contains c.deref.result.now l.atom)) c.deref-2.ensures.value c.in_ok-note_question.ensures.among) in
-    subst (AreNamed log sat.clauses c.deref-4.result.now) (sym c.deref-3.ensures.value)
-    (subst (λ ls. AreNamed log sat.clauses ls atoms) (sym c.deref-4.ensures.value) (posed_named log sat atoms assumed posed among once))
+    let begun = c.begin_anew.new.sat.clauses in
+    subst (AreNamed log begun c.deref-4.result.now) (sym c.deref-3.ensures.value)
+    (subst (λ ls. AreNamed log begun ls atoms) (sym c.deref-4.ensures.value)
+    (subst (λ cs. AreNamed log cs assumed atoms) (sym c.begin_anew.ensures.clauses) (posed_named log sat atoms assumed posed among once)))
+
+pub solve-requires-clause-told_terms : goal.solve-requires-clause-told_terms
+solve-requires-clause-told_terms c =
+    subst (AreToldAtoms c.lits_of.new.self) (sym c.deref-3.ensures.value)
+    (joined_posed c.self.inside.log c.lits_of.new.self c.self.inside.sat c.self.inside.atoms.items c.lits_of.ensures.joins c.self.invariant).told
 
 pub solve-requires-clause-consistent : goal.solve-requires-clause-consistent
 solve-requires-clause-consistent c = subst AreConsistent (sym c.deref-4.ensures.value) (subst AreConsistent c.deref-2.ensures.value c.in_ok-note_question.ensures.consistent)
 
-pub solve-requires-clause-told : goal.solve-requires-clause-told
-solve-requires-clause-told c = any_told c.self.inside.sat.theory.told
-
 pub invariant_of-self-in_err-refuted : goal.invariant_of-self-in_err-refuted
 invariant_of-self-in_err-refuted c =
-    searched_posed c.solve.new.log c.self.inside.sat c.solve.new.self c.self.inside.atoms.items c.solve.ensures.held (subst (λ xs. AreOn c.solve.new.log xs c.solve.new.self.clauses) c.deref-3.ensures.value c.solve.ensures.named)
+    searched_posed c.lits_of.new.self c.solve.new.log c.begin_anew.new.sat c.solve.new.self c.self.inside.atoms.items
+    (joined_posed c.self.inside.log c.lits_of.new.self c.self.inside.sat c.self.inside.atoms.items c.lits_of.ensures.joins c.self.invariant).told c.solve.ensures.grows c.solve.ensures.held
+    (subst (λ xs. AreOn c.solve.new.log xs c.solve.new.self.clauses) c.deref-3.ensures.value c.solve.ensures.named)
 
 pub invariant_of-self-in_err-on_terms : goal.invariant_of-self-in_err-on_terms
 invariant_of-self-in_err-on_terms c =
-    searched_posed c.solve.new.log c.self.inside.sat c.solve.new.self c.self.inside.atoms.items c.solve.ensures.held (subst (λ xs. AreOn c.solve.new.log xs c.solve.new.self.clauses) c.deref-3.ensures.value c.solve.ensures.named)
+    searched_posed c.lits_of.new.self c.solve.new.log c.begin_anew.new.sat c.solve.new.self c.self.inside.atoms.items
+    (joined_posed c.self.inside.log c.lits_of.new.self c.self.inside.sat c.self.inside.atoms.items c.lits_of.ensures.joins c.self.invariant).told c.solve.ensures.grows c.solve.ensures.held
+    (subst (λ xs. AreOn c.solve.new.log xs c.solve.new.self.clauses) c.deref-3.ensures.value c.solve.ensures.named)
 
 pub invariant_of-self-2 : goal.invariant_of-self-2
 invariant_of-self-2 c =
-    searched_posed c.solve.new.log c.self.inside.sat c.solve.new.self c.self.inside.atoms.items c.solve.ensures.held (subst (λ xs. AreOn c.solve.new.log xs c.solve.new.self.clauses) c.deref-3.ensures.value c.solve.ensures.named)
+    searched_posed c.lits_of.new.self c.solve.new.log c.begin_anew.new.sat c.solve.new.self c.self.inside.atoms.items
+    (joined_posed c.self.inside.log c.lits_of.new.self c.self.inside.sat c.self.inside.atoms.items c.lits_of.ensures.joins c.self.invariant).told c.solve.ensures.grows c.solve.ensures.held
+    (subst (λ xs. AreOn c.solve.new.log xs c.solve.new.self.clauses) c.deref-3.ensures.value c.solve.ensures.named)

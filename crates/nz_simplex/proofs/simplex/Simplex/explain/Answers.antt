@@ -55,7 +55,7 @@ returns-clause-refuted g c =
     let told_why = c.put_multipliers.ensures.put
     ∙ ap (λ (ks : List ℕ). (b.limit.reason, whole (pos 1)) ∷ flat_map (held_back here.asserted b.side (rows_in x.tab b.var)) ks) (c.as_slice.ensures.value ∙ c.self.invariant.nonbasic_listed) in
     λ ns over.
-    explained stands x.tab x.trail x.values.items x.why.items c.self.invariant.sound c.positions_have_values.ensures.values c.infinitesimals_move.ensures.moves c.known_tableau.ensures.tableau
+    explained stands x.tab x.trail x.values.items x.why.items c.self.invariant.sound c.positions_have_values.ensures.values c.no_help_refutes.ensures.refutes c.infinitesimals_move.ensures.moves c.known_tableau.ensures.tableau
     b.var inside basic ns (subst (λ (s : State). IsOver ns s) back over) b.side b.limit c.put_multipliers.new.why.items
     (ap (λ (s : State). standing s.asserted b.var b.side) c.self.view_is ∙ c.requires.stands)
     (subst (λ (s : State). Breaks (position_over ns s) (half b.side) (stands b.limit.value) b.var) back (c.requires.broken ns over))

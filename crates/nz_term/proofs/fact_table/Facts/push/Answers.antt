@@ -29,6 +29,6 @@ returns-clause-grown c =
     let count : c.len.result ≡ length ms = search rules in
     let test : c.is_some.result ≡ is_some fact.constant = search rules in
     ap (facts_by g 0) c.in_ok-push.ensures.items
-    ∙ ap (λ b. facts_by g 0 (ms ++ record { is_constant = b; is_linear = fact.is_linear; holds_number = fact.holds_number } ∷ [])) test
-    ∙ put f g ms fact.constant fact.is_linear fact.holds_number (λ i below. c.keep.ensures.others i (omega arith)) (λ e. ap g (sym count) ∙ c.in_ok-keep.ensures.kept e)
+    ∙ ap (λ b. facts_by g 0 (ms ++ record { is_constant = b; is_linear = fact.is_linear; holds_integer = fact.holds_integer } ∷ [])) test
+    ∙ put f g ms fact.constant fact.is_linear fact.holds_integer (λ i below. c.keep.ensures.others i (omega arith)) (λ e. ap g (sym count) ∙ c.in_ok-keep.ensures.kept e)
     ∙ ap (λ l. l ++ fact ∷ []) c.self.view_is

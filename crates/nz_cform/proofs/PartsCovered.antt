@@ -1,0 +1,147 @@
+-- What a covered term is made of is covered, and the clauses of the tables name just that.
+use Rattle.std.proofs.Common.{◌≡◌, ℕ, zero, suc, ◌<◌, ◌≤◌, inl, inr, List, [], ◌∷◌, length, get_or, Some, None, sym, ap, subst, ◌∙◌, arith}
+use Rattle.std.specs.Prelude.{All, Contains, slice_get}
+use Rattle.std.specs.List.{AllByRecursion}
+use Rattle.std.proofs.lemmas.List.Elements.{Contains-append_cases, Contains-push_cases, recursion_from_All}
+use Rattle.std.proofs.lemmas.Option.{slice_get-get_or}
+use Rattle.nz_lists.proofs.Elements.{AllByRecursion-weaker}
+use Rattle.nz_spec.specs.FormOf.{number_in, UnitsAreParts}
+use Rattle.nz_spec.specs.Gates.{clauses_over, gate_clauses}
+use Rattle.nz_spec.specs.Literal.{are_same_literal}
+use Rattle.nz_spec.specs.Order.{post_order, post_orders}
+use Rattle.nz_spec.specs.Table.{Node, IsTable, HasOneNumberEach, OneNumber, TermOfNode, term_in, terms_at}
+use Rattle.nz_spec.specs.Taken.{IsTaken}
+use Rattle.nz_spec.specs.Term.{Term, apply, falsum}
+use Rattle.nz_log.specs.declared.lits.Lit.{Lit}
+use Rattle.nz_log.specs.declared.term_lits.TermLit.{TermLit}
+use Rattle.nz_log.specs.Atoms.{IsLitIn, clause_in, literal_in, terms_of}
+use Rattle.nz_log.specs.Leveled.{Names}
+use Rattle.nz_log.specs.Logs.{LogState, entry_at, level_at, literals_at, row_term}
+use Rattle.nz_log.specs.Sound.{GatesAreNamed, IsLog}
+use Rattle.nz_log.specs.TermLits.{yes, no, clause_of_terms, gates_at, is_boolean_at, literal_of}
+use Rattle.nz_log.proofs.Members.{each-gate}
+use Rattle.nz_cform.specs.Covering.{Covers, IsRowAt, kids_at}
+use Rattle.nz_cform.specs.Forms.{FormState, covered_at, IsCoveredWithin}
+use Rattle.nz_cform.specs.Laws.{RowsNameCovered}
+use Rattle.nz_cform.proofs.Elements.{each_has, each_mapped, each_of_has, each_once, has_mapped}
+use Rattle.nz_cform.proofs.Kept.{some_entry}
+use Rattle.nz_cform.proofs.Levels.{covered_within, level_of}
+use Rattle.nz_cform.proofs.Parts.{arguments_are_parts, itself}
+use Rattle.nz_cform.proofs.RowClauses.{each_number, own_within, row_says}
+use Rattle.nz_cform.proofs.RowNames.{AreNamed, Named, each_link_within, each_unit_within}
+
+module _ (node : TermOfNode) (ns : List Node) (table : IsTable ns) where
+  -- ---- The node of a term
+
+  module _ (t : ℕ) (inside : t < length ns) where
+    abbrev the_node : Node
+    the_node = get_or ns t (record { head = falsum; kids = [] })
+
+    node_at : slice_get ns t ≡ Some the_node
+    node_at = slice_get-get_or ns t (record { head = falsum; kids = [] }) inside
+
+    the_term : term_in ns t ≡ apply the_node.head (terms_at (term_in ns) the_node.kids)
+    the_term = node ns table t the_node node_at
+
+    the_kids : kids_at ns t ≡ the_node.kids
+    the_kids = ap (λ o. elim o [ None ↦ [] | Some n ↦ n.kids ]) node_at
+
+    -- gates are of the term and its arguments
+    pub gates_within : GatesAreNamed → AllByRecursion (AreNamed (Contains (post_order (term_in ns t)))) (gate_clauses (term_in ns t))
+    gates_within named =
+        let P : Term → Type 0 = Contains (post_order (term_in ns t)) in
+        let On : TermLit → Type 0 = λ l. P (term_in ns l.term) in
+        let own = recursion_from_All (λ k. P (term_in ns k)) the_node.kids (arguments_are_parts (term_in ns) (term_in ns t) the_node.head the_node.kids the_term) in
+        let over : AllByRecursion (AllByRecursion On) (gates_at ns t) =
+        subst (λ o. AllByRecursion (AllByRecursion On) (elim o [ None ↦ [] | Some n ↦ clauses_over yes no (is_boolean_at ns) t n.head n.kids ])) (sym node_at)
+        (each-gate (λ k. P (term_in ns k)) (is_boolean_at ns) t the_node.head the_node.kids (itself (term_in ns t)) own) in
+        subst (AllByRecursion (AreNamed P)) (named ns table t inside)
+        (each_mapped (clause_of_terms ns) (AreNamed P) (gates_at ns t)
+        (AllByRecursion-weaker (AllByRecursion On) (λ (c : List TermLit). AreNamed P (clause_of_terms ns c))
+        (λ c h. each_mapped (literal_of ns) (Named P) c (AllByRecursion-weaker On (λ (l : TermLit). Named P (literal_of ns l)) (λ l p. (p, tt)) c h))
+        (gates_at ns t) over))
+
+  -- ---- What a covered term is made of
+
+  module _ (log : LogState) (s : FormState) (covers : Covers ns log s) where
+    -- the term has a number, which is covered within the level
+    pub record HasCovered (n : ℕ) (u : Term) : Type 0 where
+      pub number : ℕ
+      pub covered : IsCoveredWithin s n number
+      pub inside : number < length ns
+      pub term : term_in ns number ≡ u
+
+    higher : (m n : ℕ) → m ≤ n → (u : Term) → HasCovered m u → HasCovered n u
+    higher m n below u h =
+        let l = level_of (covered_at s h.number) m h.covered in
+        record {
+          number = h.number;
+          covered = covered_within (covered_at s h.number) l.0 n l.1 (let low = l.2 in omega arith);
+          inside = h.inside;
+          term = h.term;
+        }
+
+    of_arguments : (t n : ℕ) → ((k m : ℕ) → k < t → covered_at s k ≡ Some m → (u : Term) → Contains (post_order (term_in ns k)) u → HasCovered m u)
+        → (ks : List ℕ) → AllByRecursion (λ k. k < t) ks → AllByRecursion (IsCoveredWithin s n) ks
+        → (u : Term) → Contains (post_orders (terms_at (term_in ns) ks)) u → HasCovered n u
+    of_arguments t n ih [] below covered u has = absurd (let inside : has.0 < 0 = has.1 in omega arith)
+    of_arguments t n ih (k ∷ ks) below covered u has =
+        elim (Contains-append_cases (post_order (term_in ns k)) (post_orders (terms_at (term_in ns) ks)) u has) [
+          | inl first ↦ let l = level_of (covered_at s k) n covered.0 in higher l.0 n l.2 u (ih k l.0 below.0 l.1 u first)
+          | inr other ↦ of_arguments t n ih ks below.1 covered.1 u other
+        ]
+
+    part_below : (m t n : ℕ) → t < m → covered_at s t ≡ Some n → (u : Term) → Contains (post_order (term_in ns t)) u → HasCovered n u
+    part_below zero t n below at u has = absurd (omega (arith, below))
+    part_below (suc m) t n below at u has =
+        let inside = covers.within t n at in
+        let own = the_node t inside in
+        let args = terms_at (term_in ns) own.kids in
+        elim (Contains-push_cases (post_orders args) (apply own.head args) u (subst (λ v. Contains (post_order v) u) (the_term t inside) has)) [
+          | inl parts ↦
+              of_arguments t n (λ k l less. part_below m k l (omega (arith, less, below))) own.kids
+              (recursion_from_All (λ k. k < t) own.kids (table.before t own (node_at t inside)))
+              (recursion_from_All (IsCoveredWithin s n) own.kids (subst (All (IsCoveredWithin s n)) (the_kids t inside) (covers.arguments t n at))) u parts
+          | inr same ↦
+              record { number = t; covered = covered_within (covered_at s t) n n at (omega arith); inside = inside; term = the_term t inside ∙ same }
+        ]
+
+    -- so each part of it is covered
+    pub part_covered : (t n : ℕ) → covered_at s t ≡ Some n → (u : Term) → Contains (post_order (term_in ns t)) u → HasCovered n u
+    part_covered t n at u has = part_below (suc t) t n (omega arith) at u has
+
+    -- ---- What the rows of a taken term name
+
+    module _ (parts : UnitsAreParts) (one : HasOneNumberEach ns) (named : GatesAreNamed) (levels : List (List ℕ)) (order : IsLog ns levels log)
+        (i t : ℕ) (row : IsRowAt log i t) (taken : IsTaken (term_in ns t)) where
+      at_level : covered_at s t ≡ Some (level_at log i)
+      at_level = covers.rows.of_covered i t row
+
+      row_names : (l : Lit) → Contains (literals_at log i) l → Names (IsCoveredWithin s (level_at log i)) log.atoms l
+      row_names l has =
+          let P : Term → Type 0 = Contains (post_order (term_in ns t)) in
+          let inside = covers.within t (level_at log i) at_level in
+          let e = some_entry (entry_at log i) row.0 row.1 in
+          let entry = order.clauses i e.0 e.1 in
+          let says = row_says ns table levels log t (AreNamed P) (gates_within t inside named) (each_link_within (number_in ns) parts (term_in ns t) taken)
+          (each_unit_within (number_in ns) parts (term_in ns t) taken) i e.0 e.0.origin (ap row_term e.2 ∙ row.2) entry.made in
+          let all : AllByRecursion (Named P) (clause_in ns log.atoms e.0.literals) =
+          subst (AllByRecursion (Named P)) (sym says.1) (each_once are_same_literal (Named P) says.0 says.2) in
+          let own = subst (λ (c : List Lit). Contains c l) (ap (λ o. elim o [ None ↦ [] | Some f ↦ f.literals ]) e.1) has in
+          let there = each_has (IsLitIn ns log.atoms) e.0.literals l entry.within own in
+          let says_l = each_has (Named P) (clause_in ns log.atoms e.0.literals) (literal_in ns log.atoms l) all (has_mapped (literal_in ns log.atoms) e.0.literals l own) in
+          let numbers = each_number ns log.atoms l there P says_l in
+          let below = own_within ns log.atoms l there in
+          record {
+            atom = there.atom;
+            at = there.at;
+            terms = each_of_has (IsCoveredWithin s (level_at log i)) (terms_of there.atom)
+                (λ v h.
+                let part = part_covered t (level_at log i) at_level (term_in ns v) (each_has (λ w. P (term_in ns w)) (terms_of there.atom) v numbers h) in
+                subst (IsCoveredWithin s (level_at log i)) (one part.number v part.inside (each_has (λ w. w < length ns) (terms_of there.atom) v below h) part.term)
+                part.covered);
+          }
+
+pub rows_name_covered : UnitsAreParts → TermOfNode → OneNumber → GatesAreNamed → RowsNameCovered
+rows_name_covered parts node one named ns levels log s table order covers i t row taken l has =
+    row_names node ns table log s covers parts (one ns table) named levels order i t row taken l has

@@ -1,0 +1,13 @@
+use Rattle.std.proofs.Common.{ℕ}
+use Rattle.nz_cform.specs.Covering.{HasRowsBelow}
+use Rattle.nz_cform.specs.Forms.{FormState}
+use Rattle.nz_cform.proofs.Adding.{IsAdding}
+use Rattle.nz_cform.proofs.rows.add_units.Given as goal
+
+-- the clauses so far are put
+abbrev pub invariant-loop-j : goal.invariant-loop-j
+invariant-loop-j l =
+    record {
+      adding : IsAdding l.terms l.term l.fn.log l.fn.clauses.items l.log l.clauses.items;
+      rows : (s : FormState) (gates links : ℕ) → HasRowsBelow l.terms l.fn.log s l.term gates links 0 → HasRowsBelow l.terms l.log s l.term gates links l.j;
+    }

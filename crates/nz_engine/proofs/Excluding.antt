@@ -1,0 +1,91 @@
+-- A search over what is prepared may begin where clauses for bounds that exclude each other are held too.
+use Rattle.std.proofs.Common.{◌≡◌, ℕ, List, [], ◌∷◌, map, Option, Some, None, get_or, refl, sym, ap, subst, ◌∙◌}
+use Rattle.std.specs.Prelude.{All, Contains}
+use Rattle.std.proofs.lemmas.List.Elements.{All-append, All-contains, All-from_recursion, All-map, All-weaker, Contains-get_or}
+use Rattle.nz_spec.specs.Table.{Node}
+use Rattle.nz_log.specs.declared.lits.Lit.{Lit}
+use Rattle.nz_log.specs.declared.term_lits.TermLit.{TermLit}
+use Rattle.nz_log.specs.Lits.{negated_lit}
+use Rattle.nz_log.specs.Logs.{Entry, IsLive, LogState, level_at, literals_at}
+use Rattle.nz_cform.specs.Forms.{FormState}
+use Rattle.nz_cform.specs.Listings.{IsListing}
+use Rattle.nz_reals.specs.Exclusions.{IsExclusion, Keeps}
+use Rattle.nz_sat.specs.declared.clauses.Held.{Held}
+use Rattle.nz_sat.specs.Sats.{AreHeld, AreOn, HoldsMore, held_of}
+use Rattle.nz_engine.specs.declared.prepared.Prepared.TheInside.{Inside}
+use Rattle.nz_engine.specs.Checking.{IsPosed, IsReady}
+use Rattle.nz_engine.specs.Preparing.{Excludes, PreparedState}
+use Rattle.nz_engine.specs.SearchLaws.{SearchLaws}
+use Rattle.nz_engine.proofs.Solving.{are_named, ids_told, ids_within, named_have, named_ids, named_lits, named_searched, posed_after}
+
+-- what stands inside, as it is seen
+abbrev pub prepared_in : Inside → PreparedState
+prepared_in i = record { log = i.log; form = i.form; sat = i.sat; given = i.given; above = i.above }
+
+-- the literals of such a clause are on the atoms
+on_atoms : (log : LogState) (atoms : List ℕ) (id : ℕ) → IsExclusion log atoms id → All (λ (l : Lit). Contains atoms l.atom) (literals_at log id)
+on_atoms log atoms id x k d below =
+    let l = get_or (literals_at log id) k d in
+    All-contains (λ (m : Lit). Contains atoms m.atom) (x.first ∷ x.second ∷ []) (negated_lit l)
+    (All-from_recursion (λ (m : Lit). Contains atoms m.atom) (x.first ∷ x.second ∷ []) (x.first_on, (x.second_on, tt))) (x.clash.negations l (Contains-get_or (literals_at log id) k d below))
+
+-- what is held keeps its literals and its level
+module _ (old new : LogState) (keeps : Keeps old new) (held : List Held) (were : AreHeld old held) where
+  still_on : (atoms : List ℕ) → AreOn old atoms held → AreOn new atoms held
+  still_on atoms on k d below =
+      let id = (get_or held k d).id in
+      let same : literals_at new id ≡ literals_at old id = ap (λ (o : Option Entry). elim o [ None ↦ [] | Some e ↦ e.literals ]) (keeps.kept id (were k d below).0) in
+      subst (All (λ (l : Lit). Contains atoms l.atom)) (sym same) (on k d below)
+
+  still_held : AreHeld new held
+  still_held k d below =
+      let h = get_or held k d in
+      let was = were k d below in
+      let same : level_at new h.id ≡ level_at old h.id = ap (λ (o : Option Entry). elim o [ None ↦ 0 | Some e ↦ e.level ]) (keeps.kept h.id was.0) in
+      (keeps.live h.id was.0, same ∙ was.1)
+
+module _ {p : PreparedState} {atoms : List ℕ} (q : PreparedState) (x : Excludes p atoms q) (were : AreHeld p.log p.sat.clauses) where
+  holds_exclusions : HoldsMore q.log p.sat.clauses q.sat.clauses
+  holds_exclusions =
+      record {
+        learned = map (held_of q.log) x.ids;
+        joined = x.joined;
+        held = subst (AreHeld q.log) (sym x.joined)
+            (All-append (λ (h : Held). IsLive q.log h.id × (level_at q.log h.id ≡ h.level)) p.sat.clauses (map (held_of q.log) x.ids) (still_held p.log q.log x.adds.keeps p.sat.clauses were)
+            (All-map (λ (h : Held). IsLive q.log h.id × (level_at q.log h.id ≡ h.level)) (held_of q.log) x.ids
+            (All-weaker (IsExclusion q.log atoms) (λ id. IsLive q.log id × (level_at q.log id ≡ level_at q.log id)) (λ id e. (e.clash.live, refl)) x.ids x.exclusions)));
+      }
+
+  exclusions_on : AreOn p.log atoms p.sat.clauses → AreOn q.log atoms q.sat.clauses
+  exclusions_on on =
+      let P = λ (h : Held). All (λ (l : Lit). Contains atoms l.atom) (literals_at q.log h.id) in
+      subst (All P) (sym x.joined)
+      (All-append P p.sat.clauses (map (held_of q.log) x.ids) (still_on p.log q.log x.adds.keeps p.sat.clauses were atoms on)
+      (All-map P (held_of q.log) x.ids (All-weaker (IsExclusion q.log atoms) (λ id. All (λ (l : Lit). Contains atoms l.atom) (literals_at q.log id)) (on_atoms q.log atoms) x.ids x.exclusions)))
+
+pub ready_excluded : SearchLaws → {ns : List Node} {assumed : List TermLit} {old p : PreparedState} {ids : List ℕ} {lits : List Lit} → IsReady ns assumed old p ids lits
+    → {was q s : PreparedState} → p ≡ was → Excludes was ids q → s ≡ q → IsReady ns assumed old s ids lits
+ready_excluded laws {ns} {assumed} {old} {p} {ids} {lits} r {was} {q} {s} same excludes view =
+    let x : Excludes p ids q = subst (λ (z : PreparedState). Excludes z ids q) (sym same) excludes in
+    let n = r.handed in
+    let form : q.form ≡ p.form = ap (λ (s : PreparedState). s.form) x.rest in
+    let given : q.given ≡ p.given = ap (λ (s : PreparedState). s.given) x.rest in
+    let above : q.above ≡ p.above = ap (λ (s : PreparedState). s.above) x.rest in
+    let first = r.some.1 in
+    let grows = x.adds.grows (ids_told laws.rows laws.atoms first n) in
+    let were = first.standing.raised.held in
+    let after : (levels : List (List ℕ)) → IsPosed ns levels assumed p → IsPosed ns levels assumed q = λ levels h.
+    posed_after laws.atoms laws.covers r q form given above levels grows (holds_exclusions q x were)
+    (named_searched laws.rows laws.atoms h n q grows form (exclusions_on q x were (are_named laws.rows laws.atoms h n).clauses)) (x.adds.sound ns levels (ids_within laws.rows laws.atoms h n)) h in
+    subst (λ (z : PreparedState). IsReady ns assumed old z ids lits) (sym view)
+    (record {
+      handed = record {
+        terms = subst (λ (f : FormState). IsListing f.terms) (sym form) n.terms;
+        bounds = subst (λ (f : FormState). IsListing f.bounds) (sym form) n.bounds;
+        numbers = named_ids laws.rows laws.atoms first n q grows form;
+        on_atoms = named_lits laws.rows laws.atoms first n q grows form;
+        there = named_have laws.rows laws.atoms first n q grows form;
+      };
+      posed = λ levels h. after levels (r.posed levels h);
+      some = (r.some.0, after r.some.0 first);
+    })

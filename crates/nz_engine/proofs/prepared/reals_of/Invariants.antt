@@ -1,0 +1,6 @@
+-- The theory knows the atoms so far, and stands where the list leads.
+use Rattle.nz_engine.proofs.Beginning.{IsBeginning}
+use Rattle.nz_engine.proofs.prepared.reals_of.Given as goal
+
+abbrev pub invariant-loop-number : goal.invariant-loop-number
+invariant-loop-number l = IsBeginning l.log.atoms l.atoms l.number l.fn.work l.work l.reals

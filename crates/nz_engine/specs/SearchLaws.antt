@@ -1,0 +1,15 @@
+-- The laws that a search over what is prepared rests on.
+use Rattle.nz_spec.specs.FormOf.{FormsAreSums}
+use Rattle.nz_spec.specs.WellSorted.{OperandsAreSorted}
+use Rattle.nz_log.specs.Atoms.{AtomsOfTerms}
+use Rattle.nz_cform.specs.Laws.{CoversStay}
+
+-- what rows of taken terms rest on
+pub record RowLaws : Type 0 where
+  pub sums : FormsAreSums
+  pub operands : OperandsAreSorted
+
+pub record SearchLaws : Type 0 where
+  pub rows : RowLaws
+  pub atoms : AtomsOfTerms
+  pub covers : CoversStay

@@ -1,7 +1,0 @@
--- Each so far names a term below the number.
-use Rattle.std.proofs.Common.{ℕ, ◌<◌, get_or}
-use Rattle.nz_log.specs.declared.term_lits.TermLit.{TermLit}
-use Rattle.nz_engine_tests.proofs.bench.name_below.Given as goal
-
-abbrev pub invariant-loop-i : goal.invariant-loop-i
-invariant-loop-i l = (k : ℕ) (d : TermLit) → k < l.i → (get_or l.literals k d).term < l.count

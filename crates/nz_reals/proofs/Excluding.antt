@@ -1,0 +1,115 @@
+-- Clauses that bounds of one form exclude each other: what the log has then.
+use Rattle.std.proofs.Common.{◌≡◌, ℕ, List, [], ◌∷◌, ◌++◌, map, Option, Some, None, refl, sym, ap, ◌∙◌, subst, arith, true}
+use Rattle.std.specs.Prelude.{All, Contains, IsSome, slice_index_or}
+use Rattle.std.proofs.lemmas.List.Elements.{All-contains, All-from_recursion, All-push, All-weaker}
+use Rattle.nz_spec.specs.Literal.{StandOnce}
+use Rattle.nz_spec.specs.Table.{Node}
+use Rattle.nz_log.specs.declared.atoms.Atom.{Atom}
+use Rattle.nz_log.specs.declared.lits.Lit.{Lit}
+use Rattle.nz_log.specs.declared.multiples.Multiple.{Multiple}
+use Rattle.nz_log.specs.Atoms.{IsLitIn}
+use Rattle.nz_log.specs.Axioms.{AreMultiplesIn}
+use Rattle.nz_log.specs.Leveled.{AreTold, AreToldAtoms, Names}
+use Rattle.nz_log.specs.Logs.{Entry, LogState, Puts, literals_at, told_of}
+use Rattle.nz_log.specs.Sound.{IsLog}
+use Rattle.nz_log.specs.Theories.{Grows, IsClash}
+use Rattle.nz_reals.specs.Exclusions.{AddsOn, AreAtomsOver, IsExclusion, Keeps}
+use Rattle.nz_reals.specs.Tells.{both, literals_of}
+use Rattle.nz_reals.proofs.Elements.{map_has}
+use Rattle.nz_reals.proofs.Refuting.{grows_same}
+
+-- ---- What the log keeps
+
+pub keeps_same : (log : LogState) → Keeps log log
+keeps_same log = record { live = λ i h. h; kept = λ i h. refl; told = refl; atoms = refl }
+
+pub keeps_put : (old new : LogState) (id : ℕ) (e : Entry) → Puts old id e new → new.atoms ≡ old.atoms → Keeps old new
+keeps_put old new id e puts atoms = record {
+  live = puts.stay;
+  kept = λ i live. puts.kept i (λ is. omega (arith, puts.above i live, is));
+  told = puts.told;
+  atoms = atoms;
+}
+
+keeps_more : (old mid new : LogState) → Keeps old mid → Keeps mid new → Keeps old new
+keeps_more old mid new k l = record {
+  live = λ i h. l.live i (k.live i h);
+  kept = λ i h. l.kept i (k.live i h) ∙ k.kept i h;
+  told = l.told ∙ k.told;
+  atoms = l.atoms ∙ k.atoms;
+}
+
+grows_more : (old mid new : LogState) → Grows old mid → Grows mid new → Grows old new
+grows_more old mid new g h = record {
+  live = λ i live. h.live i (g.live i live);
+  kept = λ i live. h.kept i (g.live i live) ∙ g.kept i live;
+  told = h.told ∙ g.told;
+  atoms = λ i a at. h.atoms i a (g.atoms i a at);
+  rows = λ i e at row. let live = h.rows i e at row in g.rows i e (sym (h.kept i live) ∙ at) row;
+  leveled = λ is. h.leveled (g.leveled is);
+}
+
+told_kept : (old new : LogState) (ls : List Lit) → Keeps old new → AreTold old ls → AreTold new ls
+told_kept old new ls keeps told =
+    subst (λ (levels : List (Option ℕ)). All (Names (λ t. IsSome (slice_index_or levels t None)) new.atoms) ls) (sym keeps.told)
+    (subst (λ (atoms : List Atom). All (Names (λ t. IsSome (told_of old t)) atoms) ls) (sym keeps.atoms) told)
+
+-- ---- What is added
+
+pub adds_none : (ids : List ℕ) (log : LogState) → AddsOn ids log log
+adds_none ids log = record { keeps = keeps_same log; grows = λ told. grows_same log; sound = λ ns levels over is. is }
+
+pub adds_more : (ids : List ℕ) (old mid new : LogState) → AddsOn ids old mid → AddsOn ids mid new → AddsOn ids old new
+adds_more ids old mid new a b = record {
+  keeps = keeps_more old mid new a.keeps b.keeps;
+  grows = λ told. grows_more old mid new (a.grows told) (b.grows (told_kept old mid (map (λ (i : ℕ). record { atom = i; sign = true }) ids) a.keeps told));
+  sound = λ ns levels over is. b.sound ns levels (subst (λ (atoms : List Atom). AreAtomsOver ns atoms ids) (sym a.keeps.atoms) over) (a.sound ns levels over is);
+}
+
+module _ (ids : List ℕ) (l other : Lit) (on : Contains ids l.atom) (other_on : Contains ids other.atom) where
+  -- what is asked of a literal, of its atom
+  named : (log : LogState) → AreToldAtoms log ids → (m : Lit) → Contains ids m.atom → Names (λ t. IsSome (told_of log t)) log.atoms m
+  named log told m has =
+      let yes : ℕ → Lit = λ i. record { atom = i; sign = true } in
+      let n = All-contains (Names (λ t. IsSome (told_of log t)) log.atoms) (map yes ids) (yes m.atom) told (map_has yes ids m.atom has) in
+      record { atom = n.atom; at = n.at; terms = n.terms }
+
+  both_names : (log : LogState) → AreToldAtoms log ids → AreTold log (literals_of (both l other))
+  both_names log told = All-from_recursion (Names (λ t. IsSome (told_of log t)) log.atoms) (literals_of (both l other)) (named log told l on, (named log told other other_on, tt))
+
+  over : (ns : List Node) (atoms : List Atom) → AreAtomsOver ns atoms ids → (m : Lit) → Contains ids m.atom → IsLitIn ns atoms m
+  over ns atoms are m has =
+      let n = All-contains (λ (i : ℕ). IsLitIn ns atoms (record { atom = i; sign = true })) ids m.atom are has in
+      record { atom = n.atom; at = n.at; within = n.within }
+
+  -- the two literals were refuted
+  pub adds_refuted : (old new : LogState) (ms : List Multiple) → ms ≡ both l other → Keeps old new → (AreTold old (literals_of ms) → Grows old new)
+      → ((ns : List Node) (levels : List (List ℕ)) → AreMultiplesIn ns old.atoms ms → IsLog ns levels old → IsLog ns levels new) → AddsOn ids old new
+  adds_refuted old new ms is keeps grows sound = record {
+    keeps = keeps;
+    grows = λ told. grows (subst (λ (xs : List Multiple). AreTold old (literals_of xs)) (sym is) (both_names old told));
+    sound = λ ns levels are.
+        sound ns levels (subst (AreMultiplesIn ns old.atoms) (sym is) (over ns old.atoms are l on, (over ns old.atoms are other other_on, tt)));
+  }
+
+-- ---- Clauses that stay
+
+clash_kept : (old new : LogState) (ls : List Lit) (id : ℕ) → Keeps old new → IsClash old ls id → IsClash new ls id
+clash_kept old new ls id keeps c =
+    let same : literals_at new id ≡ literals_at old id = ap (λ (o : Option Entry). elim o [ None ↦ [] | Some e ↦ e.literals ]) (keeps.kept id c.live) in
+    record {
+      live = keeps.live id c.live;
+      once = subst StandOnce (sym same) c.once;
+      negations = λ l has. c.negations l (subst (λ (ms : List Lit). Contains ms l) same has);
+    }
+
+pub exclusions_kept : (old new : LogState) (ids : List ℕ) (cs : List ℕ) → Keeps old new → All (IsExclusion old ids) cs → All (IsExclusion new ids) cs
+exclusions_kept old new ids cs keeps all =
+    All-weaker (IsExclusion old ids) (IsExclusion new ids)
+    (λ id x. record { first = x.first; second = x.second; first_on = x.first_on; second_on = x.second_on; clash = clash_kept old new (x.first ∷ x.second ∷ []) id keeps x.clash }) cs all
+
+-- one clause more
+pub exclusions_more : (old new : LogState) (ids cs : List ℕ) (l other : Lit) (id : ℕ) → Contains ids l.atom → Contains ids other.atom → AddsOn ids old new → All (IsExclusion old ids) cs
+    → IsClash new (l ∷ other ∷ []) id → All (IsExclusion new ids) (cs ++ id ∷ [])
+exclusions_more old new ids cs l other id on other_on adds all clash =
+    All-push (IsExclusion new ids) cs id (exclusions_kept old new ids cs adds.keeps all) (record { first = l; second = other; first_on = on; second_on = other_on; clash = clash })

@@ -1,0 +1,18 @@
+use Rattle.std.proofs.Common.{◌≡◌, ◌∷◌, ◌++◌, [], rules, subst, sym}
+use Rattle.std.specs.Prelude.{All, IfSome}
+use Rattle.nz_log.specs.Theories.{IsClash}
+use Rattle.nz_reals.specs.Exclusions.{IsExclusion}
+use Rattle.nz_reals.proofs.Excluding.{exclusions_kept, exclusions_more}
+use Rattle.nz_reals.proofs.reals.Reals.add_exclusion.Goals as goal
+
+pub returns-in_ok-push-clause-clauses : goal.returns-in_ok-push-clause-clauses
+returns-in_ok-push-clause-clauses c = λ ids on other_on all.
+    let new = c.exclusion.new.log in
+    let clash : IsClash new (c.args.literal ∷ c.args.other ∷ []) c.in-Some.clause = subst (λ o. IfSome o (IsClash new (c.args.literal ∷ c.args.other ∷ []))) c.in-Some.is c.in_ok-clause.ensures.clash in
+    let items : c.push.new.self.items ≡ c.args.clauses.now.items ++ c.in-Some.clause ∷ [] = search rules in
+    subst (All (IsExclusion new ids)) (sym items)
+    (exclusions_more c.args.log.now new ids c.args.clauses.now.items c.args.literal c.args.other c.in-Some.clause on other_on (c.exclusion.ensures.adds ids on other_on) all clash)
+
+pub returns-in_default-clause-clauses : goal.returns-in_default-clause-clauses
+returns-in_default-clause-clauses c = λ ids on other_on all.
+    exclusions_kept c.args.log.now c.exclusion.new.log ids c.args.clauses.now.items (c.exclusion.ensures.adds ids on other_on).keeps all

@@ -1,0 +1,56 @@
+use Rattle.std.proofs.Common.{rules, ◌≡◌, ◌<◌, List, Result, Err, length, ap, arith, subst, sym}
+use Rattle.std.specs.Prelude.{IfErr, ⊤}
+use Rattle.nz_spec.specs.Bland.{Point}
+use Rattle.nz_spec.specs.Form as spec
+use Rattle.nz_spec.specs.Literal.{Literal}
+use Rattle.nz_log.specs.declared.place.Place.{Place}
+use Rattle.nz_log.specs.declared.stop.Stop.{Stop}
+use Rattle.nz_log.specs.Places.{IsPlaceIn, OnWide}
+use Rattle.nz_reals.specs.Stands.{IsAt}
+use Rattle.nz_reals.specs.State.{Theory}
+use Rattle.nz_reals.proofs.Choosing.{adds_values, puts_more}
+use Rattle.nz_reals.proofs.Limiting.{has_values, limit_stands, model_stands}
+use Rattle.nz_reals.proofs.reals.Reals.add_values.Goals as goal
+
+pub delta-requires : goal.delta-requires
+delta-requires c = record {
+  values = has_values c.args.self.now c.args.terms.now c.requires.over c.stored.ensures.sound c.infinitesimals_are_ordered.ensures.ordered (c.requires.feasible c.args.terms.now c.requires.over);
+}
+
+pub returns-in-Err-clause-place : goal.returns-in-Err-clause-place
+returns-in-Err-clause-place c =
+    limit_stands c.infinitesimals_are_ordered.ensures.ordered c.args.self.now c.args.terms.now c.requires.over c.stored.ensures.sound (c.requires.feasible c.args.terms.now c.requires.over) c.in-Err.place c.in-Err.ensures.place
+
+pub add_value-requires-clause-values : goal.add_value-requires-clause-values
+add_value-requires-clause-values c = has_values c.args.self.now c.args.terms.now c.requires.over c.stored.ensures.sound c.infinitesimals_are_ordered.ensures.ordered (c.requires.feasible c.args.terms.now c.requires.over)
+
+pub returns-in_err-add_value-clause-place : goal.returns-in_err-add_value-clause-place
+returns-in_err-add_value-clause-place c =
+    let t = c.args.self.now in
+    let ns = c.args.terms.now in
+    let e = c.in_err-add_value.field-0.0 in
+    let stop : c.from_residual.result ≡ Err e = search rules in
+    subst
+    (λ (r : Result ⊤ Stop). IfErr r (λ (e : Stop). OnWide e (λ (p : Place). (fs : List (List spec.Part)) (ls : List Literal) (x : Point) → IsAt t ns fs ls x → IsPlaceIn ns fs ls x p))) (sym stop)
+    (model_stands c.infinitesimals_are_ordered.ensures.ordered t ns c.requires.over c.stored.ensures.sound (c.requires.feasible ns c.requires.over) c.positions_have_values.ensures.values c.in-Ok.ensures.numbers c.in-Ok.delta c.in-Ok.ensures.least e
+    c.in_err-add_value.ensures.place)
+
+pub loop-var-preserved : goal.loop-var-preserved
+loop-var-preserved c =
+    let t = c.args.self.now in
+    let seen = ap (λ (x : Theory). length x.simplex.forms) c.self.view_is in
+    let inside : c.loop-var.var < length t.simplex.forms = omega (arith, c.loop-var-test.true, c.len-var-end.ensures.count, seen) in
+    record {
+      puts =
+          puts_more t c.args.terms.now c.requires.over c.stored.ensures.forms c.one_number.ensures.one c.in-Ok.delta c.args.values.now c.loop-var.var c.loop-var.values c.add_value.new.values inside
+          c.loop-var.invariant.puts c.in_ok-add_value.ensures.puts;
+    }
+
+pub returns-clause-values : goal.returns-clause-values
+returns-clause-values c =
+    let t = c.args.self.now in
+    let ns = c.args.terms.now in
+    let seen = ap (λ (x : Theory). length x.simplex.forms) c.self.view_is in
+    let end : c.loop-var.var ≡ length t.simplex.forms = omega (arith, c.loop-var-test.false, c.loop-var.auto.var-end, c.len-var-end.ensures.count, seen) in
+    adds_values t ns c.requires.over c.stored.ensures.forms c.one_number.ensures.one c.in-Ok.delta c.args.values.now c.stored.ensures.sound c.positions_have_values.ensures.values
+    (has_values t ns c.requires.over c.stored.ensures.sound c.infinitesimals_are_ordered.ensures.ordered (c.requires.feasible ns c.requires.over)) c.in-Ok.ensures.numbers c.in-Ok.ensures.least c.loop-var.var c.loop-var.values end c.loop-var.invariant.puts

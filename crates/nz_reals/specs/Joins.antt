@@ -1,0 +1,85 @@
+-- What comes of an atom that the theory learns of.
+use Rattle.std.specs.Prelude.{◌≡◌, ℕ, ◌<◌, ◌⊎◌, true, false, List, length, ⊤, Some, slice_get}
+use Rattle.nz_fractions.specs.Fraction.{IsNumber}
+use Rattle.nz_spec.specs.Legal.{MayJoin, literal_by, sum_of_atom}
+use Rattle.nz_spec.specs.Table.{Node}
+use Rattle.nz_spec.specs.Work.{WorkList, NoteLine, with_line}
+use Rattle.nz_lin.specs.declared.bound.Bound.{Bound}
+use Rattle.nz_lin.specs.Bounds.{HasUnits}
+use Rattle.nz_lin.specs.declared.form.Part.{Part}
+use Rattle.nz_lin.specs.Forms.{AreUnits, parts_over}
+use Rattle.nz_tab.specs.Units.{is_unit_form}
+use Rattle.nz_tab.specs.declared.tab.TabStop.TheVariants as tab
+use Rattle.nz_simplex.specs.Moves.{JoinStops}
+use Rattle.nz_log.specs.declared.atoms.Atom.{Atom}
+use Rattle.nz_log.specs.declared.atoms.Atom.TheVariants.{Term, AtMost}
+use Rattle.nz_log.specs.declared.note.Note.{Note}
+use Rattle.nz_log.specs.declared.note.Note.TheVariants.{Form}
+use Rattle.nz_log.specs.declared.place.Site.TheVariants.{Joining}
+use Rattle.nz_log.specs.declared.stop.Stop.{Stop}
+use Rattle.nz_log.specs.declared.stop.Stop.TheVariants.{Wide, Spent, Memory}
+use Rattle.nz_log.specs.Atoms.{literal_in}
+use Rattle.nz_log.specs.Standing.{search_after}
+use Rattle.nz_reals.specs.Stands.{IsOver}
+use Rattle.nz_reals.specs.State.{Theory}
+use Rattle.nz_reals.specs.Sums.{AreNonzero, IsFormSum}
+
+-- Some table has the units of the forms and of the bound, which is a sum in order.
+pub record MayJoinBound (t : Theory) (b : Bound) : Type 0 where
+  pub table : List Node
+  pub over : IsOver t table
+  pub units : HasUnits table b
+  pub nonzero : AreNonzero b.sides.parts
+
+-- an atom that the theory may learn of
+abbrev pub MayLearn : Theory → Atom → Type 0
+MayLearn t (Term term) = ⊤
+MayLearn t (AtMost b) = MayJoinBound t b
+
+-- the atom of this number is there, and the theory may learn of it
+pub record IsAtomFor (t : Theory) (atoms : List Atom) (id : ℕ) : Type 0 where
+  pub atom : Atom
+  pub at : slice_get atoms id ≡ Some atom
+  pub may : MayLearn t atom
+
+-- the list is as before, or notes the form of an atom
+abbrev pub NotesForm : ℕ → WorkList Note → WorkList Note → Type 0
+NotesForm number old new = (new ≡ old) ⊎ (new ≡ with_line old (NoteLine (Form number)))
+
+-- the list knows an atom of a log by this number
+pub record IsNumberIn (ns : List Node) (atoms : List Atom) (id number : ℕ) (work : WorkList Note) : Type 0 where
+  pub named : number < length (search_after ns work).atoms
+  pub says : literal_by (search_after ns work).atoms (number, true) ≡ literal_in ns atoms (record { atom = id; sign = true })
+
+-- ---- Sums that join
+
+-- Some table has the units of the forms and of a sum, whose first coefficient is above 0.
+pub record MayAddSum (t : Theory) (f : List Part) : Type 0 where
+  pub table : List Node
+  pub over : IsOver t table
+  pub units : AreUnits table f
+  pub sum : IsFormSum f
+
+-- the sum is no form, but for a unit alone
+abbrev pub IsFree : Theory → List Part → Type 0
+IsFree t f = is_unit_form f ≡ false → (v : ℕ) → slice_get t.simplex.forms v ≡ Some f → ⊥
+
+-- Forms may join, over each table that has the units; nothing else changes.
+pub record AddsForm (old new : Theory) (f : List Part) : Type 0 where
+  pub known : new.known ≡ old.known
+  pub told : new.told ≡ old.told
+  pub asserted : new.simplex.asserted ≡ old.simplex.asserted
+  pub kept : (v : ℕ) (g : List Part) → slice_get old.simplex.forms v ≡ Some g → slice_get new.simplex.forms v ≡ Some g
+  pub over : (ns : List Node) → AreUnits ns f → IsOver old ns → IsOver new ns
+
+-- the list knows by this number an atom that bounds the sum, or the sum with the other signs
+pub record IsNamedSum (ns : List Node) (f : List Part) (number : ℕ) (work : WorkList Note) : Type 0 where
+  pub may : MayJoin (search_after ns work) number
+  pub sum : sum_of_atom (search_after ns work) number ≡ parts_over ns f
+
+-- why a sum doesn't join: want of memory, or the first operation on its row that leaves the numbers; a unit alone has no row
+abbrev pub StopsJoining : Theory → List Part → Stop → Type 0
+StopsJoining t f (Wide place) = (place.site ≡ Joining) × (is_unit_form f ≡ false) × IsNumber place.wide.a × IsNumber place.wide.b
+    × ((ns : List Node) → IsOver t ns → AreUnits ns f → JoinStops ns t.simplex f (tab.Wide place.wide))
+StopsJoining t f Spent = ⊥
+StopsJoining t f Memory = ⊤

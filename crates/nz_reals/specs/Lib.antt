@@ -1,0 +1,11 @@
+pub mod Chosen
+pub mod Exclusions
+pub mod Joins
+pub mod Knowing
+pub mod Known
+pub mod Limits
+pub mod Stands
+pub mod State
+pub mod Stored
+pub mod Sums
+pub mod Tells

@@ -1,0 +1,157 @@
+//! Atoms that the theory learns of, and the forms that join for them.
+ghost use Rattle.std.specs.Prelude.{◌≡◌, ◌==◌, ◌<◌, ◌++◌, ℕ, List, [], ◌∷◌, IfErr, IfOk, IfSome, None, Ok, OnErr, OnOk, Some, length, slice_get, slice_index_or, true, if◌then◌else◌};
+ghost use Rattle.nz_spec.specs.Legal.{Task};
+ghost use Rattle.nz_spec.specs.Table.{Node};
+ghost use Rattle.nz_lin.specs.Forms.{AreUnits};
+ghost use Rattle.nz_log.specs.declared.stop.Stop.TheVariants as stop;
+ghost use Rattle.nz_log.specs.Atoms.{IsLitIn};
+ghost use Rattle.nz_log.specs.Standing.{Ends, Stands};
+ghost use Rattle.nz_simplex.specs.Moves.{joined_over};
+ghost use Rattle.nz_simplex.specs.State.{position_over};
+ghost use Rattle.nz_reals.specs.Joins.{AddsForm, IsAtomFor, IsFree, IsNamedSum, IsNumberIn, MayAddSum, NotesForm, StopsJoining};
+ghost use Rattle.nz_reals.specs.Known.{known_of};
+ghost use Rattle.nz_reals.specs.Stands.{HasTold, IsAt, IsOf, IsOver};
+ghost use Rattle.nz_reals.specs.State.{known_at};
+ghost use Rattle.nz_reals.specs.Sums.{zero_bound};
+
+use crate::forms::{Bounded, zeroed};
+use crate::reals::{Reals, stored};
+use crate::refute::stopped;
+use nz_base::{Memory, Work};
+use nz_lin::Bound;
+use nz_log::{Atom, AtomId, Log, Note, Site, Stop};
+use nz_spec::basis::joins_keep_basis;
+use nz_spec::derivation::tells_literals;
+use nz_spec::form::term_has_its_number;
+use nz_spec::table::one_number;
+use nz_spec::work::legal_work_goes_on;
+use nz_tab::TabStop;
+use nz_trail::Var;
+
+impl Reals {
+    /// Learns of an atom, before it is told anything; the work list knows the atom by a number. Where the sum of a bound isn't a form of the simplex, it
+    /// joins, which is noted.
+    ///
+    /// # Errors
+    ///
+    /// `Wide` where the row of the form leaves the numbers; `Memory`.
+    pub fn add_atom(
+        &mut self,
+        log: &Log,
+        id: AtomId,
+        number: usize,
+        work: &mut Work<Note>,
+    ) -> Result<(), Stop>
+        requires atom { IsAtomFor self.old log.now.atoms id }
+        requires untold { HasTold self.old [] }
+        ensures untold { HasTold self.new [] }
+        ensures of { (ids : List ℕ) → IsOf self.old log.now.atoms ids → OnOk result (IsOf self.new log.now.atoms (ids ++ id ∷ [])) }
+        ensures over { (ns : List Node) → IsLitIn ns log.now.atoms (record { atom = id; sign = true }) → IsOver self.old ns → IsOver self.new ns }
+        ensures lines { NotesForm number work.old work.new }
+        ensures unspent { IfErr result (λ e. e ≡ stop.Spent → ⊥) }
+        // Over a table, where the theory stands where the list leads, it does so again.
+        ensures ends { (ns : List Node) (q : Task) → IsLitIn ns log.now.atoms (record { atom = id; sign = true }) → IsNumberIn ns log.now.atoms id number work.old → Stands (IsAt self.old ns) ns q work.old → Ends (IsAt self.new ns) ns q work.new result }
+    {
+        log.atom_count();
+        let Atom::AtMost(bound) = log.atom(id) else {
+            return Ok(());
+        };
+        let sum = zeroed(self.alloc, bound)?;
+        let var = self.form_for(sum, number, work)?;
+        self.keep(id, Bounded::new(var, bound))?;
+        Ok(())
+    }
+
+    /// The number of a sum that is a form. Where it is none, it joins, which is noted.
+    fn form_for(&mut self, sum: Bound, number: usize, work: &mut Work<Note>) -> Result<Var, Stop>
+        requires zero { sum ≡ zero_bound sum.sides.parts }
+        requires may { MayAddSum self.old sum.sides.parts }
+        requires untold { HasTold self.old [] }
+        ensures form { IfOk result (λ v. slice_get self.new.simplex.forms v ≡ Some sum.sides.parts) }
+        ensures adds { AddsForm self.old self.new sum.sides.parts }
+        ensures lines { NotesForm number work.old work.new }
+        ensures unspent { IfErr result (λ e. e ≡ stop.Spent → ⊥) }
+        ensures ends { (ns : List Node) (q : Task) → AreUnits ns sum.sides.parts → IsNamedSum ns sum.sides.parts number work.old → Stands (IsAt self.old ns) ns q work.old → Ends (IsAt self.new ns) ns q work.new result }
+    {
+        joins_keep_basis();
+        tells_literals();
+        one_number();
+        legal_work_goes_on();
+        term_has_its_number();
+        stored(self);
+        if let Some(var) = self.find(&sum)? {
+            return Ok(var);
+        }
+        work.note(Note::Form { atom: number })?;
+        self.join(sum)
+    }
+
+    /// The number of a sum among the forms. A unit alone may be missing.
+    fn find(&self, sum: &Bound) -> Result<Option<Var>, Memory>
+        requires zero { sum.now ≡ zero_bound sum.now.sides.parts }
+        ensures found { IfOk result (λ r. IfSome r (λ v. slice_get self.now.simplex.forms v ≡ Some sum.now.sides.parts)) }
+        ensures free { result ≡ Ok None → IsFree self.now sum.now.sides.parts }
+    {
+        let key = Atom::AtMost(sum.copied(self.alloc)?);
+        match self.forms.get(&key) {
+            Some(var) => Ok(Some(*var)),
+            None => Ok(None),
+        }
+    }
+
+    /// Adds a sum to the forms.
+    fn join(&mut self, sum: Bound) -> Result<Var, Stop>
+        requires zero { sum ≡ zero_bound sum.sides.parts }
+        requires may { MayAddSum self.old sum.sides.parts }
+        requires free { IsFree self.old sum.sides.parts }
+        ensures form { IfOk result (λ v. slice_get self.new.simplex.forms v ≡ Some sum.sides.parts) }
+        ensures adds { AddsForm self.old self.new sum.sides.parts }
+        ensures position { OnOk result ((ns : List Node) → IsOver self.old ns → AreUnits ns sum.sides.parts → position_over ns self.new.simplex ≡ joined_over ns self.old.simplex sum.sides.parts) }
+        ensures stops { IfErr result (StopsJoining self.old sum.sides.parts) }
+        ensures unspent { IfErr result (λ e. e ≡ stop.Spent → ⊥) }
+        ensures unchanged { OnErr result (self.new ≡ self.old) }
+    {
+        one_number();
+        stored(self);
+        // Room comes first, so that nothing has changed where there is none.
+        self.forms.reserve(1)?;
+        let var = match self.simplex.add_form(sum.form()) {
+            Ok(var) => var,
+            Err(TabStop::Wide(wide)) => {
+                wide.a.num();
+                wide.b.num();
+                return Err(stopped(wide, Site::Joining));
+            }
+            Err(TabStop::Memory) => return Err(Stop::Memory),
+        };
+        self.forms.insert(Atom::AtMost(sum), var).unwrap();
+        Ok(var)
+    }
+
+    /// Keeps what an atom bounds.
+    fn keep(&mut self, id: AtomId, bounded: Bounded) -> Result<(), Memory>
+        requires form { bounded.var < length self.old.simplex.forms }
+        requires untold { HasTold self.old [] }
+        ensures kept { OnOk result ((i : ℕ) → known_at self.new i ≡ (if i == id then Some (known_of bounded) else known_at self.old i)) }
+        ensures simplex { self.new.simplex ≡ self.old.simplex }
+        ensures told { self.new.told ≡ self.old.told }
+    {
+        stored(self);
+        put_at(&mut self.bounded, id, bounded)
+    }
+}
+
+/// Puts an element at a place, with none at those before it that are new.
+fn put_at(bounded: &mut Vec<Option<Bounded>>, id: AtomId, one: Bounded) -> Result<(), Memory>
+    ensures put { OnOk result ((i : ℕ) → slice_index_or bounded.new.items i None ≡ (if i == id then Some one else slice_index_or bounded.old.items i None)) }
+    ensures others { OnErr result ((i : ℕ) → slice_index_or bounded.new.items i None ≡ slice_index_or bounded.old.items i None) }
+{
+    let Some(count) = id.checked_add(1) else {
+        return Err(Memory);
+    };
+    if bounded.len() < count {
+        bounded.resize(count, None)?;
+    }
+    bounded[id] = Some(one);
+    Ok(())
+}

@@ -1,0 +1,12 @@
+//! The theory of linear real arithmetic: bounds on sums of units, told one after another, over a simplex.
+#![tactic(auto)]
+
+mod forms;
+mod joins;
+mod model;
+mod neighbours;
+mod reals;
+mod refute;
+mod theory;
+
+pub use reals::{Reals, stored};

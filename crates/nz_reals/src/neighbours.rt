@@ -1,0 +1,149 @@
+//! Clauses by which neighbouring bounds of one form know each other: one that is true makes the weaker ones true, and those against it false.
+ghost use Rattle.std.specs.Prelude.{◌≡◌, ℕ, List, [], ◌∷◌, All, Contains, IfOk, IfSome, IsSome, OnOk, option_map, true};
+ghost use Rattle.nz_log.specs.Theories.{IsClash};
+ghost use Rattle.nz_reals.specs.Exclusions.{AddsOn, AreOpposed, IsExclusion, IsKnownOn};
+ghost use Rattle.nz_reals.specs.Known.{known_of};
+ghost use Rattle.nz_reals.specs.Stands.{IsOf};
+ghost use Rattle.nz_reals.specs.State.{known_at};
+ghost use Rattle.nz_reals.specs.Tells.{AreKnown, both};
+
+use crate::forms::Bounded;
+use crate::reals::{Reals, stored};
+use crate::refute::{both_once, refute};
+use nz_base::Memory;
+use nz_delta::Delta;
+use nz_log::{AtomId, ClauseId, Lit, Log, Stop};
+use nz_simplex::laws::{clashes_contradict, literals_say_bounds, sums_stay};
+use nz_spec::derivation::tells_literals;
+use nz_spec::form::term_has_its_number;
+use nz_trail::Var;
+
+/// A lower bound of a form, and the literal that says it.
+#[derive(Clone, Copy, Debug)]
+struct Lower {
+    literal: Lit,
+    var: Var,
+    value: Delta,
+}
+
+impl Reals {
+    /// Adds the clauses that a lower bound of a form and the negation of the next weaker one aren't both true, for the bounds that these atoms say, where
+    /// one of the two atoms has at least this number. Two whose sum leaves the numbers have no clause.
+    ///
+    /// # Errors
+    ///
+    /// `Memory`.
+    pub fn exclusions(
+        &self,
+        log: &mut Log,
+        atoms: &[AtomId],
+        from: AtomId,
+    ) -> Result<Vec<ClauseId>, Memory>
+        requires of { (ids : List ℕ) × IsOf self.now log.old.atoms ids }
+        ensures clauses { IfOk result (λ cs. All (IsExclusion log.new atoms.now) cs.items) }
+        ensures adds { AddsOn atoms.now log.old log.new }
+    {
+        let lowers = self.lowers(atoms)?;
+        let mut clauses = Vec::new(self.alloc);
+        for i in 1..lowers.len() {
+            let weaker = lowers[i - 1].literal;
+            self.add_exclusion(log, lowers[i].literal, weaker.not(), from, &mut clauses)?;
+        }
+        Ok(clauses)
+    }
+
+    /// The lower bounds that these atoms say, those of a form beside each other, the weakest first.
+    fn lowers(&self, atoms: &[AtomId]) -> Result<Vec<Lower>, Memory>
+        ensures known { IfOk result (λ ls. All (λ l. IsKnownOn self.now atoms.now l.literal) ls.items) }
+    {
+        let mut lowers = Vec::new(self.alloc);
+        for atom in atoms {
+            if let Some(lower) = self.lower(*atom) {
+                lowers.push(lower)?;
+            }
+        }
+        lowers.sort_by_key(|lower| (lower.var, lower.value.c, lower.value.k))?;
+        Ok(lowers)
+    }
+
+    /// The lower bound that an atom says, or its negation.
+    fn lower(&self, atom: AtomId) -> Option<Lower>
+        ensures atom { IfSome result (λ l. l.literal.atom ≡ atom) }
+        ensures known { IfSome result (λ l. IsSome (known_at self.now atom)) }
+    {
+        let bounded = self.known_if(atom)?;
+        let sign = bounded.lower_sign()?;
+        Some(Lower {
+            literal: Lit { atom, sign },
+            var: bounded.var,
+            value: bounded.said(sign).value,
+        })
+    }
+
+    /// What is known of an atom, where anything is.
+    fn known_if(&self, atom: AtomId) -> Option<Bounded>
+        ensures known { option_map known_of result ≡ known_at self.now atom }
+    {
+        match self.bounded.get(atom) {
+            Some(bounded) => *bounded,
+            None => None,
+        }
+    }
+
+    /// Adds the clause that two literals aren't both true, where their bounds leave a form no value, and one of their atoms has at least this number.
+    fn add_exclusion(
+        &self,
+        log: &mut Log,
+        literal: Lit,
+        other: Lit,
+        from: AtomId,
+        clauses: &mut Vec<ClauseId>,
+    ) -> Result<(), Memory>
+        requires of { (ids : List ℕ) × IsOf self.now log.old.atoms ids }
+        requires known { AreKnown self.now (both literal other) }
+        ensures clauses { (ids : List ℕ) → Contains ids literal.atom → Contains ids other.atom → All (IsExclusion log.old ids) clauses.old.items → OnOk result (All (IsExclusion log.new ids) clauses.new.items) }
+        ensures adds { (ids : List ℕ) → Contains ids literal.atom → Contains ids other.atom → AddsOn ids log.old log.new }
+    {
+        if literal.atom < from && other.atom < from {
+            return Ok(());
+        }
+        if let Some(clause) = self.exclusion(log, literal, other)? {
+            clauses.push(clause)?;
+        }
+        Ok(())
+    }
+
+    /// The clause that two literals aren't both true, where their bounds leave a form no value, and their sum doesn't leave the numbers.
+    fn exclusion(&self, log: &mut Log, literal: Lit, other: Lit) -> Result<Option<ClauseId>, Memory>
+        requires of { (ids : List ℕ) × IsOf self.now log.old.atoms ids }
+        requires known { AreKnown self.now (both literal other) }
+        ensures clash { IfOk result (λ r. IfSome r (IsClash log.new (literal ∷ other ∷ []))) }
+        ensures adds { (ids : List ℕ) → Contains ids literal.atom → Contains ids other.atom → AddsOn ids log.old log.new }
+    {
+        clashes_contradict();
+        literals_say_bounds();
+        sums_stay();
+        term_has_its_number();
+        tells_literals();
+        stored(self);
+        if !self.are_opposed(literal, other) {
+            return Ok(None);
+        }
+        match refute(self, log, &both_once(literal, other)) {
+            Ok(clause) => Ok(Some(clause)),
+            Err(Stop::Memory) => Err(Memory),
+            // The search is right without the clause.
+            Err(_) => Ok(None),
+        }
+    }
+
+    /// Whether the one literal says a lower bound of a form, and the other an upper one below it.
+    fn are_opposed(&self, literal: Lit, other: Lit) -> bool
+        requires known { AreKnown self.now (both literal other) }
+        ensures apart { result ≡ true → AreOpposed self.now literal other }
+    {
+        let low = self.known(literal.atom);
+        let high = self.known(other.atom);
+        low.var == high.var && low.said(literal.sign).is_above(&high.said(other.sign))
+    }
+}

@@ -1,0 +1,14 @@
+-- Where it was asked before, nothing is noted.
+use Rattle.std.proofs.Common.{List, map, refl, sym, subst}
+use Rattle.nz_spec.specs.Legal.{Lead, at_first, no_point}
+use Rattle.nz_spec.specs.Work.{WorkLine}
+use Rattle.nz_log.specs.declared.note.Note.{Note}
+use Rattle.nz_log.specs.Notes.{noted_line}
+use Rattle.nz_log.specs.Verdicts.{task_in}
+use Rattle.nz_run_tests.proofs.session.OnceOnlyDecide.check.Goals as goal
+
+pub returns-then-self-clause-legal : goal.returns-then-self-clause-legal
+returns-then-self-clause-legal c =
+    let ns = c.args.terms.now in
+    let q = task_in ns c.args.self.now.engine.levels c.args.assumed.now in
+    (no_point, subst (λ (ls : List (WorkLine Note)). Lead q at_first no_point (map (noted_line ns) ls) no_point) (sym c.requires.no_steps) refl)

@@ -1,0 +1,7 @@
+-- The atom has a number.
+use Rattle.std.proofs.Common.{sym, ◌∙◌}
+use Rattle.nz_sat.proofs.Numbering.{unnamed}
+use Rattle.nz_sat.proofs.consult.note_told.Goals as goal
+
+pub unreachable-requires : goal.unreachable-requires
+unreachable-requires c = unnamed c.args.atoms.now c.args.literal.atom c.requires.named (sym c.number.ensures.number ∙ c.in-None.is)

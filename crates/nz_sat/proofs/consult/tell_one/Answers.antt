@@ -1,0 +1,65 @@
+-- The note moves the forms as the theory did.
+use Rattle.std.proofs.Common.{◌≡◌, ℕ, ◌++◌, ◌∷◌, [], Err, None, Option, rules, sym, subst}
+use Rattle.std.specs.Prelude.{⊤}
+use Rattle.nz_spec.specs.Legal.{told_literals}
+use Rattle.nz_spec.specs.Work.{WorkList}
+use Rattle.nz_log.specs.declared.note.Note.{Note}
+use Rattle.nz_log.specs.Atoms.{literal_in}
+use Rattle.nz_log.specs.Places.{IsPlaceIn}
+use Rattle.nz_log.specs.Standing.{Ends, IsStoppedAt, Stands, search_after}
+use Rattle.nz_spec.specs.LiteralBounds.{moved_by}
+use Rattle.nz_spec.specs.Work.{with_line}
+use Rattle.nz_log.specs.Theories.{MovesOn, told_after}
+use Rattle.nz_sat.specs.Theories.{AddsLines, IsOfTheory, told_line}
+use Rattle.nz_sat.proofs.Listing.{adds_line}
+use Rattle.nz_sat.proofs.Taking.{ends_stopped, told_stands, told_stopped, wide_weaker}
+use Rattle.nz_sat.proofs.consult.tell_one.Goals as goal
+
+pub returns-in_ok-note_told-in-Ok-None-clause-comes : goal.returns-in_ok-note_told-in-Ok-None-clause-comes
+returns-in_ok-note_told-in-Ok-None-clause-comes g c =
+    let work = c.args.work.now in
+    let line = told_line c.args.atoms.now c.args.literal in
+    let noted : c.note_told.new.work ≡ with_line work line = c.in_ok-note_told-in-Ok-None.ensures.noted in
+    let none : c.in-Ok-None.field-0 ≡ None = search rules in
+    record {
+      told = λ ls told. subst (λ (o : Option ℕ). g.T.Theory.has_told c.assert_lit.new.self (told_after ls c.args.literal o)) none (c.in-Ok-None.ensures.told ls told);
+      clash = λ ls told. tt;
+      keeps = record { over = c.assert_lit.ensures.over; of = c.assert_lit.ensures.of };
+      grows = c.assert_lit.ensures.grows;
+      sound = c.assert_lit.ensures.sound;
+      noted = noted;
+      adds = subst (AddsLines IsOfTheory work) (sym noted) (adds_line work line tt);
+      ends = λ ns q may says s.
+          let r = search_after ns work in
+          subst (Stands (g.T.Theory.is_at c.assert_lit.new.self ns) ns q) (sym noted)
+          (told_stands ns q c.args.log.now c.args.atoms.now c.args.literal work may says s.point s.legal (g.T.Theory.is_at c.assert_lit.new.self ns)
+          (subst (λ (o : Option ℕ). MovesOn (g.T.Theory.is_at c.assert_lit.new.self ns r.forms) r.forms (told_literals r) (literal_in ns c.args.log.now.atoms c.args.literal) s.point o) none
+          (c.in-Ok-None.ensures.at ns r.forms (told_literals r) s.point s.at)));
+    }
+
+pub returns-in_ok-note_told-in-Err-clause-comes : goal.returns-in_ok-note_told-in-Err-clause-comes
+returns-in_ok-note_told-in-Err-clause-comes g c =
+    let work = c.args.work.now in
+    let log = c.args.log.now in
+    let atoms = c.args.atoms.now in
+    let literal = c.args.literal in
+    let line = told_line atoms literal in
+    let noted : c.note_told-in-Err.new.work ≡ with_line work line = c.in_ok-note_told-in-Err.ensures.noted in
+    record {
+      told = λ ls told. tt;
+      clash = λ ls told. tt;
+      keeps = record { over = c.assert_lit.ensures.over; of = c.assert_lit.ensures.of };
+      grows = c.assert_lit.ensures.grows;
+      sound = c.assert_lit.ensures.sound;
+      noted = tt;
+      adds = subst (AddsLines IsOfTheory work) (sym noted) (adds_line work line tt);
+      ends = λ ns q may says s.
+          let r = search_after ns work in
+          let l = literal_in ns log.atoms literal in
+          let IsAt = g.T.Theory.is_at c.assert_lit.new.self ns in
+          let led = told_stands ns q log atoms literal work may says s.point s.legal (λ fs ls y. ⊤) tt in
+          subst (λ (w : WorkList Note). Ends {A = Option ℕ} IsAt ns q w (Err c.in-Err.stop)) (sym noted)
+          (ends_stopped (Option ℕ) IsAt ns q (with_line work line) led.point led.legal c.in-Err.stop
+          (wide_weaker c.in-Err.stop (IsPlaceIn ns r.forms (told_literals r ++ l ∷ []) (moved_by r.forms l s.point)) (IsStoppedAt ns q (with_line work line))
+          (told_stopped ns q log atoms literal work may says s.point s.legal) (c.in-Err.ensures.place ns r.forms (told_literals r) s.point s.at)));
+    }

@@ -1,0 +1,320 @@
+-- Truths and numbers that meet the clauses of the tables are the values of the terms.
+use Rattle.std.proofs.Common.{◌≡◌, Bool, true, false, not, ◌&&◌, ◌⊎◌, inl, inr, List, [], ◌∷◌, map, Option, Some, pos, refl, sym, ap, subst, ◌∙◌, true≢false}
+use Rattle.std.specs.Prelude.{Contains, ⊤, if◌then◌else◌}
+use Rattle.std.specs.List.{AllByRecursion}
+use Rattle.std.proofs.lemmas.Bool.{and_parts}
+use Rattle.std.proofs.lemmas.Option.{same_Some}
+use Rattle.std.proofs.lemmas.List.Elements.{Contains-append_left, Contains-append_right, Contains-push}
+use Rattle.nz_lists.proofs.Elements.{AllByRecursion-weaker}
+use Rattle.nz_fractions.specs.Fraction.{Fraction, whole, ◌=ℚ◌, ◌≤ℚ◌, ◌<ℚ◌, neg_ℚ, fraction_cmp, fraction_eq, Difference}
+use Rattle.nz_spec.specs.Computation.{Computation, in_turn}
+use Rattle.nz_spec.specs.Term.{NumberSort, over_int, over_real, sort_over, bool_sort, real_sort, is_bool, Constant, Head, constant, integer, decimal_number, verum, falsum, negation, conjunction, disjunction, exclusion, equality, choice, less, at_most, sum, difference, product, quotient, to_real, Term, apply, Terms, no_terms, terms, Value, truth, Assignment, is_true, number_of, are_equal, decimal_value, value_of, values_of, sort_of, IsOfSort}
+use Rattle.nz_spec.specs.Linear.{constant_values, is_linear_node, is_linear, are_linear}
+use Rattle.nz_spec.specs.Model.{IsAssignment}
+use Rattle.nz_spec.specs.Order.{post_order, post_orders}
+use Rattle.nz_spec.specs.Form.{Numbering, Form, unit_value}
+use Rattle.nz_spec.specs.FormOf.{form_of, forms_of}
+use Rattle.nz_spec.specs.Literal.{Literal, Clause}
+use Rattle.nz_spec.specs.Gates.{holds, fails, is_boolean_term, gate_clauses, IsRow}
+use Rattle.nz_spec.specs.Links.{minus, at_most_literal, below_literal, link_clauses}
+use Rattle.nz_spec.specs.Units.{unit_clauses}
+use Rattle.nz_spec.specs.Basis.{Valuation, worth}
+use Rattle.nz_spec.specs.WellSorted.{AllAre, HaveOperands, IsWellSorted, AreWellSorted}
+use Rattle.nz_spec.specs.Taken.{IsTakenHead, HasTakenHeads, HaveTakenHeads}
+use Rattle.nz_spec.specs.Deciding.{IsMet, HasMetLiteral, MeetsTables, TablesDecide}
+use Rattle.nz_fractions.proofs.Laws.{=ℚ_refl, =ℚ_sym, =ℚ_trans, =ℚ-from_same, ≤ℚ-from_eq, ≤ℚ_antisymm, <ℚ_irrefl}
+use Rattle.nz_fractions.proofs.Order.{same-fraction_eq, fraction_eq-same, lt_is, lt_is_not, le_is, le_is_not}
+use Rattle.nz_fractions.proofs.Arithmetic.{+ℚ-same, neg_ℚ-same}
+use Rattle.nz_fractions.proofs.Bounds.{lt-carried, le-carried}
+use Rattle.nz_spec.proofs.FormTerms.{Own, term-worth}
+use Rattle.nz_spec.proofs.FormValues.{by_difference, form_worth, form_joined-worth, Match, constant-worth, unit-worth}
+use Rattle.nz_spec.proofs.GateSettling.{SaysOne, says_one, others, alone, IsSettled, AreSettled, node_settled}
+use Rattle.nz_spec.proofs.LinkTruths.{moved_over, and-true, equal_numbers}
+use Rattle.nz_spec.proofs.OperandSorts.{operands_are}
+use Rattle.nz_spec.proofs.Sorted.{value_is}
+
+apart : (p q : Fraction) → (p =ℚ q → ⊥) → fraction_eq p q ≡ false
+apart p q n = by_test (fraction_eq p q) refl
+  where
+    by_test : (b : Bool) → fraction_eq p q ≡ b → fraction_eq p q ≡ false
+    by_test true e = absurd (n (same-fraction_eq p q e))
+    by_test false e = e
+
+own_term : (t : Term) → Contains (post_order t) t
+own_term (apply h ts) = Contains-push (post_orders ts) (apply h ts)
+
+module _ (number : Numbering) (a : Assignment) (truths : Term → Option Bool) (v : Valuation) where
+  abbrev Says : Literal → Type 0
+  Says l = IsMet truths v l
+
+  one_truth : (t : Term) → Says (holds t) → Says (fails t) → ⊥
+  one_truth t h k = true≢false (same_Some true false (sym h ∙ k))
+
+  abbrev Settled : Term → Type 0
+  Settled t = IsSettled a Says one_truth t
+
+  abbrev OneSaid : Clause → Type 0
+  OneSaid c = SaysOne a Says one_truth c
+
+  abbrev AllSaid : List (Computation Clause) → Type 0
+  AllSaid cs = AllByRecursion (λ (c : Computation Clause). OneSaid c.result) cs
+
+  met_said : (c : Clause) → HasMetLiteral truths v c → OneSaid c
+  met_said c h = says_one a Says one_truth c h.0 h.1 h.2
+
+  abbrev HasMetResult : Computation Clause → Type 0
+  HasMetResult c = HasMetLiteral truths v c.result
+
+  all_said : (cs : List (Computation Clause)) → AllByRecursion HasMetResult cs → AllSaid cs
+  all_said cs h = AllByRecursion-weaker HasMetResult (λ (c : Computation Clause). OneSaid c.result) (λ c k. met_said c.result k) cs h
+
+  -- what the others say where the first literal denies the term's truth
+  rest_said : (t : Term) (sign : Bool) (R : Type 0) → truths t ≡ Some sign → (truths t ≡ Some (not sign)) ⊎ R → R
+  rest_said t sign R has h = others a Says one_truth t sign R has h
+
+  -- what the second one says where it is the last
+  last_said : (t : Term) (sign : Bool) (R : Type 0) → truths t ≡ Some sign → (truths t ≡ Some (not sign)) ⊎ (R ⊎ ⊥) → R
+  last_said t sign R has h = alone a Says one_truth R (rest_said t sign (R ⊎ ⊥) has h)
+
+  -- the rows that stand where a test fails
+  other_rows : (b : Bool) (rows : List (List (Computation Literal))) → b ≡ false → AllSaid (map in_turn (if b then [] else rows)) → AllSaid (map in_turn rows)
+  other_rows true rows e h = absurd (true≢false e)
+  other_rows false rows e h = h
+
+  -- ---- Comparisons of forms
+
+  abbrev worth_of : Term → Fraction
+  worth_of t = form_worth v (form_of number t).result
+
+  abbrev difference_of : (x y : Term) → Form
+  difference_of x y = (minus number (form_of number x) (form_of number y)).result
+
+  compared : (x y : Term) (p q : Fraction) → worth_of x =ℚ p → worth_of y =ℚ q
+      → fraction_cmp (worth v (difference_of x y).parts) (neg_ℚ (difference_of x y).offset) ≡ fraction_cmp p q
+  compared x y p q h k =
+      let f = difference_of x y in
+      moved_over (worth v f.parts) f.offset p q
+      (=ℚ_trans (form_joined-worth number v Difference by_difference (form_of number x).result (form_of number y).result) (+ℚ-same h (neg_ℚ-same k)))
+
+  at_most_said : (x y : Term) (p q : Fraction) → worth_of x =ℚ p → worth_of y =ℚ q → Says (at_most_literal number x y).result → p ≤ℚ q
+  at_most_said x y p q h k m = le-carried (worth v (difference_of x y).parts) (neg_ℚ (difference_of x y).offset) p q (compared x y p q h k) m
+
+  below_said : (x y : Term) (p q : Fraction) → worth_of x =ℚ p → worth_of y =ℚ q → Says (below_literal number x y).result → p <ℚ q
+  below_said x y p q h k m = lt-carried (worth v (difference_of x y).parts) (neg_ℚ (difference_of x y).offset) p q (compared x y p q h k) m
+
+  -- ---- Comparisons
+
+  -- what the term's form is worth is its value
+  abbrev HasWorth : Term → Type 0
+  HasWorth t = worth_of t =ℚ unit_value a t
+
+  module _ (x y : Term) (h : HasWorth x) (k : HasWorth y) where
+    abbrev both : Terms
+    both = terms x (terms y no_terms)
+
+    abbrev left_value : Fraction
+    left_value = unit_value a x
+
+    abbrev right_value : Fraction
+    right_value = unit_value a y
+
+    abbrev Low : Type 0
+    Low = Says (below_literal number x y).result
+
+    abbrev High : Type 0
+    High = Says (below_literal number y x).result
+
+    abbrev NotHigh : Type 0
+    NotHigh = Says (at_most_literal number x y).result
+
+    abbrev NotLow : Type 0
+    NotLow = Says (at_most_literal number y x).result
+
+    low : Low → left_value <ℚ right_value
+    low m = below_said x y left_value right_value h k m
+
+    high : High → right_value <ℚ left_value
+    high m = below_said y x right_value left_value k h m
+
+    not_high : NotHigh → left_value ≤ℚ right_value
+    not_high m = at_most_said x y left_value right_value h k m
+
+    not_low : NotLow → right_value ≤ℚ left_value
+    not_low m = at_most_said y x right_value left_value k h m
+
+    less_settled : AllSaid (link_clauses number (apply less both)) → Settled (apply less both)
+    less_settled m true has =
+        ap (λ (b : Bool). truth (b && true)) (lt_is left_value right_value (low (last_said (apply less both) true Low has m.0)))
+    less_settled m false has =
+        ap (λ (b : Bool). truth (b && true)) (lt_is_not left_value right_value (not_low (last_said (apply less both) false NotLow has m.1.0)))
+
+    at_most_settled : AllSaid (link_clauses number (apply at_most both)) → Settled (apply at_most both)
+    at_most_settled m true has =
+        ap (λ (b : Bool). truth (b && true)) (le_is left_value right_value (not_high (last_said (apply at_most both) true NotHigh has m.0)))
+    at_most_settled m false has =
+        ap (λ (b : Bool). truth (b && true)) (le_is_not left_value right_value (high (last_said (apply at_most both) false High has m.1.0)))
+
+    either_apart : Low ⊎ (High ⊎ ⊥) → fraction_eq left_value right_value ≡ false
+    either_apart (inl m) = apart left_value right_value (λ e. <ℚ_irrefl (low m) (≤ℚ-from_eq (=ℚ_sym e)))
+    either_apart (inr m) = apart left_value right_value (λ e. <ℚ_irrefl (high (alone a Says one_truth High m)) (≤ℚ-from_eq e))
+
+    equality_settled : IsOfSort (sort_of x) (value_of a x) → is_boolean_term x ≡ false → AllSaid (link_clauses number (apply equality both))
+        → Settled (apply equality both)
+    equality_settled s e m = let rows = other_rows (is_boolean_term x) _ e m in by_rows rows.0 rows.1.0 rows.1.1.0
+      where
+        t : Term
+        t = apply equality both
+
+        is : value_of a (apply equality both) ≡ truth (fraction_eq left_value right_value)
+        is = ap truth (and-true (are_equal (value_of a x) (value_of a y)) ∙ equal_numbers number a (sort_of x) (value_of a x) (value_of a y) s e)
+
+        by_rows : (truths t ≡ Some false) ⊎ (NotHigh ⊎ ⊥) → (truths t ≡ Some false) ⊎ (NotLow ⊎ ⊥) → (truths t ≡ Some true) ⊎ (Low ⊎ (High ⊎ ⊥)) → Settled t
+        by_rows h k l true has =
+            let same = ≤ℚ_antisymm (not_high (last_said t true NotHigh has h)) (not_low (last_said t true NotLow has k)) in
+            is ∙ ap truth (fraction_eq-same left_value right_value same)
+        by_rows h k l false has = is ∙ ap truth (either_apart (rest_said t false (Low ⊎ (High ⊎ ⊥)) has l))
+
+  -- ---- ite over Real
+
+  chosen : (u x : Term) → HasWorth x → Says (at_most_literal number u x).result → Says (at_most_literal number x u).result → worth_of u =ℚ unit_value a x
+  chosen u x h m k =
+      ≤ℚ_antisymm
+      (at_most_said u x (worth_of u) (unit_value a x) (=ℚ_refl (worth_of u)) h m)
+      (at_most_said x u (unit_value a x) (worth_of u) h (=ℚ_refl (worth_of u)) k)
+
+  abbrev chosen_of : (c x y : Term) → Term
+  chosen_of c x y = apply (choice real_sort) (terms c (terms x (terms y no_terms)))
+
+  choice_has_worth : (c x y : Term) → Settled c → HasWorth x → HasWorth y → (sign : Bool) → truths c ≡ Some sign
+      → AllSaid (unit_clauses number (chosen_of c x y)) → HasWorth (chosen_of c x y)
+  choice_has_worth c x y s h k true has m =
+      let u = chosen_of c x y in
+      =ℚ_trans
+      (chosen u x h
+      (last_said c true (Says (at_most_literal number u x).result) has m.0)
+      (last_said c true (Says (at_most_literal number x u).result) has m.1.0))
+      (=ℚ-from_same (sym (ap (λ (w : Value). number_of (if is_true w then value_of a x else value_of a y)) (s true has))))
+  choice_has_worth c x y s h k false has m =
+      let u = chosen_of c x y in
+      =ℚ_trans
+      (chosen u y k
+      (last_said c false (Says (at_most_literal number u y).result) has m.1.1.0)
+      (last_said c false (Says (at_most_literal number y u).result) has m.1.1.1.0))
+      (=ℚ-from_same (sym (ap (λ (w : Value). number_of (if is_true w then value_of a x else value_of a y)) (s false has))))
+
+  -- ---- Terms
+
+  abbrev DecidedAs : Bool → Term → Type 0
+  DecidedAs true t = Settled t
+  DecidedAs false t = HasWorth t
+
+  -- its truth is its value, or what its form is worth is
+  abbrev IsDecided : Term → Type 0
+  IsDecided t = DecidedAs (is_boolean_term t) t
+
+  abbrev AreDecided : Terms → Type 0
+  AreDecided no_terms = ⊤
+  AreDecided (terms t ts) = IsDecided t × AreDecided ts
+
+  decided_as : (t : Term) (b : Bool) → is_boolean_term t ≡ b → IsDecided t → DecidedAs b t
+  decided_as t b e d = subst (λ (c : Bool). DecidedAs c t) e d
+
+  all_settled : (ts : Terms) → AllAre true ts → AreDecided ts → AreSettled a Says one_truth ts
+  all_settled no_terms b d = tt
+  all_settled (terms t ts) b d = (decided_as t true b.0 d.0, all_settled ts b.1 d.1)
+
+  all_match : (ts : Terms) → AllAre false ts → AreDecided ts → Match number v (forms_of number ts).result (values_of a ts)
+  all_match no_terms b d = tt
+  all_match (terms t ts) b d = (decided_as t false b.0 d.0, all_match ts b.1 d.1)
+
+  over_number : (s : NumberSort) (t : Term) → HasWorth t → DecidedAs (is_bool (sort_over s)) t
+  over_number over_int t h = h
+  over_number over_real t h = h
+
+  arithmetic_has_worth : (h : Head) (ts : Terms) → AllAre false ts → AreDecided ts → is_linear_node h (constant_values ts) ≡ true
+      → Own h (forms_of number ts).result (v (apply h ts) =ℚ unit_value a (apply h ts)) → HasWorth (apply h ts)
+  arithmetic_has_worth h ts b d l own = term-worth a number v h ts (all_match ts b d) l own
+
+  module _ (good : IsAssignment a) (parts : List Term) (m : MeetsTables truths v number a parts) where
+    abbrev AreParts : List Term → Type 0
+    AreParts us = (u : Term) → Contains us u → Contains parts u
+
+    links_said : (t : Term) → Contains parts t → AllSaid (link_clauses number t)
+    links_said t at = all_said (link_clauses number t) (m.links t at)
+
+    units_said : (t : Term) → Contains parts t → AllSaid (unit_clauses number t)
+    units_said t at = all_said (unit_clauses number t) (m.units t at)
+
+    gate_settled : (h : Head) (ts : Terms) → IsRow h ts → AllAre true ts → AreDecided ts → Contains parts (apply h ts) → Settled (apply h ts)
+    gate_settled h ts r b d at =
+        node_settled a Says one_truth h ts r b
+        (AllByRecursion-weaker (HasMetLiteral truths v) OneSaid met_said (gate_clauses (apply h ts)) (m.gates (apply h ts) at))
+        (all_settled ts b d)
+        (λ c sign e has. m.constants c sign (subst (Contains parts) e at) has)
+
+    constant_decided : (c : Constant) → Contains parts (apply (constant c) no_terms) → IsDecided (apply (constant c) no_terms)
+    constant_decided c at = by_sort (is_bool c.sort) refl
+      where
+        by_sort : (b : Bool) → is_bool c.sort ≡ b → DecidedAs b (apply (constant c) no_terms)
+        by_sort true e = λ sign has. m.constants c sign at has
+        by_sort false e = =ℚ_trans (unit-worth number v (apply (constant c) no_terms)) (=ℚ_sym (m.numbers c at e))
+
+    equality_decided : (x y : Term) → IsWellSorted [] x → (b : Bool) → AllAre b (terms x (terms y no_terms)) → AreDecided (terms x (terms y no_terms))
+        → Contains parts (apply equality (terms x (terms y no_terms))) → Settled (apply equality (terms x (terms y no_terms)))
+    equality_decided x y s true b d at = gate_settled equality (terms x (terms y no_terms)) tt b d at
+    equality_decided x y s false b d at =
+        equality_settled x y (decided_as x false b.0 d.0) (decided_as y false b.1.0 d.1.0) (value_is a good [] x s) b.0
+        (links_said (apply equality (terms x (terms y no_terms))) at)
+
+    node_decided : (h : Head) (ts : Terms) → IsTakenHead h ts → HaveOperands h ts → AreWellSorted [] ts → is_linear_node h (constant_values ts) ≡ true
+        → AreDecided ts → Contains parts (apply h ts) → AreParts (post_orders ts) → IsDecided (apply h ts)
+    node_decided (constant c) no_terms k o s l d at within = constant_decided c at
+    node_decided (integer n) no_terms k o s l d at within = constant-worth number v (whole (pos n))
+    node_decided (decimal_number n places) no_terms k o s l d at within = constant-worth number v (decimal_value n places)
+    node_decided verum no_terms k o s l d at within = gate_settled verum no_terms tt tt tt at
+    node_decided falsum no_terms k o s l d at within = gate_settled falsum no_terms tt tt tt at
+    node_decided negation (terms t no_terms) k o s l d at within = gate_settled negation (terms t no_terms) tt o d at
+    node_decided conjunction ts k o s l d at within = gate_settled conjunction ts tt o d at
+    node_decided disjunction ts k o s l d at within = gate_settled disjunction ts tt o d at
+    node_decided exclusion (terms t (terms u no_terms)) k o s l d at within = gate_settled exclusion (terms t (terms u no_terms)) tt o d at
+    node_decided equality (terms t (terms u no_terms)) k o s l d at within = equality_decided t u s.0 o.0 o.1 d at
+    node_decided less (terms t (terms u no_terms)) k o s l d at within =
+        less_settled t u (decided_as t false o.0 d.0) (decided_as u false o.1.0 d.1.0) (links_said (apply less (terms t (terms u no_terms))) at)
+    node_decided at_most (terms t (terms u no_terms)) k o s l d at within =
+        at_most_settled t u (decided_as t false o.0 d.0) (decided_as u false o.1.0 d.1.0) (links_said (apply at_most (terms t (terms u no_terms))) at)
+    node_decided (choice bool_sort) (terms c (terms t (terms u no_terms))) k o s l d at within =
+        gate_settled (choice bool_sort) (terms c (terms t (terms u no_terms))) tt o d at
+    node_decided (choice real_sort) (terms c (terms t (terms u no_terms))) k o s l d at within =
+        let known = m.known c (within c (Contains-append_left (post_order c) (post_orders (terms t (terms u no_terms))) c (own_term c))) o.0 in
+        choice_has_worth c t u (decided_as c true o.0 d.0) (decided_as t false o.1.0 d.1.0) (decided_as u false o.1.1.0 d.1.1.0) known.0 known.1
+        (units_said (apply (choice real_sort) (terms c (terms t (terms u no_terms)))) at)
+    node_decided (sum n) ts k o s l d at within = over_number n (apply (sum n) ts) (arithmetic_has_worth (sum n) ts o d l tt)
+    node_decided (difference n) ts k o s l d at within = over_number n (apply (difference n) ts) (arithmetic_has_worth (difference n) ts o d l tt)
+    node_decided (product n) ts k o s l d at within = over_number n (apply (product n) ts) (arithmetic_has_worth (product n) ts o d l tt)
+    node_decided quotient ts k o s l d at within = arithmetic_has_worth quotient ts o d l tt
+    node_decided to_real (terms t no_terms) k o s l d at within = arithmetic_has_worth to_real (terms t no_terms) o d l tt
+    node_decided h ts k o s l d at within = absurd k
+
+    mutual
+      decided : (t : Term) → IsWellSorted [] t → is_linear t ≡ true → HasTakenHeads t → AreParts (post_order t) → IsDecided t
+      decided (apply h ts) s l k within =
+          let linear = and_parts (is_linear_node h (constant_values ts)) (are_linear ts) l in
+          let arguments : AreParts (post_orders ts) = λ u at. within u (Contains-append_left (post_orders ts) (apply h ts ∷ []) u at) in
+          node_decided h ts k.0 (operands_are h ts s.0) s.1 linear.0 (all_decided ts s.1 linear.1 k.1 arguments)
+          (within (apply h ts) (own_term (apply h ts))) arguments
+
+      all_decided : (ts : Terms) → AreWellSorted [] ts → are_linear ts ≡ true → HaveTakenHeads ts → AreParts (post_orders ts) → AreDecided ts
+      all_decided no_terms s l k within = tt
+      all_decided (terms t ts) s l k within =
+          let linear = and_parts (is_linear t) (are_linear ts) l in (
+            decided t s.0 linear.0 k.0 (λ u at. within u (Contains-append_left (post_order t) (post_orders ts) u at)),
+            all_decided ts s.1 linear.1 k.1 (λ u at. within u (Contains-append_right (post_order t) (post_orders ts) u at)),
+          )
+
+pub tables_decide : TablesDecide
+tables_decide = record {
+  truths = λ number a truths v t sign k good m e has.
+      decided_as number a truths v t true e (decided number a truths v good (post_order t) m t k.sorted k.linear k.heads (λ u at. at)) sign has;
+  numbers = λ number a truths v t k good m e.
+      =ℚ_sym (decided_as number a truths v t false e (decided number a truths v good (post_order t) m t k.sorted k.linear k.heads (λ u at. at)));
+}

@@ -1,6 +1,0 @@
-use Rattle.std.proofs.Common.{◌≡◌, drop}
-use Rattle.nz_term.specs.Facts.{hold_number_at}
-use Rattle.nz_term.proofs.facts.hold_number.Given as goal
-
-abbrev pub invariant-loop-kid : goal.invariant-loop-kid
-invariant-loop-kid l = hold_number_at l.facts (drop l.kid-index l.kids) ≡ hold_number_at l.facts l.kids
