@@ -10,6 +10,7 @@ pub mod JoiningRows
 pub mod Keeping
 pub mod Knowing
 pub mod Limiting
+pub mod Lowering
 pub mod News
 pub mod Placing
 pub mod Refuting
@@ -19,3 +20,4 @@ pub mod Sums
 pub mod Telling
 pub mod Tolds
 pub mod Whys
+pub mod Worths

@@ -4,7 +4,9 @@ use Rattle.std.proofs.lemmas.List.Elements.{All-from_recursion}
 use Rattle.nz_fractions.specs.Fraction.{Fraction, fraction_lt}
 use Rattle.nz_spec.specs.Infinitesimal.{IsLeastLimit, Pair, ◌≤δ◌}
 use Rattle.nz_delta.specs.Pairs.{pair_of}
-use Rattle.nz_reals.specs.Limits.{listed, pair_on}
+use Rattle.nz_log.specs.declared.place.Place.{Place}
+use Rattle.nz_log.specs.declared.place.Site.TheVariants.{Limit}
+use Rattle.nz_reals.specs.Limits.{IsLimitPlace, listed, pair_on}
 use Rattle.nz_reals.proofs.Limiting.{lesser_least, limit_stop, one_pair}
 use Rattle.nz_reals.proofs.reals.Reals.limited_on.Goals as goal
 
@@ -24,7 +26,8 @@ returns-in-Ok-clause-least c = λ ps first.
 pub returns-in-Err-clause-place : goal.returns-in-Err-clause-place
 returns-in-Err-clause-place c =
     let found = limit_stop (pair_of c.in_order.result) _ c.in-Err.ensures.wide in
-    record {
+    let own : Place = record { wide = c.in-Err.wide; site = Limit c.args.var c.args.side } in
+    let there : IsLimitPlace c.args.self.now own = record {
       form = c.args.var;
       side = c.args.side;
       site = refl;
@@ -33,5 +36,6 @@ returns-in-Err-clause-place c =
       is = one_pair c.args.self.now c.args.var c.args.side c.in-Some.bound c.value-value.result c.in_order.result c.in-Some.ensures.bound c.value-value.ensures.value c.in_order.ensures.pair;
       numbers = (c.value-value.ensures.standard, c.value-value.ensures.coefficient);
       of = found.0;
-      leaves = record { left = c.num.ensures.number; right = c.num-in-Err.ensures.number; wide = found.1 };
-    }
+      leaves = record { left = c.new.ensures.left; right = c.new.ensures.right; wide = found.1 };
+    } in
+    subst (IsLimitPlace c.args.self.now) (sym c.new.ensures.place) there

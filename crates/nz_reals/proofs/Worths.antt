@@ -2,66 +2,54 @@
 use Rattle.std.proofs.Common.{◌≡◌, inl, inr, ℕ, ◌<◌, Bool, true, false, true≢false, List, [], ◌∷◌, length, map, Option, Some, None, pos, refl, sym, ap, subst, ◌∙◌, arith}
 use Rattle.std.specs.Prelude.{◌==◌, Contains, IsSome, slice_get, unwrap_or, if◌then◌else◌}
 use Rattle.std.specs.List.{AllByRecursion}
-use Rattle.std.proofs.lemmas.Bool.{and_parts}
-use Rattle.std.proofs.lemmas.Bool.Decides.{eqb_tells}
 use Rattle.std.proofs.lemmas.List.{get_or-map, length-map}
-use Rattle.std.proofs.lemmas.List.Elements.{All-contains, All-from_recursion}
 use Rattle.std.proofs.lemmas.Option.{get_or_from_slice_get, same_Some, slice_get-get_or, slice_get_within}
+use Rattle.nz_lists.proofs.Members.{at_of, by_each, has_cases, has_found, has_more, has_none, map_has}
+use Rattle.nz_lists.proofs.Numbers.{equal-number, same-number}
 use Rattle.nz_fractions.specs.Fraction.{Fraction, whole, ◌=ℚ◌, ◌≤ℚ◌, ◌<ℚ◌, ◌+ℚ◌, ◌*ℚ◌, neg_ℚ}
 use Rattle.nz_fractions.proofs.Laws.{=ℚ_refl}
-use Rattle.nz_spec.specs.Infinitesimal.{Infinitesimal, at}
 use Rattle.nz_spec.specs.Basis.{Valuation, worth, form_at, HasItsUnits}
 use Rattle.nz_spec.specs.BasisMoves.{AreNumbered}
-use Rattle.nz_spec.specs.Bland.{Point, Position, HasBasis, HasValue}
+use Rattle.nz_spec.specs.Bland.{Point, Position, HasBasis}
+use Rattle.nz_spec.specs.Decide.{IsValueOf}
 use Rattle.nz_spec.specs.Deciding.{IsMet}
 use Rattle.nz_spec.specs.Farkas.{bound_of}
 use Rattle.nz_spec.specs.Form as spec
 use Rattle.nz_spec.specs.Form.{unit_form, negated_part}
 use Rattle.nz_spec.specs.FormOf.{number_in, TermHasItsNumber}
+use Rattle.nz_spec.specs.Infinitesimal.{Infinitesimal, at}
 use Rattle.nz_spec.specs.Literal.{Literal, is_at_most, TellsLiterals}
 use Rattle.nz_spec.specs.LiteralBounds.{FormBound, bound_said, position_under}
-use Rattle.nz_spec.specs.Places.{IsChosen}
 use Rattle.nz_spec.specs.PositionMoves.{IsReadyToCheck}
-use Rattle.nz_spec.specs.Table.{Node, IsTable, OneNumber, term_in, listed_value}
+use Rattle.nz_spec.specs.Table.{Node, OneNumber, term_in, listed_value}
 use Rattle.nz_spec.specs.Term as terms
-use Rattle.nz_spec.specs.Term.{Constant, constant, Term, Value, number, number_of, default_value, real_sort}
-use Rattle.nz_spec.specs.ToldBounds.{AreNumbers, AreWithinAt, ChosenFractionsKeepBounds, ToldBoundsAreMet}
-use Rattle.nz_term.specs.declared.heads.Sort as code
-use Rattle.nz_term.specs.declared.heads.Sort.TheVariants.{Bool as Boolean, Int, Real}
-use Rattle.nz_term.specs.Constants as sorts
+use Rattle.nz_spec.specs.Term.{Constant, constant, Head, Term, Value, number, number_of, default_value, real_sort, IsOfSort, ValueFits}
+use Rattle.nz_spec.specs.ToldBounds.{AreWithinAt, ChosenFractionsKeepBounds, ToldBoundsAreMet}
 use Rattle.nz_lin.specs.declared.bound.Bound.{Bound}
 use Rattle.nz_lin.specs.declared.form.Part.{Part}
 use Rattle.nz_lin.specs.Forms.{AreUnits, NamesUnit, negated, parts_over}
-use Rattle.nz_tab.specs.Units.{is_form_of, is_one, unit_number}
-use Rattle.nz_tab.proofs.UnitForms.{form_of_unit, number_found, one_is, unit_of_form, unit_parts, unit_unlisted}
+use Rattle.nz_tab.specs.Laws.{UnitsAreForms}
+use Rattle.nz_tab.specs.Units.{is_form_of, unit_number}
 use Rattle.nz_log.specs.declared.atoms.Atom.{Atom}
 use Rattle.nz_log.specs.declared.atoms.Atom.TheVariants.{AtMost}
 use Rattle.nz_log.specs.declared.lits.Lit.{Lit}
 use Rattle.nz_log.specs.Atoms.{literal_in, with_sign}
 use Rattle.nz_simplex.specs.Checks as checks
 use Rattle.nz_simplex.specs.State.{IsSound, position_over}
-use Rattle.nz_reals.specs.Chosen.{AreValues, IsConstant}
+use Rattle.nz_reals.specs.Chosen.{AddsValues, HasWorths, IsConstant}
 use Rattle.nz_reals.specs.Stands.{IsAt, IsFeasible, IsKnown, IsOf, IsOver}
-use Rattle.nz_reals.specs.State.{Theory, known_at, literal_over, sum_at, told_lits}
+use Rattle.nz_reals.specs.State.{Theory, literal_over, sum_at, told_lits}
 use Rattle.nz_reals.specs.Stored.{AreForms}
 use Rattle.nz_reals.specs.Sums.{is_turned, turned_sum}
 use Rattle.nz_reals.proofs.Bounding.{said_bound}
-use Rattle.nz_reals.proofs.Elements.{has_cases, has_more, has_none}
+use Rattle.nz_reals.proofs.Choosing.{one_form}
+use Rattle.nz_reals.proofs.Contradicting.{some_known}
 use Rattle.nz_reals.proofs.Knowing.{is_known}
 use Rattle.nz_reals.proofs.Saying.{literal_is, literal_of_known}
 use Rattle.nz_reals.proofs.Standing.{position_is}
 use Rattle.nz_reals.proofs.Sums.{over_negated}
-use Rattle.nz_engine.proofs.Going.{some_of}
-use Rattle.nz_engine.proofs.Placing.{stands_there}
-use Rattle.nz_engine.proofs.RowFacts.{contains_map}
 
 -- ---- Values that are listed
-
-told_number : (i k : ℕ) → (i == k) ≡ true → i ≡ k
-told_number i k e = elim (eqb_tells i k) [ inl same ↦ same.1 | inr other ↦ absurd (true≢false (sym e ∙ other.0)) ]
-
-own_number : (i : ℕ) → (i == i) ≡ true
-own_number i = elim (eqb_tells i i) [ inl same ↦ same.0 | inr other ↦ absurd (other.1 refl) ]
 
 -- a value that is listed stands there
 listed_there : (ps : List (ℕ × Value)) (i : ℕ) (v : Value) → listed_value ps i ≡ Some v → Contains ps (i, v)
@@ -70,7 +58,7 @@ listed_there (p ∷ ps) i v e = by_test (p.0 == i) refl e (listed_there ps i v)
   where
     by_test : (b : Bool) → (p.0 == i) ≡ b → (if b then Some p.1 else listed_value ps i) ≡ Some v → (listed_value ps i ≡ Some v → Contains ps (i, v)) → Contains (p ∷ ps) (i, v)
     by_test true t f rest =
-        let first = told_number p.0 i t in
+        let first = same-number p.0 i t in
         let value = same_Some p.1 v f in
         (0, omega arith, λ j. (first j, value j))
     by_test false t f rest = has_more p (i, v) ps (rest f)
@@ -84,46 +72,25 @@ listed_some (p ∷ ps) i v c e = by_test (p.0 == i) refl e (listed_some ps i v)
     by_test true t f rest = absurd cc
     by_test false t f rest =
         elim (has_cases p (i, v) ps c) [
-          | inl same ↦ true≢false (sym (ap (λ (n : ℕ). n == i) (ap (λ (x : ℕ × Value). x.0) same) ∙ own_number i) ∙ t)
+          | inl same ↦ true≢false (sym (equal-number p.0 i (ap (λ (x : ℕ × Value). x.0) same)) ∙ t)
           | inr more ↦ rest more f
         ]
 
--- ---- Units that are forms
-
-same_sort : (a b : code.Sort) → sorts.sort_of a ≡ sorts.sort_of b → a ≡ b
-same_sort Boolean Boolean e = refl
-same_sort Int Int e = refl
-same_sort Real Real e = refl
-same_sort a b e = cc
-
--- two forms of one unit are one
-one_form : (ns : List Node) (u : ℕ) (f g : List Part) → AreUnits ns f → AreUnits ns g → is_form_of u f ≡ true → is_form_of u g ≡ true → f ≡ g
-one_form ns u [] g h k e d = absurd (true≢false (sym e))
-one_form ns u (p ∷ []) [] h k e d = absurd (true≢false (sym d))
-one_form ns u (p ∷ []) (q ∷ []) h k e d =
-    let a = and_parts (p.unit == u) (is_one p.coefficient) e in
-    let b = and_parts (q.unit == u) (is_one q.coefficient) d in
-    let unit : p.unit ≡ q.unit = told_number p.unit u a.0 ∙ sym (told_number q.unit u b.0) in
-    let coefficient : p.coefficient ≡ q.coefficient = one_is p.coefficient a.1 ∙ sym (one_is q.coefficient b.1) in
-    let sort : p.sort ≡ q.sort = same_sort p.sort q.sort (h.names.0.1 ∙ ap (λ (n : ℕ). terms.sort_of (term_in ns n)) unit ∙ sym k.names.0.1) in
-    λ i. record { unit = unit i; sort = sort i; coefficient = coefficient i } ∷ []
-one_form ns u (p ∷ []) (q ∷ r ∷ qs) h k e d = absurd (true≢false (sym d))
-one_form ns u (p ∷ q ∷ ps) g h k e d = absurd (true≢false (sym e))
-
-at_place : {X : Type 0} (P : X → Type 0) (xs : List X) (k : ℕ) (x : X) → AllByRecursion P xs → slice_get xs k ≡ Some x → P x
-at_place P xs k x h e = All-contains P xs x (All-from_recursion P xs h) (stands_there xs k x e)
-
 -- ---- A feasible theory
 
-module _ (met : ToldBoundsAreMet) (keep : ChosenFractionsKeepBounds) (numbers : TermHasItsNumber) (tells : TellsLiterals) (one : OneNumber) (ns : List Node) (table : IsTable ns) (t : Theory)
-    (forms : AreForms t.simplex) (sound : IsSound t.simplex) (feasible : IsFeasible t) (over : IsOver t ns) (y : ℕ → Infinitesimal) (e : Fraction)
-    (has : (k : ℕ) → k < length (position_over ns t.simplex).forms → HasValue (position_over ns t.simplex) k (y k)) (fits : AreNumbers (length (position_over ns t.simplex).forms) y)
-    (chosen : IsChosen (position_over ns t.simplex) e) where
+module _ (met : ToldBoundsAreMet) (keep : ChosenFractionsKeepBounds) (numbers : TermHasItsNumber) (tells : TellsLiterals) (one : OneNumber) (units : UnitsAreForms) (t : Theory) (ns : List Node)
+    (over : IsOver t ns) (forms : AreForms t.simplex) (sound : IsSound t.simplex) (feasible : IsFeasible t) (old new : List (ℕ × Value)) (adds : AddsValues t ns (position_over ns t.simplex) old new) where
   abbrev here : Position
   here = position_over ns t.simplex
 
   abbrev fs : List (List Part)
   fs = t.simplex.forms
+
+  abbrev y : ℕ → Infinitesimal
+  y = adds.values
+
+  abbrev e : Fraction
+  e = adds.fraction
 
   ready : IsReadyToCheck here
   ready = sound.ready ns over
@@ -135,10 +102,10 @@ module _ (met : ToldBoundsAreMet) (keep : ChosenFractionsKeepBounds) (numbers : 
   all_forms = length-map fs (parts_over ns)
 
   above : whole (pos 0) <ℚ e
-  above = keep.above_zero here e ready.basis free.within ready.fit chosen
+  above = keep.above_zero here e ready.basis free.within ready.fit adds.chosen
 
   within : AreWithinAt here y e
-  within = keep.within here y e ready.basis chosen has fits (free.meets y (λ k below. has k (omega (arith, below, all_forms))))
+  within = keep.within here y e ready.basis adds.chosen adds.has adds.numbers (free.meets y (λ k below. adds.has k (omega (arith, below, all_forms))))
 
   -- ---- What units are worth
 
@@ -148,7 +115,7 @@ module _ (met : ToldBoundsAreMet) (keep : ChosenFractionsKeepBounds) (numbers : 
   abbrev form_number : Term → ℕ
   form_number u = unwrap_or (place u) 0
 
-  abbrev pub worth_of : Valuation
+  abbrev worth_of : Valuation
   worth_of u = elim (place u) [ None ↦ whole (pos 0) | Some k ↦ at (y k) e ]
 
   abbrev by_form : Valuation
@@ -177,12 +144,12 @@ module _ (met : ToldBoundsAreMet) (keep : ChosenFractionsKeepBounds) (numbers : 
   unit_placed u inside there c = by_number (unit_number fs u) refl
     where
       number_is : number_in ns (term_in ns u) ≡ u
-      number_is = numbers ns table u inside
+      number_is = numbers ns over.table u inside
 
       by_number : (o : Option ℕ) → unit_number fs u ≡ o → IsPlaced (record { coefficient = c; unit = term_in ns u })
-      by_number None is = absurd (unit_unlisted ns (numbers ns table) fs over.units u inside is there)
+      by_number None is = absurd (units.missing ns fs u over.table over.units inside is there)
       by_number (Some k) is =
-          let found = number_found ns fs u k is in
+          let found = units.numbered ns fs u k is in
           let own : place (term_in ns u) ≡ Some k = ap (unit_number fs) number_is ∙ is in
           let number_k : form_number (term_in ns u) ≡ k = ap (λ (o : Option ℕ). unwrap_or o 0) own in
           let low = found.0 in
@@ -193,15 +160,15 @@ module _ (met : ToldBoundsAreMet) (keep : ChosenFractionsKeepBounds) (numbers : 
           }
 
   each_placed : (ps : List Part) → AllByRecursion (NamesUnit ns) ps → HasItsUnits here.forms (parts_over ns ps) → AllByRecursion IsPlaced (parts_over ns ps)
-  each_placed [] names units = tt
-  each_placed (p ∷ ps) names units = (unit_placed p.unit names.0.0 units.0 p.coefficient, each_placed ps names.1 units.1)
+  each_placed [] names have = tt
+  each_placed (p ∷ ps) names have = (unit_placed p.unit names.0.0 have.0 p.coefficient, each_placed ps names.1 have.1)
 
   form_placed : (k : ℕ) (g : List Part) → slice_get fs k ≡ Some g → AllByRecursion IsPlaced (parts_over ns g)
   form_placed k g is =
-      let units = at_place (AreUnits ns) fs k g over.units is in
+      let own = at_of (AreUnits ns) fs over.units k g is in
       let below = slice_get_within fs k g is in
       let form : form_at here.forms k ≡ parts_over ns g = get_or-map (parts_over ns) fs k [] [] below ∙ ap (parts_over ns) (get_or_from_slice_get fs k g [] is) in
-      each_placed g units.names (subst (HasItsUnits here.forms) form (ready.basis.units k))
+      each_placed g own.names (subst (HasItsUnits here.forms) form (ready.basis.units k))
 
   -- whatever the signs
   other_part : (p : spec.Part) → IsPlaced p → IsPlaced (negated_part p)
@@ -241,10 +208,10 @@ module _ (met : ToldBoundsAreMet) (keep : ChosenFractionsKeepBounds) (numbers : 
     -- ---- Bounds that were told
 
     -- a literal that was told is met
-    pub told_met : (atoms : List Atom) (ids : List ℕ) → IsOf t atoms ids → (gs : List (List spec.Part)) (ls : List Literal) (x : Point) → IsAt t ns gs ls x → (l : Lit)
+    told_met : (atoms : List Atom) (ids : List ℕ) (gs : List (List spec.Part)) (ls : List Literal) (x : Point) → IsOf t atoms ids → IsAt t ns gs ls x → (l : Lit)
         → Contains (told_lits t) l → Contains ids l.atom → (b : Bound) → slice_get atoms l.atom ≡ Some (AtMost b) → IsMet truths worth_of (literal_in ns atoms l)
-    told_met atoms ids of gs ls x stands l told among b is =
-        let k = some_of (known_at t l.atom) (is_known t atoms ids l.atom b of among is) in
+    told_met atoms ids gs ls x of stands l told among b is =
+        let k = some_known t l.atom (is_known t atoms ids l.atom b of among is) in
         let own = of.right l.atom k.0 k.1 in
         let c = own.0 in
         let known : IsKnown t c k.0 = own.2 in
@@ -254,8 +221,8 @@ module _ (met : ToldBoundsAreMet) (keep : ChosenFractionsKeepBounds) (numbers : 
         let position : position_under gs x ls ≡ here = position_is t ns gs ls x stands in
         let said : IsSome (bound_said gs L) =
         subst (λ (hs : List (List spec.Part)). IsSome (bound_said hs L)) (sym stands.forms)
-        (subst (λ (o : Option FormBound). IsSome o) (sym (said_bound ns t l c k.0 (one ns table) tells over forms k.1 known)) refl) in
-        let listed : Contains ls L = subst (λ (ms : List Literal). Contains ms L) (sym stands.literals) (contains_map (literal_over ns t) (told_lits t) l told) in
+        (subst (λ (o : Option FormBound). IsSome o) (sym (said_bound ns t l c k.0 (one ns over.table) tells over forms k.1 known)) refl) in
+        let listed : Contains ls L = subst (λ (ms : List Literal). Contains ms L) (sym stands.literals) (map_has (literal_over ns t) (told_lits t) l told) in
         let placed : AllByRecursion IsPlaced ps = turned_back c.sides.parts (form_placed k.0.form (turned_sum c.sides.parts) known.form) in
         let numbered_here : AreNumbered gs form_number (bound_of L).parts =
         subst (λ (hs : List (List spec.Part)). AreNumbered hs form_number (bound_of L).parts) (sym stands.forms)
@@ -267,20 +234,17 @@ module _ (met : ToldBoundsAreMet) (keep : ChosenFractionsKeepBounds) (numbers : 
 
   -- ---- Constants
 
-  module _ (added : List (ℕ × Value)) (right : AreValues t ns y e added) (i : ℕ) (inside : i < length ns) (c : Constant) (node : Node) (there : slice_get ns i ≡ Some node)
-      (head : node.head ≡ constant c) (real : c.sort ≡ real_sort) where
-    number_here : number_in ns (term_in ns i) ≡ i
-    number_here = numbers ns table i inside
+  module _ (i : ℕ) (c : Constant) (node : Node) (there : slice_get ns i ≡ Some node) (head : node.head ≡ constant c) (real : c.sort ≡ real_sort) where
+    inside : i < length ns
+    inside = slice_get_within ns i node there
 
     -- the form of its number is that of a unit alone
     found_form : (k : ℕ) → unit_number fs i ≡ Some k → (k < length fs) × (is_form_of i (sum_at t k) ≡ true)
     found_form k is =
-        let found = number_found ns fs i k is in
+        let found = units.numbered ns fs i k is in
         let low = found.0 in
-        let at_k : slice_get fs k ≡ Some (sum_at t k) = slice_get-get_or fs k [] low in
-        let units = at_place (AreUnits ns) fs k (sum_at t k) over.units at_k in
-        let form : parts_over ns (sum_at t k) ≡ unit_parts ns i = sym (get_or-map (parts_over ns) fs k [] [] low) ∙ found.1 in
-        (low, unit_of_form ns (numbers ns table) i inside (sum_at t k) units form)
+        let own = at_of (AreUnits ns) fs over.units k (sum_at t k) (slice_get-get_or fs k [] low) in
+        (low, units.told ns i (sum_at t k) over.table inside own (sym (get_or-map (parts_over ns) fs k [] [] low) ∙ found.1))
 
     is_constant : (k : ℕ) → unit_number fs i ≡ Some k → IsConstant t ns i k
     is_constant k is = let f = found_form k is in record { listed = f.0; alone = f.1; name = c; node = node; at = there; head = head; real = real }
@@ -288,35 +252,60 @@ module _ (met : ToldBoundsAreMet) (keep : ChosenFractionsKeepBounds) (numbers : 
     -- a unit that is a form alone has a number
     unlisted : (k : ℕ) → IsConstant t ns i k → unit_number fs i ≡ None → ⊥
     unlisted k h is =
-        unit_unlisted ns (numbers ns table) fs over.units i inside is
-        (subst (Contains here.forms) (form_of_unit ns i (sum_at t k) h.alone) (contains_map (parts_over ns) fs (sum_at t k) (stands_there fs k (sum_at t k) (slice_get-get_or fs k [] h.listed))))
+        units.missing ns fs i over.table over.units inside is
+        (subst (Contains here.forms) (units.form ns i (sum_at t k) h.alone) (map_has (parts_over ns) fs (sum_at t k) (has_found fs k (sum_at t k) (slice_get-get_or fs k [] h.listed))))
 
     one_place : (k m : ℕ) → IsConstant t ns i k → unit_number fs i ≡ Some m → m ≡ k
-    one_place k m h is =
-        let f = found_form m is in
-        let at_k : slice_get fs k ≡ Some (sum_at t k) = slice_get-get_or fs k [] h.listed in
-        let at_m : slice_get fs m ≡ Some (sum_at t m) = slice_get-get_or fs m [] f.0 in
-        let same : sum_at t m ≡ sum_at t k =
-        one_form ns i (sum_at t m) (sum_at t k) (at_place (AreUnits ns) fs m (sum_at t m) over.units at_m) (at_place (AreUnits ns) fs k (sum_at t k) over.units at_k) f.1 h.alone in
-        forms.once m k (sum_at t k) (at_m ∙ ap Some same) at_k
+    one_place k m h is = let f = found_form m is in one_form t ns over forms units m k i f.0 h.listed f.1 h.alone
 
     -- the value that is listed with it is what it is worth; without one, it is worth the default
-    pub constant_worth : number_of (unwrap_or (listed_value added i) (default_value c.sort)) =ℚ worth_of (term_in ns i)
-    constant_worth = by_listed (listed_value added i) refl (unit_number fs i) refl
+    constant_worth : number_of (unwrap_or (listed_value adds.added i) (default_value c.sort)) =ℚ worth_of (term_in ns i)
+    constant_worth = by_listed (listed_value adds.added i) refl (unit_number fs i) refl
       where
         worth_at : (o : Option ℕ) → unit_number fs i ≡ o → worth_of (term_in ns i) ≡ elim o [ None ↦ whole (pos 0) | Some k ↦ at (y k) e ]
-        worth_at o is = ap (λ (n : ℕ). elim (unit_number fs n) [ None ↦ whole (pos 0) | Some k ↦ at (y k) e ]) number_here ∙ ap (λ (x : Option ℕ). elim x [ None ↦ whole (pos 0) | Some k ↦ at (y k) e ]) is
+        worth_at o is =
+            ap (λ (n : ℕ). elim (unit_number fs n) [ None ↦ whole (pos 0) | Some k ↦ at (y k) e ]) (numbers ns over.table i inside)
+            ∙ ap (λ (x : Option ℕ). elim x [ None ↦ whole (pos 0) | Some k ↦ at (y k) e ]) is
 
-        by_listed : (v : Option Value) → listed_value added i ≡ v → (o : Option ℕ) → unit_number fs i ≡ o → number_of (unwrap_or v (default_value c.sort)) =ℚ worth_of (term_in ns i)
+        by_listed : (v : Option Value) → listed_value adds.added i ≡ v → (o : Option ℕ) → unit_number fs i ≡ o → number_of (unwrap_or v (default_value c.sort)) =ℚ worth_of (term_in ns i)
         by_listed None none None is =
             subst (λ (q : Fraction). number_of (default_value c.sort) =ℚ q) (sym (worth_at None is)) (subst (λ (s : terms.Sort). number_of (default_value s) =ℚ whole (pos 0)) (sym real) (=ℚ_refl (whole (pos 0))))
-        by_listed None none (Some k) is = let v = right.all i k (is_constant k is) in absurd (listed_some added i v.0 v.1 none)
-        by_listed (Some v) some None is = let r = right.right i v (listed_there added i v some) in absurd (unlisted r.0 r.1 is)
+        by_listed None none (Some k) is = let v = adds.right.all i k (is_constant k is) in absurd (listed_some adds.added i v.0 v.1 none)
+        by_listed (Some v) some None is = let r = adds.right.right i v (listed_there adds.added i v some) in absurd (unlisted r.0 r.1 is)
         by_listed (Some v) some (Some m) is =
-            let r = right.right i v (listed_there added i v some) in
+            let r = adds.right.right i v (listed_there adds.added i v some) in
             let k : ℕ = r.0 in
             let q : Fraction = r.2.0 in
             let value : number_of v ≡ q = ap number_of r.2.1 in
             let same : m ≡ k = one_place k m r.1 is in
             subst (λ (p : Fraction). p =ℚ worth_of (term_in ns i)) (sym value)
             (subst (λ (p : Fraction). q =ℚ p) (ap (λ (n : ℕ). at (y n) e) (sym same) ∙ sym (worth_at (Some m) is)) r.2.2)
+
+  -- ---- What is added
+
+  value_real : (s : terms.Sort) (v : Value) (q : Fraction) → s ≡ real_sort → v ≡ number q → IsOfSort s v
+  value_real s v q real is = subst (λ (x : Value). IsOfSort s x) (sym is) (subst (λ (x : terms.Sort). IsOfSort x (number q)) (sym real) tt)
+
+  -- each value is that of a constant
+  number_value : (x : ℕ × Value) → Contains adds.added x → IsValueOf ns x
+  number_value x has =
+      let r = adds.right.right x.0 x.1 has in
+      let k : IsConstant t ns x.0 r.0 = r.1 in
+      let own : k.node ≡ record { head = constant k.name; kids = k.node.kids } = ap (λ (h : Head). let n : Node = record { head = h; kids = k.node.kids } in n) k.head in
+      record {
+        of = k.name;
+        kids = k.node.kids;
+        node = k.at ∙ ap Some own;
+        sort = value_real k.name.sort x.1 r.2.0 k.real r.2.1;
+        fits = subst ValueFits (sym r.2.1) r.2.3;
+      }
+
+  pub has_worths : HasWorths t ns old new
+  has_worths = record {
+    added = adds.added;
+    joined = adds.joined;
+    values = by_each (IsValueOf ns) adds.added number_value;
+    worths = worth_of;
+    met = told_met;
+    constants = λ i node c there head real. constant_worth i c node there head real;
+  }
