@@ -1,5 +1,5 @@
 -- The limits of pairs: their divisors are not 0, and one more pair leaves the lesser of what was there and its limit.
-use Rattle.std.proofs.Common.{◌≡◌, ℕ, Bool, true, false, refl, sym, ap, ◌∙◌, subst, ℤ, pos, ◌*ℤ◌, ◌<ℤ◌, List, [], ◌∷◌, ◌++◌, map, length, drop, Some, None, Ordering, Less, Equal, Greater, is_lt, int_lt, int_le, not, arith, if◌then◌else◌, cond, append-nil, drop_of_length-le, ◌≤◌}
+use Rattle.std.proofs.Common.{◌≡◌, ℕ, Bool, true, false, refl, sym, ap, ◌∙◌, subst, ℤ, pos, ◌*ℤ◌, ◌<ℤ◌, List, [], ◌∷◌, ◌++◌, map, length, drop, Some, None, Ordering, Less, Equal, Greater, is_lt, int_lt, int_le, not, arith, if◌then◌else◌, append-nil, drop_of_length-le, ◌≤◌}
 use Rattle.std.proofs.Math.IntN.{zero-*ℤ}
 use Rattle.std.proofs.lemmas.Int.{ints}
 use Rattle.nz_fractions.specs.Fraction.{Fraction, denominator, whole, ◌=ℚ◌, ◌<ℚ◌, ◌+ℚ◌, neg_ℚ, fraction_cmp, fraction_lt, fraction_le, fraction_min, outcome, Difference, Operation, first_wide}

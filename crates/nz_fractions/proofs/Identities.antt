@@ -1,8 +1,8 @@
 -- Sums and products of fractions: with 0 and 1, with the other sign, and in another order.
-use Rattle.std.proofs.Common.{◌≡◌, Bool, true, false, [], ◌∷◌, pos, refl, sym, ◌∙◌, true≢false}
+use Rattle.std.proofs.Common.{◌≡◌, zero, suc, ℤ, pos, negsuc, neg_ℤ, Bool, true, false, [], ◌∷◌, refl, sym, ◌∙◌, true≢false}
 use Rattle.nz_ints.proofs.Ring.{Atom, Literal, ◌⊕◌, ◌⊗◌, Minus, solve}
 use Rattle.nz_fractions.specs.Fraction.{Fraction, denominator, whole, ◌=ℚ◌, ◌+ℚ◌, neg_ℚ, ◌*ℚ◌, fraction_eq}
-use Rattle.nz_fractions.proofs.Laws.{=ℚ_refl, =ℚ_sym, =ℚ_trans}
+use Rattle.nz_fractions.proofs.Laws.{=ℚ_refl, =ℚ_sym, =ℚ_trans, =ℚ-from_same}
 use Rattle.nz_fractions.proofs.Order.{fraction_eq-same, same-fraction_eq}
 use Rattle.nz_fractions.proofs.Arithmetic.{own_parts, sum_parts, product_parts, neg_parts, whole_parts, by_parts, +ℚ_comm, +ℚ_assoc, +ℚ-zero, +ℚ-same, neg_ℚ-same, *ℚ_comm, *ℚ-one, *ℚ-+ℚ}
 
@@ -44,10 +44,18 @@ pub neg-zero : neg_ℚ (whole (pos 0)) =ℚ whole (pos 0)
 unfolding neg_ℚ
 neg-zero = record { cross = refl }
 
+neg-number : (n : ℤ) → neg_ℤ (neg_ℤ n) ≡ n
+neg-number (pos zero) = refl
+neg-number (pos (suc n)) = refl
+neg-number (negsuc n) = refl
+
+-- the other sign twice is the very fraction
+pub neg-back : (q : Fraction) → neg_ℚ (neg_ℚ q) ≡ q
+unfolding neg_ℚ
+neg-back q = λ i. record { numerator = neg-number q.numerator i; below = q.below }
+
 pub neg-neg : (q : Fraction) → neg_ℚ (neg_ℚ q) =ℚ q
-neg-neg q =
-    by_parts (neg_parts (neg_parts (own_parts q))) (own_parts q)
-    (solve (q.numerator ∷ pos (denominator q) ∷ []) (Minus (Minus (Atom 0)) ⊗ Atom 1) (Atom 0 ⊗ Atom 1) refl)
+neg-neg q = =ℚ-from_same (neg-back q)
 
 -- ---- Another order
 

@@ -1,5 +1,6 @@
 pub mod Elements
 pub mod Fronts
+pub mod Members
 pub mod Numbers
 pub mod Options
 pub mod Places

@@ -10,6 +10,10 @@ slice_get_kept [] ys i x at = cc
 slice_get_kept (z ∷ zs) ys zero x at = at
 slice_get_kept (z ∷ zs) ys (suc i) x at = slice_get_kept zs ys i x at
 
+-- a list that is the same has the same at each place
+pub slice_get-same : {X : Type 0} (xs ys : List X) → ys ≡ xs → (i : ℕ) (x : X) → slice_get xs i ≡ Some x → slice_get ys i ≡ Some x
+slice_get-same xs ys same i x at = ap (λ zs. slice_get zs i) same ∙ at
+
 -- one more element stands last, or else it was there
 pub slice_get-push_cases : {X : Type 0} (xs : List X) (y : X) (i : ℕ) (x : X) → slice_get (xs ++ y ∷ []) i ≡ Some x
     → (slice_get xs i ≡ Some x) ⊎ ((i ≡ length xs) × (y ≡ x))
