@@ -2,6 +2,7 @@ pub mod Comes
 pub mod Each
 pub mod Exchanges
 pub mod Joins
+pub mod Laws
 pub mod Rows
 pub mod Sums
 pub mod Tables

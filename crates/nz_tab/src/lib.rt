@@ -6,6 +6,7 @@
 
 mod exchange;
 mod joining;
+pub mod laws;
 mod row;
 mod rows;
 mod tab;
