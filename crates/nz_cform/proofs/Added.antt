@@ -6,11 +6,11 @@ use Rattle.std.proofs.lemmas.List.{append-nil, drop_at, take_rest}
 use Rattle.std.proofs.lemmas.List.Elements.{All-append, All-cons, All-contains, All-nil, All-weaker, All-contains_itself, Contains-append_cases, Contains-append_left, Contains-append_right, Contains-push_cases}
 use Rattle.std.proofs.lemmas.List.Kept.{AllPairs-cons}
 use Rattle.nz_lists.proofs.Numbers.{same_or_other}
+use Rattle.nz_lists.proofs.Members.{has_first, has_more}
 use Rattle.nz_spec.specs.Table.{Node}
 use Rattle.nz_log.specs.Logs.{Entry, JoinsAtoms, LogState, entry_at, IsLive, Puts, row_term}
 use Rattle.nz_log.specs.Sound.{IsLog}
 use Rattle.nz_cform.specs.Covering.{AddsRows, AreAdded, GoesOn, IsRowAt, Keeps}
-use Rattle.nz_cform.proofs.Elements.{has_first, has_behind}
 use Rattle.nz_cform.proofs.Kept.{row_kept, row_live}
 
 -- ---- Pairs of two lists
@@ -23,7 +23,7 @@ pairs_append R (x ∷ xs) ys h k f =
     (λ i d inside. h 0 (suc i) d (omega arith) (omega (arith, inside)))
     (All-weaker (Contains ys) (R x) (λ y has. f x y (has_first x xs) has) ys (All-contains_itself ys)))
     (pairs_append R xs ys (λ i j d below inside. h (suc i) (suc j) d (omega (arith, below)) (omega (arith, inside))) k
-    (λ z y has. f z y (has_behind x xs z has)))
+    (λ z y has. f z y (has_more x z xs has)))
 
 -- ---- How a log goes on
 

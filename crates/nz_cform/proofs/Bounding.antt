@@ -2,6 +2,7 @@
 use Rattle.std.proofs.Common.{◌≡◌, ℕ, ◌+◌, ◌<◌, inl, inr, List, [], ◌∷◌, length, take, get_or, Some, None, refl, sym, ap, subst, arith}
 use Rattle.std.specs.Prelude.{All, Contains, IsSome, slice_get}
 use Rattle.std.proofs.lemmas.List.Elements.{All-contains, All-more, All-weaker, Contains-get_or, Contains-push_cases}
+use Rattle.nz_lists.proofs.Members.{has_first}
 use Rattle.nz_lin.specs.declared.bound.Bound.{Bound}
 use Rattle.nz_log.specs.declared.atoms.Atom.{Atom}
 use Rattle.nz_log.specs.declared.atoms.Atom.TheVariants.{AtMost}
@@ -9,7 +10,6 @@ use Rattle.nz_log.specs.declared.lits.Lit.{Lit}
 use Rattle.nz_log.specs.Logs.{LogState, literals_at}
 use Rattle.nz_cform.specs.Listings.{ListingState, Grows, listed_at}
 use Rattle.nz_cform.specs.Covering.{AreBoundsListed, AreBoundsOf, HasBound, IsRowAt}
-use Rattle.nz_cform.proofs.Elements.{has_first}
 use Rattle.nz_cform.proofs.Listed.{grows_more, none_or_some, still_listed}
 
 -- ---- The literals of a clause

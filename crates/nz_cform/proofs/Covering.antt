@@ -3,6 +3,7 @@ use Rattle.std.proofs.Common.{◌≡◌, ◌≢◌, ℕ, ◌<◌, ◌≤◌, inl
 use Rattle.std.specs.Prelude.{All, Contains, IsSome, slice_get, unwrap_or}
 use Rattle.std.proofs.lemmas.List.Elements.{All-contains}
 use Rattle.nz_lists.proofs.Numbers.{same_or_other}
+use Rattle.nz_lists.proofs.Places.{slice_get-same}
 use Rattle.nz_spec.specs.FormOf.{number_in}
 use Rattle.nz_spec.specs.Links.{link_clauses}
 use Rattle.nz_spec.specs.Table.{Node, term_in}
@@ -11,7 +12,6 @@ use Rattle.nz_log.specs.declared.atoms.Atom.{Atom}
 use Rattle.nz_log.specs.Axioms.{link_of, unit_of}
 use Rattle.nz_log.specs.Logs.{axiom_of, LogState, entry_at, level_at, told_of, told_level, lowest}
 use Rattle.nz_log.specs.TermLits.{gates_at}
-use Rattle.nz_log.proofs.Extending.{same_stay}
 use Rattle.nz_cform.specs.Listings.{Grows, IsListedWithin, Takes, listed_at}
 use Rattle.nz_cform.specs.Forms.{FormState, covered_at}
 use Rattle.nz_cform.specs.Covering.{AreAdded, AreBoundsListed, AreBoundsOf, AreNamed, HasBound, HasBounds, HasRows, HasRowsBelow, IsRowAt, Keeps, gate_clause}
@@ -25,7 +25,7 @@ pub same_entry : (old new : LogState) → new.entries ≡ old.entries → (i : �
 same_entry old new clauses i = ap (λ es. unwrap_or (slice_get es i) None) clauses
 
 pub same_keeps : (old new : LogState) → new.entries ≡ old.entries → new.atoms ≡ old.atoms → Keeps old new
-same_keeps old new clauses atoms = record { clauses = λ i live. same_entry old new clauses i; atoms = same_stay old.atoms new.atoms atoms }
+same_keeps old new clauses atoms = record { clauses = λ i live. same_entry old new clauses i; atoms = slice_get-same old.atoms new.atoms atoms }
 
 -- ---- A level that is told
 
@@ -94,7 +94,7 @@ module _ (ns : List Node) (old new : LogState) (s r : FormState) (t level : ℕ)
           | inr other ↦ others u other ∙ has.told u ∙ sym (takes.others u other)
         ];
         on_atoms = λ i u row.
-            on_atoms_kept old new i (kept_at i) (same_stay old.atoms new.atoms atoms) (has.on_atoms i u (row_was old new i (kept_at i) u row));
+            on_atoms_kept old new i (kept_at i) (slice_get-same old.atoms new.atoms atoms) (has.on_atoms i u (row_was old new i (kept_at i) u row));
         put = λ i o of at. absurd (is_other t (level_at old i) (was_covered i t (o, at, of)) refl);
         level = level;
         covered = takes.here;

@@ -8,15 +8,16 @@ use Rattle.nz_spec.specs.Table.{Node}
 use Rattle.nz_spec.specs.Literal.{once}
 use Rattle.nz_spec.specs.Gates.{clauses_over}
 use Rattle.nz_lists.proofs.Elements.{AllByRecursion-append}
+use Rattle.nz_lists.proofs.Members.{has_first}
 use Rattle.nz_log.specs.declared.atoms.Atom.{Atom}
 use Rattle.nz_log.specs.declared.term_lits.TermLit.{TermLit}
-use Rattle.nz_log.specs.Atoms.{HasTerm, lit_of, lits_of, terms_at, terms_of}
+use Rattle.nz_log.specs.Atoms.{HasTerm, TellsLits, lit_of, lits_of, terms_at, terms_of}
+use Rattle.nz_log.specs.Leveled.{LevelsReach}
 use Rattle.nz_log.specs.Lits.{are_same_lit}
 use Rattle.nz_log.specs.TermLits.{yes, no, is_boolean_at, gates_at}
 use Rattle.nz_log.specs.Logs.{LogState, told_of, told_level, level_with, gate_entry}
-use Rattle.nz_log.proofs.Gathering.{same_lit}
 use Rattle.nz_cform.specs.Covering.{AreNamed, gate_terms}
-use Rattle.nz_cform.proofs.Elements.{has_first, once_has}
+use Rattle.nz_cform.proofs.Elements.{once_has}
 use Rattle.nz_cform.proofs.RowClauses.{level_is}
 
 -- ---- What a clause names first
@@ -67,20 +68,20 @@ terms_named : (atoms : List Atom) (l : TermLit) → HasTerm atoms l.term → ter
 terms_named atoms l there = ap (λ (o : Option Atom). elim o [ None ↦ [] | Some a ↦ terms_of a ]) there
 
 -- a set of literals that begin with a term is of its level
-named_level : (s : LogState) (t level : ℕ) → told_level s t ≡ level → ((u : ℕ) → told_level s u ≤ level) → (c : List TermLit) → Begins t c
+named_level : LevelsReach → TellsLits → (s : LogState) (t level : ℕ) → told_level s t ≡ level → ((u : ℕ) → told_level s u ≤ level) → (c : List TermLit) → Begins t c
     → All (λ (l : TermLit). HasTerm s.atoms l.term) c → level_with s 0 (once are_same_lit (lits_of s.atoms c)) ≡ level
-named_level s t level here highest [] b there = absurd b
-named_level s t level here highest (l ∷ ls) b there =
+named_level reach tells s t level here highest [] b there = absurd b
+named_level reach tells s t level here highest (l ∷ ls) b there =
     let c = lits_of s.atoms (l ∷ ls) in
     let first = lit_of s.atoms l in
     let named = terms_named s.atoms l (All-head (λ (m : TermLit). HasTerm s.atoms m.term) l ls there) in
-    level_is s (once are_same_lit c) first t level here highest
-    (once_has are_same_lit same_lit c first (has_first first (lits_of s.atoms ls)))
+    level_is reach s (once are_same_lit c) first t level here highest
+    (once_has are_same_lit tells.same c first (has_first first (lits_of s.atoms ls)))
     (subst (λ vs. Contains vs t) (sym named) (subst (λ v. Contains (v ∷ []) t) (sym b) (has_first t [])))
 
 -- the level of the gate that a log makes
-pub gate_level : (ns : List Node) (s : LogState) (t j level : ℕ) → told_of s t ≡ Some level → ((u : ℕ) → told_level s u ≤ level) → j < length (gates_at ns t)
+pub gate_level : LevelsReach → TellsLits → (ns : List Node) (s : LogState) (t j level : ℕ) → told_of s t ≡ Some level → ((u : ℕ) → told_level s u ≤ level) → j < length (gates_at ns t)
     → AreNamed ns s.atoms t j → (gate_entry ns s t j).level ≡ level
-gate_level ns s t j level told highest inside there =
-    named_level s t level (ap (λ o. unwrap_or o 0) told) highest (gate_terms ns t j)
+gate_level reach tells ns s t j level told highest inside there =
+    named_level reach tells s t level (ap (λ o. unwrap_or o 0) told) highest (gate_terms ns t j)
     (begins_at t (gates_at ns t) j (node_begins ns t (slice_get ns t)) inside) there

@@ -5,6 +5,7 @@ use Rattle.std.specs.List.{AllByRecursion}
 use Rattle.std.proofs.lemmas.List.Elements.{Contains-append_cases, Contains-push_cases, recursion_from_All}
 use Rattle.std.proofs.lemmas.Option.{slice_get-get_or}
 use Rattle.nz_lists.proofs.Elements.{AllByRecursion-weaker}
+use Rattle.nz_lists.proofs.Members.{by_each, each_of, has_cases, map_has}
 use Rattle.nz_spec.specs.FormOf.{number_in, UnitsAreParts}
 use Rattle.nz_spec.specs.Gates.{clauses_over, gate_clauses}
 use Rattle.nz_spec.specs.Literal.{are_same_literal}
@@ -17,13 +18,12 @@ use Rattle.nz_log.specs.declared.term_lits.TermLit.{TermLit}
 use Rattle.nz_log.specs.Atoms.{IsLitIn, clause_in, literal_in, terms_of}
 use Rattle.nz_log.specs.Leveled.{Names}
 use Rattle.nz_log.specs.Logs.{LogState, entry_at, level_at, literals_at, row_term}
-use Rattle.nz_log.specs.Sound.{GatesAreNamed, IsLog}
+use Rattle.nz_log.specs.Sound.{AxiomsAreTaken, GatesAreNamed, GatesNameArguments, IsLog}
 use Rattle.nz_log.specs.TermLits.{yes, no, clause_of_terms, gates_at, is_boolean_at, literal_of}
-use Rattle.nz_log.proofs.Members.{each-gate}
 use Rattle.nz_cform.specs.Covering.{Covers, IsRowAt, kids_at}
 use Rattle.nz_cform.specs.Forms.{FormState, covered_at, IsCoveredWithin}
 use Rattle.nz_cform.specs.Laws.{RowsNameCovered}
-use Rattle.nz_cform.proofs.Elements.{each_has, each_mapped, each_of_has, each_once, has_mapped}
+use Rattle.nz_cform.proofs.Elements.{each_mapped, each_once}
 use Rattle.nz_cform.proofs.Kept.{some_entry}
 use Rattle.nz_cform.proofs.Levels.{covered_within, level_of}
 use Rattle.nz_cform.proofs.Parts.{arguments_are_parts, itself}
@@ -47,14 +47,17 @@ module _ (node : TermOfNode) (ns : List Node) (table : IsTable ns) where
     the_kids = ap (λ o. elim o [ None ↦ [] | Some n ↦ n.kids ]) node_at
 
     -- gates are of the term and its arguments
-    pub gates_within : GatesAreNamed → AllByRecursion (AreNamed (Contains (post_order (term_in ns t)))) (gate_clauses (term_in ns t))
-    gates_within named =
+    pub gates_within : GatesAreNamed → GatesNameArguments → AllByRecursion (AreNamed (Contains (post_order (term_in ns t)))) (gate_clauses (term_in ns t))
+    gates_within named arguments =
         let P : Term → Type 0 = Contains (post_order (term_in ns t)) in
         let On : TermLit → Type 0 = λ l. P (term_in ns l.term) in
         let own = recursion_from_All (λ k. P (term_in ns k)) the_node.kids (arguments_are_parts (term_in ns) (term_in ns t) the_node.head the_node.kids the_term) in
-        let over : AllByRecursion (AllByRecursion On) (gates_at ns t) =
-        subst (λ o. AllByRecursion (AllByRecursion On) (elim o [ None ↦ [] | Some n ↦ clauses_over yes no (is_boolean_at ns) t n.head n.kids ])) (sym node_at)
-        (each-gate (λ k. P (term_in ns k)) (is_boolean_at ns) t the_node.head the_node.kids (itself (term_in ns t)) own) in
+        let on : (c : List TermLit) → Contains (gates_at ns t) c → (l : TermLit) → Contains c l → On l = λ c has l there.
+        elim (has_cases t l.term the_node.kids (arguments ns t the_node node_at c has l there)) [
+          | inl is ↦ subst (λ k. P (term_in ns k)) is (itself (term_in ns t))
+          | inr more ↦ each_of (λ k. P (term_in ns k)) the_node.kids own l.term more
+        ] in
+        let over : AllByRecursion (AllByRecursion On) (gates_at ns t) = by_each (AllByRecursion On) (gates_at ns t) (λ c has. by_each On c (on c has)) in
         subst (AllByRecursion (AreNamed P)) (named ns table t inside)
         (each_mapped (clause_of_terms ns) (AreNamed P) (gates_at ns t)
         (AllByRecursion-weaker (AllByRecursion On) (λ (c : List TermLit). AreNamed P (clause_of_terms ns c))
@@ -112,7 +115,7 @@ module _ (node : TermOfNode) (ns : List Node) (table : IsTable ns) where
 
     -- ---- What the rows of a taken term name
 
-    module _ (parts : UnitsAreParts) (one : HasOneNumberEach ns) (named : GatesAreNamed) (levels : List (List ℕ)) (order : IsLog ns levels log)
+    module _ (parts : UnitsAreParts) (one : HasOneNumberEach ns) (named : GatesAreNamed) (arguments : GatesNameArguments) (axioms : AxiomsAreTaken) (levels : List (List ℕ)) (order : IsLog ns levels log)
         (i t : ℕ) (row : IsRowAt log i t) (taken : IsTaken (term_in ns t)) where
       at_level : covered_at s t ≡ Some (level_at log i)
       at_level = covers.rows.of_covered i t row
@@ -123,25 +126,25 @@ module _ (node : TermOfNode) (ns : List Node) (table : IsTable ns) where
           let inside = covers.within t (level_at log i) at_level in
           let e = some_entry (entry_at log i) row.0 row.1 in
           let entry = order.clauses i e.0 e.1 in
-          let says = row_says ns table levels log t (AreNamed P) (gates_within t inside named) (each_link_within (number_in ns) parts (term_in ns t) taken)
+          let says = row_says axioms ns table levels log t (AreNamed P) (gates_within t inside named arguments) (each_link_within (number_in ns) parts (term_in ns t) taken)
           (each_unit_within (number_in ns) parts (term_in ns t) taken) i e.0 e.0.origin (ap row_term e.2 ∙ row.2) entry.made in
           let all : AllByRecursion (Named P) (clause_in ns log.atoms e.0.literals) =
           subst (AllByRecursion (Named P)) (sym says.1) (each_once are_same_literal (Named P) says.0 says.2) in
           let own = subst (λ (c : List Lit). Contains c l) (ap (λ o. elim o [ None ↦ [] | Some f ↦ f.literals ]) e.1) has in
-          let there = each_has (IsLitIn ns log.atoms) e.0.literals l entry.within own in
-          let says_l = each_has (Named P) (clause_in ns log.atoms e.0.literals) (literal_in ns log.atoms l) all (has_mapped (literal_in ns log.atoms) e.0.literals l own) in
+          let there = each_of (IsLitIn ns log.atoms) e.0.literals entry.within l own in
+          let says_l = each_of (Named P) (clause_in ns log.atoms e.0.literals) all (literal_in ns log.atoms l) (map_has (literal_in ns log.atoms) e.0.literals l own) in
           let numbers = each_number ns log.atoms l there P says_l in
           let below = own_within ns log.atoms l there in
           record {
             atom = there.atom;
             at = there.at;
-            terms = each_of_has (IsCoveredWithin s (level_at log i)) (terms_of there.atom)
+            terms = by_each (IsCoveredWithin s (level_at log i)) (terms_of there.atom)
                 (λ v h.
-                let part = part_covered t (level_at log i) at_level (term_in ns v) (each_has (λ w. P (term_in ns w)) (terms_of there.atom) v numbers h) in
-                subst (IsCoveredWithin s (level_at log i)) (one part.number v part.inside (each_has (λ w. w < length ns) (terms_of there.atom) v below h) part.term)
+                let part = part_covered t (level_at log i) at_level (term_in ns v) (each_of (λ w. P (term_in ns w)) (terms_of there.atom) numbers v h) in
+                subst (IsCoveredWithin s (level_at log i)) (one part.number v part.inside (each_of (λ w. w < length ns) (terms_of there.atom) below v h) part.term)
                 part.covered);
           }
 
-pub rows_name_covered : UnitsAreParts → TermOfNode → OneNumber → GatesAreNamed → RowsNameCovered
-rows_name_covered parts node one named ns levels log s table order covers i t row taken l has =
-    row_names node ns table log s covers parts (one ns table) named levels order i t row taken l has
+pub rows_name_covered : UnitsAreParts → TermOfNode → OneNumber → GatesAreNamed → GatesNameArguments → AxiomsAreTaken → RowsNameCovered
+rows_name_covered parts node one named arguments axioms ns levels log s table order covers i t row taken l has =
+    row_names node ns table log s covers parts (one ns table) named arguments axioms levels order i t row taken l has

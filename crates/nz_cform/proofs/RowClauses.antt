@@ -3,12 +3,13 @@ use Rattle.std.proofs.Common.{◌≡◌, ℕ, zero, suc, ◌<◌, ◌≤◌, max
 use Rattle.std.specs.Prelude.{Contains, slice_get, slice_index_or, option_map}
 use Rattle.std.specs.List.{AllByRecursion}
 use Rattle.nz_lists.proofs.Elements.{AllByRecursion-map}
+use Rattle.nz_lists.proofs.Members.{each_of, map_from}
 use Rattle.nz_fractions.specs.Fraction.{Fraction}
 use Rattle.nz_spec.specs.Computation.{Computation}
 use Rattle.nz_spec.specs.FormOf.{number_in}
 use Rattle.nz_spec.specs.Gates.{gate_clauses}
 use Rattle.nz_spec.specs.Links.{link_clauses}
-use Rattle.nz_spec.specs.Literal.{Literal, Clause, clause_of, are_same_literal, TellsLiterals}
+use Rattle.nz_spec.specs.Literal.{Literal, Clause, clause_of, are_same_literal, term_literal, TellsLiterals}
 use Rattle.nz_spec.specs.Steps.{clause_at}
 use Rattle.nz_spec.specs.Table.{Node, IsTable, HasOneNumberEach, term_in}
 use Rattle.nz_spec.specs.Term as spec
@@ -22,11 +23,9 @@ use Rattle.nz_log.specs.declared.lits.Lit.{Lit}
 use Rattle.nz_log.specs.Atoms.{AreWithin, IsAtomIn, IsLitIn, atom_in, clause_in, literal_in, terms_at, terms_of, unit_numbers, with_sign}
 use Rattle.nz_log.specs.Axioms.{link_of, unit_of, farkas_of, branch_of, cut_of}
 use Rattle.nz_log.specs.Logs.{Origin, assertion_of, gate_of, axiom_of, chain_of, Entry, LogState, level_of_terms, level_with, row_term, told_level}
-use Rattle.nz_log.specs.Sound.{IsMade}
-use Rattle.nz_log.proofs.Extending.{literal_at}
-use Rattle.nz_log.proofs.Soundness.{level_grows, terms_grow}
-use Rattle.nz_log.proofs.Taken.{taken_now}
-use Rattle.nz_cform.proofs.Elements.{each_has, mapped_has, once_has}
+use Rattle.nz_log.specs.Leveled.{LevelsReach}
+use Rattle.nz_log.specs.Sound.{AxiomsAreTaken, IsMade}
+use Rattle.nz_cform.proofs.Elements.{once_has}
 use Rattle.nz_cform.proofs.RowNames.{Named, Names, names_of, negation_names, units_of}
 
 -- ---- What a literal names
@@ -63,7 +62,7 @@ module _ (ns : List Node) (atoms : List Atom) (l : Lit) (there : IsLitIn ns atom
   own_names : map (term_in ns) (terms_of there.atom) ≡ names_of (literal_in ns atoms l)
   own_names =
       atom_names ns there.atom ∙ sym (signed_names l.sign (atom_in ns there.atom))
-      ∙ ap names_of (sym (literal_at ns atoms l there.atom there.at))
+      ∙ sym (ap (λ (o : Option Atom). names_of (elim o [ None ↦ term_literal (term_in ns 0) l.sign | Some a ↦ with_sign l.sign (atom_in ns a) ])) there.at)
 
   pub own_within : AllByRecursion (λ v. v < length ns) (terms_of there.atom)
   own_within = atom_within ns there.atom there.within
@@ -75,37 +74,14 @@ module _ (ns : List Node) (atoms : List Atom) (l : Lit) (there : IsLitIn ns atom
   -- a term that it names is there by its number
   pub number_named : HasOneNumberEach ns → (t : ℕ) → t < length ns → Contains (names_of (literal_in ns atoms l)) (term_in ns t) → Contains (terms_at atoms l) t
   number_named one t within has =
-      let found = mapped_has (term_in ns) (terms_of there.atom) (term_in ns t) (subst (λ us. Contains us (term_in ns t)) (sym own_names) has) in
-      let inside = each_has (λ v. v < length ns) (terms_of there.atom) found.0 own_within found.1 in
+      let found = map_from (term_in ns) (terms_of there.atom) (term_in ns t) (subst (λ us. Contains us (term_in ns t)) (sym own_names) has) in
+      let inside = each_of (λ v. v < length ns) (terms_of there.atom) own_within found.0 found.1 in
       let same : found.0 ≡ t = one found.0 t inside within found.2 in
       subst (λ vs. Contains vs t) (sym own_terms) (subst (Contains (terms_of there.atom)) same found.1)
 
 -- ---- Levels
 
--- the level of terms is no lower than what was told of one of them
-terms_reach : (s : LogState) (ts : List ℕ) (n t k : ℕ) → k < length ts → slice_index_or ts k t ≡ t → told_level s t ≤ level_of_terms s n ts
-terms_reach s [] n t k inside e = absurd (omega (arith, inside))
-terms_reach s (u ∷ ts) n t zero inside e =
-    let more = terms_grow s (max n (told_level s u)) ts in
-    let same : told_level s u ≡ told_level s t = ap (told_level s) e in
-    omega arith
-terms_reach s (u ∷ ts) n t (suc k) inside e = terms_reach s ts (max n (told_level s u)) t k (omega (arith, inside)) e
-
--- nor is that of literals
-reach_at : (s : LogState) (c : List Lit) (n : ℕ) (l : Lit) (t k : ℕ) → k < length c → slice_index_or c k l ≡ l → Contains (terms_at s.atoms l) t
-    → told_level s t ≤ level_with s n c
-reach_at s [] n l t k inside e has = absurd (omega (arith, inside))
-reach_at s (m ∷ c) n l t zero inside e has =
-    let own = subst (λ (x : Lit). Contains (terms_at s.atoms x) t) (sym e) has in
-    let here = terms_reach s (terms_at s.atoms m) n t own.0 own.1 own.2 in
-    let more = level_grows s (level_of_terms s n (terms_at s.atoms m)) c in
-    omega arith
-reach_at s (m ∷ c) n l t (suc k) inside e has = reach_at s c (level_of_terms s n (terms_at s.atoms m)) l t k (omega (arith, inside)) e has
-
-pub level_reaches : (s : LogState) (c : List Lit) (l : Lit) (t : ℕ) → Contains c l → Contains (terms_at s.atoms l) t → told_level s t ≤ level_with s 0 c
-level_reaches s c l t h has = reach_at s c 0 l t h.0 h.1 h.2 has
-
--- and it isn't above all that was told
+-- the level of literals isn't above all that was told
 terms_most : (s : LogState) (m : ℕ) → ((t : ℕ) → told_level s t ≤ m) → (ts : List ℕ) (n : ℕ) → n ≤ m → level_of_terms s n ts ≤ m
 terms_most s m highest [] n below = below
 terms_most s m highest (t ∷ ts) n below = terms_most s m highest ts (max n (told_level s t)) (let here = highest t in omega arith)
@@ -115,11 +91,11 @@ level_most s m highest [] n below = below
 level_most s m highest (l ∷ ls) n below =
     level_most s m highest ls (level_of_terms s n (terms_at s.atoms l)) (terms_most s m highest (terms_at s.atoms l) n below)
 
--- so it is the level of the term, where none higher is told
-pub level_is : (s : LogState) (c : List Lit) (l : Lit) (t level : ℕ) → told_level s t ≡ level → ((u : ℕ) → told_level s u ≤ level) → Contains c l → Contains (terms_at s.atoms l) t
+-- nor lower than what was told of a term that one of them names: so it is the level of the term, where none higher is told
+pub level_is : LevelsReach → (s : LogState) (c : List Lit) (l : Lit) (t level : ℕ) → told_level s t ≡ level → ((u : ℕ) → told_level s u ≤ level) → Contains c l → Contains (terms_at s.atoms l) t
     → level_with s 0 c ≡ level
-level_is s c l t level here highest h has =
-    let least = level_reaches s c l t h has in
+level_is reach s c l t level here highest h has =
+    let least = reach s 0 c l h t has in
     let most = level_most s level highest c 0 (omega arith) in
     omega (arith, here)
 
@@ -140,7 +116,7 @@ gate_placed Q (c ∷ cs) zero d h at = let same : clause_of c ≡ d = cc in (c, 
 gate_placed Q (c ∷ cs) (suc j) d h at = gate_placed Q cs j d h.1 at
 
 -- a clause of a table in a log says one of those of its term
-module _ (ns : List Node) (table : IsTable ns) (levels : List (List ℕ)) (log : LogState) (t : ℕ) (Q : Clause → Type 0)
+module _ (taken : AxiomsAreTaken) (ns : List Node) (table : IsTable ns) (levels : List (List ℕ)) (log : LogState) (t : ℕ) (Q : Clause → Type 0)
     (gates : AllByRecursion Q (gate_clauses (term_in ns t)))
     (links : AllByRecursion (λ (c : Computation Clause). Q c.result) (link_clauses (number_in ns) (term_in ns t)))
     (units : AllByRecursion (λ (c : Computation Clause). Q c.result) (unit_clauses (number_in ns) (term_in ns t))) where
@@ -157,11 +133,11 @@ module _ (ns : List Node) (table : IsTable ns) (levels : List (List ℕ)) (log :
   row_says i e (axiom_of (link_of u j)) row made =
       placed Q (link_clauses (number_in ns) (term_in ns t)) j (clause_in ns log.atoms e.literals) links
       (subst (λ v. (clause_at (link_clauses (number_in ns) (term_in ns v)) j).result ≡ Some (clause_in ns log.atoms e.literals)) (same_row u row)
-      (taken_now ns table log.atoms (link_of u j) e.literals made))
+      (taken ns table log.atoms (link_of u j) e.literals made))
   row_says i e (axiom_of (unit_of u j)) row made =
       placed Q (unit_clauses (number_in ns) (term_in ns t)) j (clause_in ns log.atoms e.literals) units
       (subst (λ v. (clause_at (unit_clauses (number_in ns) (term_in ns v)) j).result ≡ Some (clause_in ns log.atoms e.literals)) (same_row u row)
-      (taken_now ns table log.atoms (unit_of u j) e.literals made))
+      (taken ns table log.atoms (unit_of u j) e.literals made))
   row_says i e (axiom_of (farkas_of ms)) row made = cc
   row_says i e (axiom_of (branch_of l)) row made = cc
   row_says i e (axiom_of (cut_of ms)) row made = cc
@@ -169,12 +145,12 @@ module _ (ns : List Node) (table : IsTable ns) (levels : List (List ℕ)) (log :
 
 -- ---- A clause that names a term is of its level
 
-module _ (tells : TellsLiterals) (ns : List Node) (one : HasOneNumberEach ns) (s : LogState) (t level : ℕ) (within : t < length ns) (here : told_level s t ≡ level)
+module _ (reach : LevelsReach) (tells : TellsLiterals) (ns : List Node) (one : HasOneNumberEach ns) (s : LogState) (t level : ℕ) (within : t < length ns) (here : told_level s t ≡ level)
     (highest : (u : ℕ) → told_level s u ≤ level) where
   pub says_level : (c : List Lit) (d : Clause) → AreWithin ns s.atoms c → clause_in ns s.atoms c ≡ clause_of d → Names (term_in ns t) d → level_with s 0 c ≡ level
   says_level c d inside says named =
       let kept = once_has are_same_literal tells.same d named.0 named.1 in
-      let found = mapped_has (literal_in ns s.atoms) c named.0 (subst (λ (e : Clause). Contains e named.0) (sym says) kept) in
-      let there = each_has (IsLitIn ns s.atoms) c found.0 inside found.1 in
-      level_is s c found.0 t level here highest found.1
+      let found = map_from (literal_in ns s.atoms) c named.0 (subst (λ (e : Clause). Contains e named.0) (sym says) kept) in
+      let there = each_of (IsLitIn ns s.atoms) c inside found.0 found.1 in
+      level_is reach s c found.0 t level here highest found.1
       (number_named ns s.atoms found.0 there one t within (subst (λ (l : Literal). Contains (names_of l) (term_in ns t)) (sym found.2) named.2))

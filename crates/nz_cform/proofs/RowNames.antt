@@ -4,6 +4,7 @@ use Rattle.std.specs.Prelude.{Contains, ⊤, nat_lt, if◌then◌else◌}
 use Rattle.std.specs.List.{AllByRecursion}
 use Rattle.std.proofs.lemmas.List.Elements.{Contains-append_left, Contains-append_right, Contains-append_cases, Contains-push_cases}
 use Rattle.nz_lists.proofs.Elements.{AllByRecursion-weaker}
+use Rattle.nz_lists.proofs.Members.{has_first, has_more}
 use Rattle.nz_fractions.specs.Fraction.{Fraction, whole, outcome, Arithmetic, Sum, Difference, Product, Quotient}
 use Rattle.nz_spec.specs.Computation.{Computation, operated, at_once, turned_into, in_turn}
 use Rattle.nz_spec.specs.Term.{int_sort, real_sort, Head, equality, choice, less, at_most, integer_quotient, modulus, magnitude, to_int, is_int, Term, apply, Terms, no_terms, terms, is_zero}
@@ -17,7 +18,6 @@ use Rattle.nz_spec.specs.Linear.{constant_value}
 use Rattle.nz_spec.specs.Units.{quotient_rows, remainder_rows, unit_clauses}
 use Rattle.nz_spec.specs.Order.{post_order, post_orders}
 use Rattle.nz_spec.specs.Taken.{IsTakenHead, IsTaken}
-use Rattle.nz_cform.proofs.Elements.{has_first, has_behind}
 use Rattle.nz_cform.proofs.Parts.{itself}
 use Rattle.nz_cform.proofs.Sizes.{size, sizes}
 
@@ -165,7 +165,7 @@ HasNo u ps = OverUnits (λ v. v ≢ u) ps
 has_unit : (u : Term) (ps : List Part) → Has u ps → Contains (units_of ps) u
 has_unit u [] h = absurd h
 has_unit u (p ∷ ps) (inl here) = subst (Contains (p.unit ∷ units_of ps)) here (has_first p.unit (units_of ps))
-has_unit u (p ∷ ps) (inr more) = has_behind p.unit (units_of ps) u (has_unit u ps more)
+has_unit u (p ∷ ps) (inr more) = has_more p.unit u (units_of ps) (has_unit u ps more)
 
 module _ (told : TellsTerms) (number : Numbering) (u : Term) where
   with_part_has : (v : Term) (c : Fraction) (ps : List Part) → Has u ps → Has u (with_part v c ps)
@@ -261,7 +261,7 @@ module _ (number : Numbering) where
         (joins told number u Difference (form_of number a).result.parts own refl (none_of_smaller parts number a u small)))
 
   second_names : (t : Term) (l m : Literal) → Contains (names_of m) t → Names t (l ∷ m ∷ [])
-  second_names t l m has = (m, has_behind l (m ∷ []) m (has_first m []), has)
+  second_names t l m has = (m, has_more l m (m ∷ []) (has_first m []), has)
 
   first_names : (t : Term) (sign : Bool) (rest : List (Computation Literal)) → Names t (in_turn (at_once (term_literal t sign) ∷ rest)).result
   first_names t sign rest = (term_literal t sign, has_first (term_literal t sign) (in_turn rest).result, has_first t [])

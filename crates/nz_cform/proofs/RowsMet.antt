@@ -4,6 +4,7 @@ use Rattle.std.specs.Prelude.{Contains, IsSome, option_map, slice_get}
 use Rattle.std.specs.List.{AllByRecursion}
 use Rattle.std.proofs.lemmas.List.{length-map}
 use Rattle.std.proofs.lemmas.Option.{same_Some, slice_get_within}
+use Rattle.nz_lists.proofs.Members.{map_has}
 use Rattle.nz_spec.specs.Basis.{Valuation}
 use Rattle.nz_spec.specs.Computation.{Computation, at_once, turned_into}
 use Rattle.nz_spec.specs.Deciding.{HasMetLiteral}
@@ -20,13 +21,12 @@ use Rattle.nz_log.specs.declared.lits.Lit.{Lit}
 use Rattle.nz_log.specs.Atoms.{clause_in, literal_in}
 use Rattle.nz_log.specs.Axioms.{Axiom, IsAxiom, link_of, unit_of}
 use Rattle.nz_log.specs.Logs.{gate_of, axiom_of, Entry, LogState, entry_at, row_term}
-use Rattle.nz_log.specs.Sound.{GatesAreNamed, IsLog, IsMade}
+use Rattle.nz_log.specs.Sound.{AxiomsAreTaken, GatesAreNamed, IsLog, IsMade}
 use Rattle.nz_log.specs.TermLits.{clause_of_terms, gates_at}
-use Rattle.nz_log.proofs.Taken.{taken_now}
 use Rattle.nz_cform.specs.Covering.{Covers, HasClause, IsRowAt}
 use Rattle.nz_cform.specs.Forms.{FormState, covered_at}
 use Rattle.nz_cform.specs.Laws.{MeetsClauses, MeetsRows, RowsMeetTables}
-use Rattle.nz_cform.proofs.Elements.{has_mapped, once_from}
+use Rattle.nz_cform.proofs.Elements.{once_from}
 use Rattle.nz_cform.proofs.Kept.{some_entry}
 use Rattle.nz_cform.proofs.Levels.{level_of}
 use Rattle.nz_cform.proofs.Listed.{has_some}
@@ -37,7 +37,7 @@ each_place : {X : Type 0} (P : X → Type 0) (xs : List X) → ((j : ℕ) (x : X
 each_place P [] f = tt
 each_place P (x ∷ xs) f = (f 0 x refl, each_place P xs (λ j y at. f (suc j) y at))
 
-module _ (node : TermOfNode) (named : GatesAreNamed) (ns : List Node) (levels : List (List ℕ)) (log : LogState) (s : FormState) (table : IsTable ns) (order : IsLog ns levels log)
+module _ (node : TermOfNode) (named : GatesAreNamed) (axioms : AxiomsAreTaken) (ns : List Node) (levels : List (List ℕ)) (log : LogState) (s : FormState) (table : IsTable ns) (order : IsLog ns levels log)
     (covers : Covers ns log s) (truths : Term → Option Bool) (v : Valuation) (meets : MeetsRows ns log truths v) where
   abbrev Met : Clause → Type 0
   Met c = HasMetLiteral truths v c
@@ -50,7 +50,7 @@ module _ (node : TermOfNode) (named : GatesAreNamed) (ns : List Node) (levels : 
   row_met i t e c row at says =
       let m = meets i t row in
       let own = subst (λ (ls : List Lit). Contains ls m.0) (ap (λ o. elim o [ None ↦ [] | Some f ↦ f.literals ]) at) m.1 in
-      let there = has_mapped (literal_in ns log.atoms) e.literals m.0 own in
+      let there = map_has (literal_in ns log.atoms) e.literals m.0 own in
       (literal_in ns log.atoms m.0, once_from are_same_literal c (literal_in ns log.atoms m.0) (subst (λ (d : Clause). Contains d (literal_in ns log.atoms m.0)) (sym says) there), m.2)
 
   -- of a covered term
@@ -84,13 +84,13 @@ module _ (node : TermOfNode) (named : GatesAreNamed) (ns : List Node) (levels : 
     links_met =
         let cs = link_clauses (number_in ns) (term_in ns k) in
         each_place MetResult cs
-        (λ j c here. axiom_met (link_of k j) cs j c here refl (covers.rows.links k n j at (slice_get_within cs j c here)) (λ ls made. taken_now ns table log.atoms (link_of k j) ls made))
+        (λ j c here. axiom_met (link_of k j) cs j c here refl (covers.rows.links k n j at (slice_get_within cs j c here)) (λ ls made. axioms ns table log.atoms (link_of k j) ls made))
 
     units_met : AllByRecursion MetResult (unit_clauses (number_in ns) (term_in ns k))
     units_met =
         let cs = unit_clauses (number_in ns) (term_in ns k) in
         each_place MetResult cs
-        (λ j c here. axiom_met (unit_of k j) cs j c here refl (covers.rows.units k n j at (slice_get_within cs j c here)) (λ ls made. taken_now ns table log.atoms (unit_of k j) ls made))
+        (λ j c here. axiom_met (unit_of k j) cs j c here refl (covers.rows.units k n j at (slice_get_within cs j c here)) (λ ls made. axioms ns table log.atoms (unit_of k j) ls made))
 
   -- so all that a covered term is made of meets the tables
   clauses_met : (t : ℕ) → IsSome (covered_at s t) → MeetsClauses ns truths v t
@@ -106,6 +106,6 @@ module _ (node : TermOfNode) (named : GatesAreNamed) (ns : List Node) (levels : 
             subst (λ w. AllByRecursion MetResult (unit_clauses (number_in ns) w)) (part u has).term (units_met (part u has).number (level u has).0 (level u has).1);
       }
 
-pub rows_meet_tables : TermOfNode → GatesAreNamed → RowsMeetTables
-rows_meet_tables node named ns levels log s table order covers truths v meets t some =
-    clauses_met node named ns levels log s table order covers truths v meets t some
+pub rows_meet_tables : TermOfNode → GatesAreNamed → AxiomsAreTaken → RowsMeetTables
+rows_meet_tables node named axioms ns levels log s table order covers truths v meets t some =
+    clauses_met node named axioms ns levels log s table order covers truths v meets t some

@@ -5,6 +5,7 @@ use Rattle.std.specs.List.{AllByRecursion}
 use Rattle.std.proofs.lemmas.Option.{slice_get_within}
 use Rattle.std.proofs.lemmas.List.Elements.{recursion_from_All}
 use Rattle.nz_lists.proofs.Numbers.{same_or_other}
+use Rattle.nz_lists.proofs.Members.{each_of}
 use Rattle.nz_spec.specs.Same.{TellsTerms}
 use Rattle.nz_spec.specs.FormOf.{number_in, UnitsAreParts}
 use Rattle.nz_spec.specs.Links.{link_clauses}
@@ -14,8 +15,9 @@ use Rattle.nz_spec.specs.Taken.{IsTaken}
 use Rattle.nz_spec.specs.Units.{unit_clauses}
 use Rattle.nz_log.specs.declared.lits.Lit.{Lit}
 use Rattle.nz_log.specs.declared.term_lits.TermLit.{TermLit}
-use Rattle.nz_log.specs.Atoms.{AtomsOfTerms, HasTerm, IsLitIn, clause_in, lits_of}
+use Rattle.nz_log.specs.Atoms.{AtomsOfTerms, HasTerm, IsLitIn, TellsLits, clause_in, lits_of}
 use Rattle.nz_log.specs.Axioms.{Axiom, link_of, unit_of, farkas_of, branch_of, cut_of}
+use Rattle.nz_log.specs.Leveled.{LevelsReach}
 use Rattle.nz_log.specs.Lits.{are_same_lit}
 use Rattle.nz_log.specs.Logs.{Origin, assertion_of, gate_of, axiom_of, chain_of, Entry, LogState, axiom_entry, entry_at, gate_entry, level_at, row_term, told_of, told_level, Puts, PutsAxiom}
 use Rattle.nz_log.specs.TermLits.{gates_at}
@@ -23,7 +25,7 @@ use Rattle.nz_cform.specs.Forms.{FormState, covered_at}
 use Rattle.nz_cform.specs.Covering.{AreNamed, HasClause, HasGate, HasRowsBelow, IsBelow, IsOnAtoms, IsRowAt, gate_clause, gate_terms, origin_at}
 use Rattle.nz_cform.proofs.Added.{put_kept}
 use Rattle.nz_cform.proofs.AtomsStay.{gate_stays}
-use Rattle.nz_cform.proofs.Elements.{each_has, each_once}
+use Rattle.nz_cform.proofs.Elements.{each_once}
 use Rattle.nz_cform.proofs.GateLevels.{gate_level}
 use Rattle.nz_cform.proofs.Kept.{clause_kept, level_kept, made_live, on_atoms_kept}
 use Rattle.nz_cform.proofs.RowClauses.{placed, says_level}
@@ -187,7 +189,7 @@ module _ (old new : LogState) (s : FormState) (term id : ℕ) (e : Entry) (puts 
 
 -- ---- A clause of the gate table
 
-module _ (own : AtomsOfTerms) (ns : List Node) (old new : LogState) (s : FormState) (t k id : ℕ) (puts : Puts old id (gate_entry ns new t k) new)
+module _ (reach : LevelsReach) (equal : TellsLits) (own : AtomsOfTerms) (ns : List Node) (old new : LogState) (s : FormState) (t k id : ℕ) (puts : Puts old id (gate_entry ns new t k) new)
     (there : AreNamed ns new.atoms t k) (inside : k < length (gates_at ns t)) (has : HasRowsBelow ns old s t k 0 0) where
   abbrev gate : Entry
   gate = gate_entry ns new t k
@@ -197,7 +199,7 @@ module _ (own : AtomsOfTerms) (ns : List Node) (old new : LogState) (s : FormSta
 
   is_level : gate.level ≡ has.level
   is_level =
-      gate_level ns new t k has.level (told_here ns old new s t k 0 0 id gate puts refl has new_gate) (highest ns old new s t k 0 0 id gate puts refl has new_gate)
+      gate_level reach equal ns new t k has.level (told_here ns old new s t k 0 0 id gate puts refl has new_gate) (highest ns old new s t k 0 0 id gate puts refl has new_gate)
       inside there
 
   made : entry_at new id ≡ Some (gate_clause ns new.atoms t k has.level)
@@ -226,10 +228,8 @@ module _ (own : AtomsOfTerms) (ns : List Node) (old new : LogState) (s : FormSta
 
   gate_on : (l : Lit) → Contains gate.literals l → l.atom < length new.atoms
   gate_on l h =
-      each_has (λ (m : Lit). m.atom < length new.atoms) gate.literals l
-      (each_once are_same_lit (λ (m : Lit). m.atom < length new.atoms) (lits_of new.atoms (gate_terms ns t k))
-      (lits_on (gate_terms ns t k) (recursion_from_All (λ (m : TermLit). HasTerm new.atoms m.term) (gate_terms ns t k) there)))
-      h
+      each_of (λ (m : Lit). m.atom < length new.atoms) gate.literals (each_once are_same_lit (λ (m : Lit). m.atom < length new.atoms) (lits_of new.atoms (gate_terms ns t k))
+      (lits_on (gate_terms ns t k) (recursion_from_All (λ (m : TermLit). HasTerm new.atoms m.term) (gate_terms ns t k) there))) l h
 
   pub gate_more : HasRowsBelow ns new s t (suc k) 0 0
   gate_more =
@@ -245,14 +245,14 @@ module _ (ns : List Node) (one : HasOneNumberEach ns) (old new : LogState) (id :
   axiom_put = axiom_entry new a puts.literals
 
   axiom_on : (l : Lit) → Contains axiom_put.literals l → l.atom < length new.atoms
-  axiom_on l h = let there = each_has (IsLitIn ns new.atoms) puts.literals l puts.clause.within h in slice_get_within new.atoms l.atom there.atom there.at
+  axiom_on l h = let there = each_of (IsLitIn ns new.atoms) puts.literals puts.clause.within l h in slice_get_within new.atoms l.atom there.atom there.at
 
-  axiom_level : TellsLiterals → (t level : ℕ) → t < length ns → told_of new t ≡ Some level → ((u : ℕ) → told_level new u ≤ level)
+  axiom_level : LevelsReach → TellsLiterals → (t level : ℕ) → t < length ns → told_of new t ≡ Some level → ((u : ℕ) → told_level new u ≤ level)
       → (d : Clause) × (clause_in ns new.atoms puts.literals ≡ clause_of d) × Names (term_in ns t) d → axiom_put.level ≡ level
-  axiom_level tells t level within here highest says =
-      says_level tells ns one new t level within (ap (λ o. unwrap_or o 0) here) highest puts.literals says.0 puts.clause.within says.1 says.2
+  axiom_level reach tells t level within here highest says =
+      says_level reach tells ns one new t level within (ap (λ o. unwrap_or o 0) here) highest puts.literals says.0 puts.clause.within says.1 says.2
 
-module _ (own : AtomsOfTerms) (tells : TellsLiterals) (ns : List Node) (one : HasOneNumberEach ns) (old new : LogState) (s : FormState) (t id : ℕ) (within : t < length ns) where
+module _ (reach : LevelsReach) (own : AtomsOfTerms) (tells : TellsLiterals) (ns : List Node) (one : HasOneNumberEach ns) (old new : LogState) (s : FormState) (t id : ℕ) (within : t < length ns) where
   abbrev Links : (ℕ → ℕ → Origin) × (ℕ → ℕ)
   Links = ((λ v j. axiom_of (link_of v j)), (λ v. length (link_clauses (number_in ns) (term_in ns v))))
 
@@ -269,7 +269,7 @@ module _ (own : AtomsOfTerms) (tells : TellsLiterals) (ns : List Node) (one : Ha
 
     link_level : link.level ≡ has.level
     link_level =
-        axiom_level ns one old new id (link_of t k) puts tells t has.level within (told_here ns old new s t g k 0 id link puts.puts refl has new_link)
+        axiom_level ns one old new id (link_of t k) puts reach tells t has.level within (told_here ns old new s t g k 0 id link puts.puts refl has new_link)
         (highest ns old new s t g k 0 id link puts.puts refl has new_link)
         (placed (Names (term_in ns t)) (link_clauses (number_in ns) (term_in ns t)) k (clause_in ns new.atoms puts.literals)
         (each_link_names (number_in ns) (term_in ns t)) puts.clause.clause)
@@ -293,7 +293,7 @@ module _ (own : AtomsOfTerms) (tells : TellsLiterals) (ns : List Node) (one : Ha
 
     unit_level : unit.level ≡ has.level
     unit_level =
-        axiom_level ns one old new id (unit_of t u) puts tells t has.level within (told_here ns old new s t g k u id unit puts.puts refl has new_unit)
+        axiom_level ns one old new id (unit_of t u) puts reach tells t has.level within (told_here ns old new s t g k u id unit puts.puts refl has new_unit)
         (highest ns old new s t g k u id unit puts.puts refl has new_unit)
         (placed (Names (term_in ns t)) (unit_clauses (number_in ns) (term_in ns t)) u (clause_in ns new.atoms puts.literals)
         (each_unit_names (number_in ns) told parts (term_in ns t) taken) puts.clause.clause)

@@ -13,6 +13,7 @@ use Rattle.nz_spec.specs.Links.{link_clauses}
 use Rattle.nz_spec.specs.Units.{unit_clauses}
 use Rattle.nz_lists.proofs.Elements.{AllByRecursion-weaker}
 use Rattle.nz_lists.proofs.Places.{slice_get_kept}
+use Rattle.nz_lists.proofs.Places.{slice_get-same}
 use Rattle.nz_log.specs.declared.atoms.Atom.{Atom}
 use Rattle.nz_log.specs.declared.term_lits.TermLit.{TermLit}
 use Rattle.nz_log.specs.Atoms.{HasTerm, AtomsOfTerms, Stay, lits_of}
@@ -22,7 +23,6 @@ use Rattle.nz_log.specs.TermLits.{yes, no, is_boolean_at, gates_at}
 use Rattle.nz_log.specs.Axioms.{link_of, unit_of}
 use Rattle.nz_log.specs.Logs.{Origin, axiom_of, row_term, Entry, LogState, empty_log, entry_at, IsLive, level_at, kept_below, told_below, JoinsAtoms, Puts, Drops}
 use Rattle.nz_log.specs.Theories.{Grows}
-use Rattle.nz_log.proofs.Extending.{same_stay}
 use Rattle.nz_cform.specs.Listings.{IsListedWithin, listed_at}
 use Rattle.nz_cform.specs.Forms.{FormState, covered_at, empty_form, IsCoveredWithin, Cuts}
 use Rattle.nz_cform.specs.Covering.{AreNamed, Covers, HasRows, IsRowAt, gate_clause, gate_terms, kids_at, origin_at}
@@ -222,7 +222,7 @@ module _ (ns : List Node) (old new : LogState) (s cut : FormState) (level : ℕ)
   origin_before i o at = sym (origin_kept old new i (left i (made_live new i o at)).0) ∙ at
 
   stay_all : Stay old.atoms new.atoms
-  stay_all = same_stay old.atoms new.atoms drops.atoms
+  stay_all = slice_get-same old.atoms new.atoms drops.atoms
 
   -- what is covered at a level that is left stays so
   covers_dropped : Covers ns new cut

@@ -3,6 +3,7 @@ use Rattle.std.proofs.Common.{◌≡◌, ℕ, zero, suc, ◌<◌, Bool, true, fa
 use Rattle.std.specs.Prelude.{Contains, flat_map, if◌then◌else◌}
 use Rattle.std.proofs.lemmas.List.Concat.{flat_map-append}
 use Rattle.std.proofs.lemmas.List.Elements.{Contains-append_left, Contains-append_right}
+use Rattle.nz_lists.proofs.Members.{has_first, has_more}
 use Rattle.nz_fractions.specs.Fraction.{IsNumber, Operation, first_wide, is_wide}
 use Rattle.nz_spec.specs.Computation.{Computation}
 use Rattle.nz_spec.specs.FormOf.{form_of, number_in}
@@ -20,7 +21,6 @@ use Rattle.nz_lin.specs.Stops.{IsStopAt}
 use Rattle.nz_log.specs.Axioms.{first_wide_in_step}
 use Rattle.nz_cform.specs.declared.stop.FormStop.{FormStop}
 use Rattle.nz_cform.specs.Stops.{IsStopIn, IsStopOf, OnWide}
-use Rattle.nz_cform.proofs.Elements.{has_first, has_behind}
 use Rattle.nz_cform.proofs.Parts.{itself}
 
 abbrev Rows : Type 0
@@ -33,7 +33,7 @@ found_by : (x : Operation) (xs : List Operation) (op : Operation) (b : Bool) →
 found_by x xs op true e at more =
     let same : x ≡ op = cc in
     (subst (Contains (x ∷ xs)) same (has_first x xs), subst (λ (o : Operation). is_wide o.operator o.left o.right ≡ true) same e)
-found_by x xs op false e at more = let rest = more at in (has_behind x xs op rest.0, rest.1)
+found_by x xs op false e at more = let rest = more at in (has_more x op xs rest.0, rest.1)
 
 -- it is one of them, and leaves them
 found_wide : (xs : List Operation) (op : Operation) → first_wide xs ≡ Some op → Contains xs op × (is_wide op.operator op.left op.right ≡ true)

@@ -1,7 +1,7 @@
 //! Laws of terms that are covered.
 ghost use Rattle.nz_cform.specs.Laws.{CoversStay, RowsMeetTables, RowsNameCovered};
 
-use nz_log::laws::{atoms_of_terms, gates_are_named};
+use nz_log::laws::{atoms_of_terms, axioms_are_taken, gates_are_named, gates_name_arguments};
 use nz_spec::form::units_are_parts;
 use nz_spec::table::{one_number, term_of_node, term_stays};
 
@@ -21,6 +21,8 @@ pub fn rows_name_covered()
     term_of_node();
     one_number();
     gates_are_named();
+    gates_name_arguments();
+    axioms_are_taken();
 }
 
 /// Truths and worths that meet the clauses in a log meet the tables.
@@ -29,4 +31,5 @@ pub fn rows_meet_tables()
 {
     term_of_node();
     gates_are_named();
+    axioms_are_taken();
 }

@@ -13,7 +13,7 @@ ghost use Rattle.nz_cform.specs.Stops.{IsStopIn, OnWide};
 
 use crate::stop::FormStop;
 use nz_base::Memory;
-use nz_log::laws::{atoms_of_terms, gates_are_named};
+use nz_log::laws::{atoms_of_terms, gates_are_named, levels_reach, tells_lits};
 use nz_log::{ClauseId, Log, gate_count, link_count, unit_count};
 use nz_spec::deciding::taken_terms_are_in_order;
 use nz_spec::derivation::tells_literals;
@@ -37,6 +37,8 @@ pub fn add_gates(
 {
     atoms_of_terms();
     gates_are_named();
+    levels_reach();
+    tells_lits();
     taken_terms_are_in_order();
     known_table(terms);
     for j in 0..gate_count(terms, term) {
@@ -62,6 +64,7 @@ pub fn add_links(
     ensures stop { IfErr result (λ e. OnWide e (IsStopIn terms.now (term_in terms.now term))) }
 {
     atoms_of_terms();
+    levels_reach();
     tells_literals();
     one_number();
     taken_terms_are_in_order();
@@ -92,6 +95,7 @@ pub fn add_units(
     ensures stop { IfErr result (λ e. OnWide e (IsStopIn terms.now (term_in terms.now term))) }
 {
     atoms_of_terms();
+    levels_reach();
     tells_literals();
     tells_terms();
     units_are_parts();

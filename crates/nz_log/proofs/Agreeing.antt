@@ -1,12 +1,12 @@
 -- Literals by the numbers of atoms say what they say: two are one where their numbers and signs are.
-use Rattle.std.proofs.Common.{◌≡◌, zero, suc, Bool, true, false, not, List, [], ◌∷◌, ◌++◌, map, Some, refl, sym, ap, ◌∙◌}
-use Rattle.std.specs.Prelude.{ℤ, pos, negsuc, neg_ℤ}
+use Rattle.std.proofs.Common.{◌≡◌, Bool, true, false, not, List, [], ◌∷◌, ◌++◌, map, Some, refl, sym, ap, ◌∙◌}
 use Rattle.std.specs.List.{AllByRecursion}
 use Rattle.std.proofs.lemmas.List.{map-append}
+use Rattle.nz_lists.proofs.Elements.{AllByRecursion-append}
 use Rattle.nz_lists.proofs.Tests.{same_tests}
 use Rattle.nz_spec.specs.Form as form
 use Rattle.nz_spec.specs.Form.{negated_part}
-use Rattle.nz_fractions.specs.Fraction.{Fraction, neg_ℚ}
+use Rattle.nz_fractions.proofs.Identities.{neg-back}
 use Rattle.nz_spec.specs.Literal.{Literal, term_literal, is_at_most, is_below, negation_of, are_same_literal, once, without, clause_of, resolvent, TellsLiterals}
 use Rattle.nz_spec.specs.Table.{Node, IsTable, HasOneNumberEach, term_in, OneNumber}
 use Rattle.nz_spec.specs.Term as spec
@@ -25,23 +25,14 @@ use Rattle.nz_log.specs.Lits.{are_same_lit, lit_resolvent, negated_lit}
 use Rattle.nz_log.specs.Same as own
 use Rattle.nz_log.proofs.Extending.{literal_at}
 use Rattle.nz_log.proofs.Gathering.{lit_same, same_lit}
-use Rattle.nz_log.proofs.Members.{each-append, each-at, each-without}
+use Rattle.nz_log.proofs.Members.{each-at, each-without}
 use Rattle.nz_log.proofs.Naming.{once_named, without_named}
 
 -- ---- Twice negated
 
-neg_neg : (n : ℤ) → neg_ℤ (neg_ℤ n) ≡ n
-neg_neg (pos zero) = refl
-neg_neg (pos (suc n)) = refl
-neg_neg (negsuc n) = refl
-
-number_back : (q : Fraction) → neg_ℚ (neg_ℚ q) ≡ q
-unfolding neg_ℚ
-number_back q = λ i. record { numerator = neg_neg q.numerator i; below = q.below }
-
 parts_back : (ps : List form.Part) → map negated_part (map negated_part ps) ≡ ps
 parts_back [] = refl
-parts_back (p ∷ ps) = λ i. record { coefficient = number_back p.coefficient i; unit = p.unit } ∷ parts_back ps i
+parts_back (p ∷ ps) = λ i. record { coefficient = neg-back p.coefficient i; unit = p.unit } ∷ parts_back ps i
 
 sign_back : (b : Bool) → not (not b) ≡ b
 sign_back true = refl
@@ -49,8 +40,8 @@ sign_back false = refl
 
 pub negated_twice : (l : Literal) → negation_of (negation_of l) ≡ l
 negated_twice (term_literal t sign) = ap (term_literal t) (sign_back sign)
-negated_twice (is_at_most ps b) = λ i. is_at_most (parts_back ps i) (number_back b i)
-negated_twice (is_below ps b) = λ i. is_below (parts_back ps i) (number_back b i)
+negated_twice (is_at_most ps b) = λ i. is_at_most (parts_back ps i) (neg-back b i)
+negated_twice (is_below ps b) = λ i. is_below (parts_back ps i) (neg-back b i)
 
 with_sign_turned : (sign : Bool) (l : Literal) → with_sign (not sign) l ≡ negation_of (with_sign sign l)
 with_sign_turned true l = refl
@@ -163,7 +154,7 @@ module _ (ns : List Node) (atoms : List Atom) (agree : LiteralsAgree ns atoms) w
       let front = without are_same_lit l c in
       let back = without are_same_lit (negated_lit l) d in
       let turned : IsLitIn ns atoms (negated_lit l) = record { atom = w.atom; at = w.at; within = w.within } in
-      clause_named (front ++ back) (each-append P front back (each-without P are_same_lit l c h) (each-without P are_same_lit (negated_lit l) d k))
+      clause_named (front ++ back) (AllByRecursion-append P front back (each-without P are_same_lit l c h) (each-without P are_same_lit (negated_lit l) d k))
       ∙ ap clause_of
       (map-append name front back
       ∙ ap (λ xs. xs ++ clause_in ns atoms back) (without_named P name are_same_lit are_same_literal agree l c w h)

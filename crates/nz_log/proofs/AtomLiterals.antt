@@ -3,6 +3,7 @@ use Rattle.std.proofs.Common.{◌≡◌, ℕ, ◌<◌, ◌+◌, Bool, true, fals
 use Rattle.std.proofs.Math.Seq.{take-suc}
 use Rattle.std.specs.Prelude.{slice_get, IfOk, OnOk}
 use Rattle.std.specs.List.{AllByRecursion}
+use Rattle.nz_lists.proofs.Elements.{AllByRecursion-append}
 use Rattle.nz_fractions.specs.Fraction.{Fraction, neg_ℚ}
 use Rattle.nz_spec.specs.Form as form
 use Rattle.nz_spec.specs.Form.{negated_part}
@@ -22,7 +23,6 @@ use Rattle.nz_log.specs.Stored.{log_of}
 use Rattle.nz_log.proofs.Agreeing.{negated_twice}
 use Rattle.nz_log.proofs.AtomTables.{place_is, place_stays, place_there}
 use Rattle.nz_log.proofs.Extending.{literal_at}
-use Rattle.nz_log.proofs.Members.{each-append}
 
 -- ---- Of the log
 
@@ -61,7 +61,7 @@ lits_more old new stay are c i d within there own ls next so_far is =
     let kept = lits_stay old new stay are (take i c) there in
     let longer : take (i + 1) c ≡ take i c ++ l ∷ [] = ap (λ n. take n c) (add-one i) ∙ take-suc c i d within in (
       is ∙ ap (λ ms. ms ++ lit_of new l ∷ []) (so_far ∙ sym kept.0) ∙ sym (map-push new (take i c) l) ∙ ap (lits_of new) (sym longer),
-      subst (AllByRecursion (λ (k : TermLit). HasTerm new k.term)) (sym longer) (each-append (λ (k : TermLit). HasTerm new k.term) (take i c) (l ∷ []) kept.1 (own, tt)),
+      subst (AllByRecursion (λ (k : TermLit). HasTerm new k.term)) (sym longer) (AllByRecursion-append (λ (k : TermLit). HasTerm new k.term) (take i c) (l ∷ []) kept.1 (own, tt)),
     )
 
 -- ---- Literals of bounds

@@ -3,7 +3,7 @@ use Rattle.std.proofs.Common.{◌≡◌, Bool, List, [], ◌∷◌, ◌++◌, Op
 use Rattle.std.specs.Prelude.{IsTrue}
 use Rattle.std.specs.List.{AllByRecursion, list_all}
 use Rattle.std.proofs.lemmas.List.{map-append}
-use Rattle.nz_lists.proofs.Elements.{AllByRecursion-put}
+use Rattle.nz_lists.proofs.Elements.{AllByRecursion-append, AllByRecursion-put}
 use Rattle.nz_fractions.specs.Fraction.{Fraction, first_wide}
 use Rattle.nz_spec.specs.Computation.{Computation, and_then, at_once, turned_into}
 use Rattle.nz_spec.specs.Cuts.{cut_clause, rounded_limit}
@@ -29,7 +29,6 @@ use Rattle.nz_log.specs.Lits.{are_same_lit}
 use Rattle.nz_log.proofs.Agreeing.{clause_named}
 use Rattle.nz_log.proofs.Axiomatic.{negations_named, negations_within}
 use Rattle.nz_log.proofs.Extending.{axiom_in_stays, multiples_stay, step_stays}
-use Rattle.nz_log.proofs.Members.{each-append}
 use Rattle.nz_log.proofs.Operations.{first_behind, stop_before, stop_behind}
 
 -- ---- The computation
@@ -70,7 +69,7 @@ module _ (ns : List Node) (qs : List farkas.Multiple) (multiples : IsTrue (list_
     inside_new = axiom_in_stays ns old new stay (cut_of ms) inside
 
     within : AreWithin ns new lits
-    within = each-append (IsLitIn ns new) (negated_lits ms) (last ∷ []) (negations_within ns new ms inside_new) (own, tt)
+    within = AllByRecursion-append (IsLitIn ns new) (negated_lits ms) (last ∷ []) (negations_within ns new ms inside_new) (own, tt)
 
     done : IsDone limit l
     done = subst (λ (x : farkas.Bound). IsDone (rounded_limit x) l) summed.result rounded
@@ -100,7 +99,7 @@ pub cut_within : (ns : List Node) (atoms : List Atom) (ms : List Multiple) (last
     → AreWithin ns atoms (once are_same_lit (negated_lits ms ++ last ∷ []))
 cut_within ns atoms ms last inside own =
     let lits = negated_lits ms ++ last ∷ [] in
-    AllByRecursion-put (IsLitIn ns atoms) are_same_lit lits [] tt (each-append (IsLitIn ns atoms) (negated_lits ms) (last ∷ []) (negations_within ns atoms ms inside) (own, tt))
+    AllByRecursion-put (IsLitIn ns atoms) are_same_lit lits [] tt (AllByRecursion-append (IsLitIn ns atoms) (negated_lits ms) (last ∷ []) (negations_within ns atoms ms inside) (own, tt))
 
 -- ---- The sorts of the units
 

@@ -3,12 +3,12 @@ use Rattle.std.proofs.Common.{◌≡◌, ℕ, suc, ◌≤◌, Bool, true, false,
 use Rattle.std.specs.Prelude.{slice_get, nat_le, unwrap_or, IsSome, if◌then◌else◌}
 use Rattle.std.proofs.lemmas.List.{take-take}
 use Rattle.std.proofs.lemmas.Bool.{leb-true, le-leb}
+use Rattle.nz_lists.proofs.Places.{slice_get-same}
 use Rattle.nz_spec.specs.Table.{Node}
 use Rattle.nz_spec.specs.Decide.{asserted_numbers}
 use Rattle.nz_log.specs.Atoms.{AreAtoms, Stay}
 use Rattle.nz_log.specs.Logs.{Origin, assertion_of, gate_of, axiom_of, chain_of, Entry, LogState, entry_at, kept_below, Drops}
 use Rattle.nz_log.specs.Sound.{live_at, IsMade, IsLog}
-use Rattle.nz_log.proofs.Extending.{same_stay}
 use Rattle.nz_log.proofs.Soundness.{Keeps, entry_stays}
 
 -- what is kept was there, at or below the level
@@ -47,7 +47,7 @@ module _ (s r : LogState) (level : ℕ) (drops : Drops s level r) where
         atoms = subst AreAtoms (sym drops.atoms) order.atoms;
         clauses = λ i e at.
             let was = kept_is level (entry_at s i) e (sym (drops.entries i) ∙ at) in
-            let there = entry_stays level s r keeps (same_stay s.atoms r.atoms drops.atoms) ns levels i e was.1 (order.clauses i e was.0) in
+            let there = entry_stays level s r keeps (slice_get-same s.atoms r.atoms drops.atoms) ns levels i e was.1 (order.clauses i e was.0) in
             record { within = there.within; made = made_below ns levels i e was.1 e.origin there.made };
       }
 
@@ -64,4 +64,4 @@ joined_in_order s r same stay atoms ns levels order =
 
 pub told_in_order : (s r : LogState) → r.entries ≡ s.entries → r.atoms ≡ s.atoms → (ns : List Node) (levels : List (List ℕ)) → IsLog ns levels s → IsLog ns levels r
 told_in_order s r same atoms ns levels order =
-    joined_in_order s r same (same_stay s.atoms r.atoms atoms) (subst AreAtoms (sym atoms) order.atoms) ns levels order
+    joined_in_order s r same (slice_get-same s.atoms r.atoms atoms) (subst AreAtoms (sym atoms) order.atoms) ns levels order

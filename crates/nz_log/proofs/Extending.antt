@@ -27,9 +27,6 @@ literal_at ns atoms l a at = ap (λ o. elim o [ None ↦ term_literal (term_in n
 
 -- ---- Atoms join
 
-pub same_stay : (old new : List Atom) → new ≡ old → Stay old new
-same_stay old new same i a at = ap (λ (list : List Atom). slice_get list i) same ∙ at
-
 module _ (ns : List Node) (old new : List Atom) (stay : Stay old new) where
   pub lit_stays : (l : Lit) → IsLitIn ns old l → IsLitIn ns new l
   lit_stays l h = record { atom = h.atom; at = stay l.atom h.atom h.at; within = h.within }

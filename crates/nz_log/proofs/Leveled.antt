@@ -6,18 +6,19 @@ use Rattle.std.proofs.lemmas.Bool.{le-leb}
 use Rattle.std.proofs.lemmas.Bool.Decides.{eqb_tells}
 use Rattle.std.proofs.lemmas.List.Elements.{All-contains, All-contains_itself, All-from_recursion, All-weaker, recursion_from_All}
 use Rattle.nz_lists.proofs.Elements.{AllByRecursion-weaker, AllByRecursion-put}
+use Rattle.nz_lists.proofs.Members.{each_of}
+use Rattle.nz_lists.proofs.Places.{slice_get-same}
 use Rattle.nz_log.specs.declared.atoms.Atom.TheVariants.{Term}
 use Rattle.nz_log.specs.declared.lits.Lit.{Lit}
 use Rattle.nz_log.specs.declared.origins.Link.{Link}
 use Rattle.nz_log.specs.declared.term_lits.TermLit.{TermLit}
 use Rattle.nz_log.specs.Atoms.{HasTerm, Stay, lit_of, lits_of, terms_at, terms_of}
 use Rattle.nz_log.specs.Lits.{are_same_lit, lit_resolvent}
-use Rattle.nz_log.specs.Leveled.{AreTold, IsLeveled, IsToldWithin, LogsStayLeveled, Names}
+use Rattle.nz_log.specs.Leveled.{AreTold, IsLeveled, IsToldWithin, LevelsReach, LogsStayLeveled, Names}
 use Rattle.nz_log.specs.Logs.{Entry, LogState, axiom_entry, chain_entry, gate_entry, given_entry, entry_at, level_at, literals_at, level_of_links, level_of_terms, level_with, told_of, told_level, told_below, lowest, chained, Puts}
 use Rattle.nz_log.specs.TermLits.{gates_at, yes}
 use Rattle.nz_spec.specs.Literal.{once}
 use Rattle.nz_log.proofs.Dropping.{kept_is}
-use Rattle.nz_log.proofs.Extending.{same_stay}
 use Rattle.nz_log.proofs.Members.{each-resolvent}
 use Rattle.nz_log.proofs.Soundness.{level_grows, terms_grow}
 
@@ -38,6 +39,11 @@ reached s n (l ∷ ls) =
           (λ t low. let least : told_level s t ≤ here = low in omega (arith, more, least)) (terms_at s.atoms l) (told_reached s n (terms_at s.atoms l)),
       reached s here ls,
     )
+
+pub levels_reach : LevelsReach
+levels_reach s n c l has t named =
+    let P : ℕ → Type 0 = λ u. told_level s u ≤ level_with s n c in
+    each_of P (terms_at s.atoms l) (each_of (λ (m : Lit). AllByRecursion P (terms_at s.atoms m)) c (reached s n c) l has) t named
 
 told_within : (o : Option ℕ) (m : ℕ) → IsSome o → unwrap_or o 0 ≤ m → IsSomeAnd o (λ n. n ≤ m)
 told_within None m there below = cc
@@ -146,7 +152,7 @@ names_told : (old new : LogState) (m n : ℕ) → new.atoms ≡ old.atoms → ((
 names_told old new m n same told l h =
     record {
       atom = h.atom;
-      at = same_stay old.atoms new.atoms same l.atom h.atom h.at;
+      at = slice_get-same old.atoms new.atoms same l.atom h.atom h.at;
       terms = AllByRecursion-weaker (IsToldWithin old m) (IsToldWithin new n) told (terms_of h.atom) h.terms;
     }
 

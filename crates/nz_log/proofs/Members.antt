@@ -1,18 +1,20 @@
 -- What holds of each literal of clauses holds of each of what is made of them.
-use Rattle.std.proofs.Common.{◌≡◌, ℕ, ◌<◌, Bool, true, false, not, List, [], ◌∷◌, ◌++◌, length, map, get_or, Some, subst, sym}
+use Rattle.std.proofs.Common.{◌≡◌, ℕ, ◌<◌, Bool, true, false, not, List, [], ◌∷◌, ◌++◌, length, map, get_or, None, Some, subst, sym}
 use Rattle.std.specs.Bool.{⊤}
-use Rattle.std.specs.Prelude.{slice_get, if◌then◌else◌}
+use Rattle.std.specs.Prelude.{Contains, slice_get, if◌then◌else◌}
 use Rattle.std.specs.List.{AllByRecursion}
 use Rattle.std.proofs.lemmas.List.Elements.{All-from_recursion, All-get_or}
 use Rattle.std.proofs.lemmas.Option.{get_or_from_slice_get, slice_get_within}
-use Rattle.nz_lists.proofs.Elements.{AllByRecursion-put}
+use Rattle.nz_lists.proofs.Elements.{AllByRecursion-append, AllByRecursion-put}
+use Rattle.nz_lists.proofs.Members.{by_each, each_of, has_first, has_more}
 use Rattle.nz_spec.specs.Term.{Head, verum, falsum, negation, conjunction, disjunction, exclusion, equality, choice, bool_sort}
 use Rattle.nz_spec.specs.Literal.{without}
 use Rattle.nz_spec.specs.Gates.{clauses_over}
 use Rattle.nz_log.specs.declared.lits.Lit.{Lit}
 use Rattle.nz_log.specs.declared.term_lits.TermLit.{TermLit}
 use Rattle.nz_log.specs.Lits.{negated_lit, are_same_lit, lit_resolvent}
-use Rattle.nz_log.specs.TermLits.{yes, no}
+use Rattle.nz_log.specs.Sound.{GatesNameArguments}
+use Rattle.nz_log.specs.TermLits.{yes, no, is_boolean_at, gates_at}
 
 module _ {X : Type 0} (P : X → Type 0) where
   pub each-at : (xs : List X) (i : ℕ) (x : X) → AllByRecursion P xs → slice_get xs i ≡ Some x → P x
@@ -20,10 +22,6 @@ module _ {X : Type 0} (P : X → Type 0) where
 
   pub each_read : (xs : List X) (i : ℕ) (x : X) → i < length xs → x ≡ get_or xs i x → AllByRecursion P xs → P x
   each_read xs i x within read h = subst P (sym read) (All-get_or P xs i x within (All-from_recursion P xs h))
-
-  pub each-append : (xs ys : List X) → AllByRecursion P xs → AllByRecursion P ys → AllByRecursion P (xs ++ ys)
-  each-append [] ys h k = k
-  each-append (x ∷ xs) ys h k = (h.0, each-append xs ys h.1 k)
 
   kept_at : (b : Bool) (x : X) (xs : List X) → P x → AllByRecursion P xs → AllByRecursion P (if not b then x ∷ xs else xs)
   kept_at true x xs p h = h
@@ -36,7 +34,7 @@ module _ {X : Type 0} (P : X → Type 0) where
 pub each-resolvent : (P : Lit → Type 0) (l : Lit) (c d : List Lit) → AllByRecursion P c → AllByRecursion P d → AllByRecursion P (lit_resolvent l c d)
 each-resolvent P l c d h k =
     AllByRecursion-put P are_same_lit (without are_same_lit l c ++ without are_same_lit (negated_lit l) d) [] tt
-    (each-append P (without are_same_lit l c) (without are_same_lit (negated_lit l) d) (each-without P are_same_lit l c h) (each-without P are_same_lit (negated_lit l) d k))
+    (AllByRecursion-append P (without are_same_lit l c) (without are_same_lit (negated_lit l) d) (each-without P are_same_lit l c h) (each-without P are_same_lit (negated_lit l) d k))
 
 -- ---- Gates
 
@@ -63,10 +61,10 @@ module _ (P : ℕ → Type 0) where
   each-gate b t falsum [] p q = ((p, tt), tt)
   each-gate b t negation (u ∷ []) p q = ((p, (q.0, tt)), ((p, (q.0, tt)), tt))
   each-gate b t conjunction ks p q =
-      each-append (AllByRecursion On) (map (λ u. no t ∷ yes u ∷ []) ks) ((yes t ∷ map no ks) ∷ []) (pairs (no t) yes p (λ u r. r) ks q)
+      AllByRecursion-append (AllByRecursion On) (map (λ u. no t ∷ yes u ∷ []) ks) ((yes t ∷ map no ks) ∷ []) (pairs (no t) yes p (λ u r. r) ks q)
       ((p, signs no (λ u r. r) ks q), tt)
   each-gate b t disjunction ks p q =
-      each-append (AllByRecursion On) (map (λ u. yes t ∷ no u ∷ []) ks) ((no t ∷ map yes ks) ∷ []) (pairs (yes t) no p (λ u r. r) ks q)
+      AllByRecursion-append (AllByRecursion On) (map (λ u. yes t ∷ no u ∷ []) ks) ((no t ∷ map yes ks) ∷ []) (pairs (yes t) no p (λ u r. r) ks q)
       ((p, signs yes (λ u r. r) ks q), tt)
   each-gate b t exclusion (u ∷ v ∷ []) p q =
       let row : P t × (P u × (P v × ⊤)) = (p, (q.0, (q.1.0, tt))) in (row, (row, (row, (row, tt))))
@@ -77,3 +75,13 @@ module _ (P : ℕ → Type 0) where
       let second : P t × (P c × (P v × ⊤)) = (p, (q.0, (q.1.1.0, tt))) in
       (first, (second, (first, (second, tt))))
   each-gate b t h ks p q = tt
+
+-- so each of their literals is
+pub gates_name_arguments : GatesNameArguments
+gates_name_arguments ns t n at c has l named =
+    let P : ℕ → Type 0 = Contains (t ∷ n.kids) in
+    let kids : AllByRecursion P n.kids = by_each P n.kids (λ k there. has_more t k n.kids there) in
+    let all : AllByRecursion (AllByRecursion (On P)) (gates_at ns t) =
+    subst (λ o. AllByRecursion (AllByRecursion (On P)) (elim o [ None ↦ [] | Some m ↦ clauses_over yes no (is_boolean_at ns) t m.head m.kids ])) (sym at)
+    (each-gate P (is_boolean_at ns) t n.head n.kids (has_first t n.kids) kids) in
+    each_of (On P) c (each_of (AllByRecursion (On P)) (gates_at ns t) all c has) l named

@@ -1,6 +1,7 @@
 -- The literals of a row, one after another, while atoms join.
 use Rattle.std.proofs.Common.{◌≡◌, List, [], ◌∷◌, ◌++◌, length, refl, sym, ap, ◌∙◌, arith}
 use Rattle.std.proofs.lemmas.List.{map-append}
+use Rattle.nz_lists.proofs.Elements.{AllByRecursion-append}
 use Rattle.nz_spec.specs.Literal.{Literal}
 use Rattle.nz_spec.specs.Table.{Node}
 use Rattle.nz_log.specs.declared.atoms.Atom.{Atom}
@@ -9,7 +10,6 @@ use Rattle.nz_log.specs.declared.rows.Said.{Said}
 use Rattle.nz_log.specs.Atoms.{IsLitIn, Stay, literal_in}
 use Rattle.nz_log.specs.Rows.{AreLitsOf, AreSaidIn, IsSaidIn, said_in, saids_in}
 use Rattle.nz_log.proofs.Extending.{all_stay, clause_stays}
-use Rattle.nz_log.proofs.Members.{each-append}
 
 -- of a list with one more at its end
 said_parts : (ns : List Node) (xs : List Said) (x : Said) → AreSaidIn ns (xs ++ x ∷ []) → AreSaidIn ns xs × IsSaidIn ns x
@@ -35,5 +35,5 @@ one_said old new stay xs x ls l front says within ns all =
           ∙ ap (λ c. c ++ literal_in ns new l ∷ []) (clause_stays ns old new stay ls before.within ∙ before.says)
           ∙ ap (λ (m : Literal). saids_in ns xs ++ m ∷ []) (says ns)
           ∙ sym (map-append (said_in ns) xs (x ∷ []));
-      within = each-append (IsLitIn ns new) ls (l ∷ []) (all_stay ns old new stay ls before.within) (within ns parts.1, tt);
+      within = AllByRecursion-append (IsLitIn ns new) ls (l ∷ []) (all_stay ns old new stay ls before.within) (within ns parts.1, tt);
     }

@@ -11,10 +11,10 @@ use Rattle.nz_log.specs.declared.atoms.Atom.{Atom}
 use Rattle.nz_log.specs.declared.lits.Lit.{Lit}
 use Rattle.nz_log.specs.Atoms.{clause_in}
 use Rattle.nz_log.specs.Axioms.{Axiom, link_of, unit_of, farkas_of, branch_of, cut_of, IsAxiom, axiom_step}
+use Rattle.nz_log.specs.Sound.{AxiomsAreTaken}
 
 -- over the table itself
-pub taken_now : (ns : List Node) → IsTable ns → (atoms : List Atom) (a : Axiom) (c : List Lit) → IsAxiom ns atoms a c
-    → step_clause (number_in ns) [] [] (axiom_step ns atoms a) ≡ Some (clause_in ns atoms c)
+pub taken_now : AxiomsAreTaken
 taken_now ns table atoms a c h =
     subst (λ ms. step_clause (number_in ms) [] [] (axiom_step ms atoms a) ≡ Some (clause_in ms atoms c)) (append-nil ns)
     (h.taken [] atoms (subst IsTable (sym (append-nil ns)) table) (λ i b at. at))

@@ -6,9 +6,9 @@ use Rattle.nz_log.specs.declared.atoms.Atom.{Atom}
 use Rattle.nz_log.specs.declared.lits.Lit.{Lit}
 use Rattle.nz_log.specs.declared.origins.Link.{Link}
 use Rattle.nz_log.specs.declared.term_lits.TermLit.{TermLit}
-use Rattle.nz_log.specs.Atoms.{HasTerm, terms_of}
+use Rattle.nz_log.specs.Atoms.{HasTerm, terms_at, terms_of}
 use Rattle.nz_log.specs.Axioms.{Axiom}
-use Rattle.nz_log.specs.Logs.{Entry, LogState, empty_log, entry_at, IsLive, told_of, lowest, Puts, JoinsAtoms, Drops, chain_entry, axiom_entry, gate_entry, given_entry}
+use Rattle.nz_log.specs.Logs.{Entry, LogState, empty_log, entry_at, IsLive, level_with, told_of, told_level, lowest, Puts, JoinsAtoms, Drops, chain_entry, axiom_entry, gate_entry, given_entry}
 use Rattle.nz_log.specs.TermLits.{gates_at}
 
 -- a level was told of the term, at most this one
@@ -51,3 +51,7 @@ pub record LogsStayLeveled : Type 0 where
   pub placed : (old new : LogState) (t level : ℕ) → new.entries ≡ old.entries → new.atoms ≡ old.atoms → told_of new t ≡ Some (lowest (told_of old t) level)
       → ((u : ℕ) → u ≢ t → told_of new u ≡ told_of old u) → IsLeveled old → IsLeveled new
   pub dropped : (old new : LogState) (level : ℕ) → Drops old level new → IsLeveled old → IsLeveled new
+
+-- The level of a clause is no lower than what was told of a term that one of its literals names.
+abbrev pub LevelsReach : Type 0
+LevelsReach = (s : LogState) (n : ℕ) (c : List Lit) (l : Lit) → Contains c l → (t : ℕ) → Contains (terms_at s.atoms l) t → told_level s t ≤ level_with s n c

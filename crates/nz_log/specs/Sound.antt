@@ -1,15 +1,20 @@
 -- Logs whose clauses are in order: over a table of terms, and by level the numbers of the live assertions.
-use Rattle.std.specs.Prelude.{◌≡◌, ℕ, suc, ◌<◌, List, [], ◌∷◌, ◌++◌, length, take, map, Some, option_map, slice_get}
+use Rattle.std.specs.Prelude.{◌≡◌, ℕ, suc, ◌<◌, List, [], ◌∷◌, ◌++◌, length, take, map, Contains, Some, option_map, slice_get}
 use Rattle.std.specs.List.{AllByRecursion}
 use Rattle.nz_spec.specs.Term.{Term, Assignment, IsTrueUnder}
 use Rattle.nz_spec.specs.Table.{Node, IsTable, term_in}
 use Rattle.nz_spec.specs.Model.{IsAssignment}
 use Rattle.nz_spec.specs.Decide.{asserted_numbers, with_number}
+use Rattle.nz_spec.specs.FormOf.{number_in}
 use Rattle.nz_spec.specs.Literal.{clause_of, IsClauseTrue}
+use Rattle.nz_spec.specs.Steps.{step_clause}
 use Rattle.nz_spec.specs.Gates.{holds, gate_clauses, HasBooleanArguments}
+use Rattle.nz_log.specs.declared.atoms.Atom.{Atom}
+use Rattle.nz_log.specs.declared.lits.Lit.{Lit}
 use Rattle.nz_log.specs.declared.origins.Link.{Link}
+use Rattle.nz_log.specs.declared.term_lits.TermLit.{TermLit}
 use Rattle.nz_log.specs.Atoms.{AreAtoms, AreWithin, IsLitIn, clause_in}
-use Rattle.nz_log.specs.Axioms.{IsAxiom}
+use Rattle.nz_log.specs.Axioms.{Axiom, IsAxiom, axiom_step}
 use Rattle.nz_log.specs.Logs.{Origin, assertion_of, gate_of, axiom_of, chain_of, Entry, JoinsAtoms, LogState, empty_log, entry_at, literals_at, chained, IsPremise}
 use Rattle.nz_log.specs.TermLits.{clause_of_terms, gates_at}
 
@@ -67,3 +72,12 @@ pub record LogsStay : Type 0 where
 -- The clauses of the gate table by the number of a term say those of the term.
 abbrev pub GatesAreNamed : Type 0
 GatesAreNamed = (ns : List Node) → IsTable ns → (t : ℕ) → t < length ns → map (clause_of_terms ns) (gates_at ns t) ≡ gate_clauses (term_in ns t)
+
+-- They are of that term and its arguments.
+abbrev pub GatesNameArguments : Type 0
+GatesNameArguments = (ns : List Node) (t : ℕ) (n : Node) → slice_get ns t ≡ Some n → (c : List TermLit) → Contains (gates_at ns t) c → (l : TermLit) → Contains c l → Contains (t ∷ n.kids) l.term
+
+-- The step of a clause that holds by arithmetic alone gives it.
+abbrev pub AxiomsAreTaken : Type 0
+AxiomsAreTaken = (ns : List Node) → IsTable ns → (atoms : List Atom) (a : Axiom) (c : List Lit) → IsAxiom ns atoms a c
+    → step_clause (number_in ns) [] [] (axiom_step ns atoms a) ≡ Some (clause_in ns atoms c)

@@ -1,7 +1,7 @@
 //! Laws of logs in order, and of clauses by the numbers of terms.
-ghost use Rattle.nz_log.specs.Leveled.{LogsStayLeveled};
+ghost use Rattle.nz_log.specs.Leveled.{LevelsReach, LogsStayLeveled};
 ghost use Rattle.nz_log.specs.Atoms.{TellsLits, AtomsOfTerms};
-ghost use Rattle.nz_log.specs.Sound.{ClausesAreTrue, GatesAreNamed, LogsStay};
+ghost use Rattle.nz_log.specs.Sound.{AxiomsAreTaken, ClausesAreTrue, GatesAreNamed, GatesNameArguments, LogsStay};
 
 use nz_spec::derivation::{
     derived_clauses_are_true, gates_are_true, resolvent_is_true, tells_literals,
@@ -50,3 +50,18 @@ pub fn gates_are_named()
 {
     term_of_node();
 }
+
+/// The clauses of the gate table are of their term and its arguments.
+pub fn gates_name_arguments()
+    ensures named { GatesNameArguments }
+{}
+
+/// The level of a clause is no lower than what was told of a term that it names.
+pub fn levels_reach()
+    ensures reach { LevelsReach }
+{}
+
+/// The step of a clause that holds by arithmetic alone gives it.
+pub fn axioms_are_taken()
+    ensures taken { AxiomsAreTaken }
+{}

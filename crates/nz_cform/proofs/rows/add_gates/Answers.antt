@@ -46,7 +46,7 @@ loop-j-preserved c =
       adding = one_adding ns t c.args.log.now c.args.clauses.now.items old c.loop-j.clauses.items before.adding new
           (sound_here (goal.at.loop-j-preserved c).After-gate) id (gate_entry ns new t j) c.in_ok-clause.ensures.made refl c.push.new.self.items c.in_ok-push.ensures.items;
       rows = λ s has.
-          rw add-one (gate_more c.atoms_of_terms.ensures.atoms ns old new s t j id c.in_ok-clause.ensures.made c.in_ok-clause.ensures.there inside (before.rows s has));
+          rw add-one (gate_more c.levels_reach.ensures.reach c.tells_lits.ensures.tells c.atoms_of_terms.ensures.atoms ns old new s t j id c.in_ok-clause.ensures.made c.in_ok-clause.ensures.there inside (before.rows s has));
     }
 
 pub returns-clause-rows : goal.returns-clause-rows

@@ -40,7 +40,7 @@ loop-j-preserved c =
       adding = one_adding ns t c.args.log.now c.args.clauses.now.items old c.loop-j.clauses.items before.adding new
           (sound_here (goal.at.loop-j-preserved c).After-link) id (axiom_entry new (link_of t j) puts.literals) puts.puts refl c.push.new.self.items c.in_ok-push.ensures.items;
       rows = λ s gates has.
-          rw add-one (link_more c.atoms_of_terms.ensures.atoms c.tells_literals.ensures.tells ns one old new s t id c.requires.within gates j puts (before.rows s gates has));
+          rw add-one (link_more c.levels_reach.ensures.reach c.atoms_of_terms.ensures.atoms c.tells_literals.ensures.tells ns one old new s t id c.requires.within gates j puts (before.rows s gates has));
     }
 
 pub returns-clause-rows : goal.returns-clause-rows

@@ -40,7 +40,7 @@ loop-j-preserved c =
       adding = one_adding ns t c.args.log.now c.args.clauses.now.items old c.loop-j.clauses.items before.adding new
           (sound_here (goal.at.loop-j-preserved c).After-unit_axiom) id (axiom_entry new (unit_of t j) puts.literals) puts.puts refl c.push.new.self.items c.in_ok-push.ensures.items;
       rows = λ s gates links has.
-          rw add-one (unit_more c.atoms_of_terms.ensures.atoms c.tells_literals.ensures.tells ns one old new s t id c.requires.within c.tells_terms.ensures.tells c.units_are_parts.ensures.parts gates links j c.requires.taken puts (before.rows s gates links has));
+          rw add-one (unit_more c.levels_reach.ensures.reach c.atoms_of_terms.ensures.atoms c.tells_literals.ensures.tells ns one old new s t id c.requires.within c.tells_terms.ensures.tells c.units_are_parts.ensures.parts gates links j c.requires.taken puts (before.rows s gates links has));
     }
 
 pub returns-clause-rows : goal.returns-clause-rows
