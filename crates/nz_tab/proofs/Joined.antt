@@ -11,11 +11,12 @@ use Rattle.nz_spec.specs.Basis.{IsBasis, IsRow}
 use Rattle.nz_spec.specs.BasisMoves.{AreRows, JoinsKeepBasis, with_nonbasic}
 use Rattle.nz_lin.specs.declared.form.Part.{Part}
 use Rattle.nz_lin.specs.Forms.{AreUnits, parts_over}
+use Rattle.nz_tab.specs.Laws.{joined_to}
 use Rattle.nz_tab.specs.Rows.{Grid, is_nonbasic, rows_of}
 use Rattle.nz_tab.specs.Sums.{IsWidened}
 use Rattle.nz_tab.specs.Tables.{HasRows, IsTableau, forms_over}
 use Rattle.nz_tab.specs.Units.{unit_number, unit_of}
-use Rattle.nz_tab.proofs.Uniting.{Holds, joined_to, unit_joins}
+use Rattle.nz_tab.proofs.Uniting.{Holds, unit_joins}
 
 -- ---- Fronts
 

@@ -5,17 +5,18 @@ use Rattle.std.specs.List.{AllByRecursion}
 use Rattle.std.proofs.lemmas.List.{append_assoc, length-map}
 use Rattle.std.proofs.lemmas.List.Elements.{All-from_recursion}
 use Rattle.nz_fractions.specs.Fraction.{Fraction}
-use Rattle.nz_spec.specs.FormOf.{number_in}
+use Rattle.nz_spec.specs.FormOf.{TermHasItsNumber, number_in}
 use Rattle.nz_spec.specs.Table.{Node, term_in}
 use Rattle.nz_spec.specs.Basis.{HasItsUnits, form_at}
-use Rattle.nz_spec.specs.BasisMoves.{AreNumbered}
+use Rattle.nz_spec.specs.BasisMoves.{AreNumbered, JoinsKeepBasis}
 use Rattle.nz_lin.specs.declared.form.Part.{Part}
 use Rattle.nz_lin.specs.Forms.{AreInOrder, NamesUnit, parts_over}
 use Rattle.nz_tab.specs.Joins.{number_by}
+use Rattle.nz_tab.specs.Laws.{UnitsJoin}
 use Rattle.nz_tab.specs.Tables.{forms_over}
 use Rattle.nz_tab.specs.Units.{addends, new_units, unit_number, unit_of, with_units}
 use Rattle.nz_tab.proofs.UnitForms.{number_found, number_stays, unit_listed}
-use Rattle.nz_tab.proofs.Uniting.{own_number, units_known, units_step}
+use Rattle.nz_tab.proofs.Uniting.{own_number, units_join, units_known, units_step}
 
 -- the unit of a part has a number
 abbrev pub HasNumber : List (List Part) → Part → Type 0
@@ -62,6 +63,15 @@ module _ (ns : List Node) (number : (i : ℕ) → i < length ns → number_in ns
   pub has_its_units : (ps : List Part) → AllByRecursion (HasNumber gs) ps → HasItsUnits (forms_over ns gs) (parts_over ns ps)
   has_its_units [] has = _
   has_its_units (p ∷ ps) has = (unit_listed ns gs p.unit has.0.0 has.0.1, has_its_units ps has.1)
+
+-- ---- The law
+
+pub units_have_joined : JoinsKeepBasis → TermHasItsNumber → UnitsJoin
+units_have_joined law numbers = record {
+  rows = λ ns fs f rows ps table all are basis are_rows.
+      (units_join law ns (numbers ns table) ps fs f rows are.names are.in_order (record { basis = basis; are_rows = are_rows; units = all })).are_rows;
+  numbers = λ ns fs ps table are. are_numbered ns (numbers ns table) (with_units fs ps) ps are.names (units_numbered ps fs are.in_order);
+}
 
 -- ---- Bounds
 

@@ -16,6 +16,7 @@ use Rattle.nz_spec.specs.BasisMoves.{AreRows, JoinsKeepBasis, Rows, joining_row,
 use Rattle.nz_lin.specs.declared.form.Part.{Part}
 use Rattle.nz_lin.specs.Forms.{AreUnits, NamesUnit, part_over, parts_over}
 use Rattle.nz_tab.specs.Joins.{HasOwnRow, IsFormJoined, Joins, joining, number_by, with_nonbasic_units}
+use Rattle.nz_tab.specs.Laws.{joined_to}
 use Rattle.nz_tab.specs.declared.tab.TabStop.{TabStop}
 use Rattle.nz_tab.specs.declared.tab.TabStop.TheVariants.{Memory, Wide}
 use Rattle.nz_tab.specs.Rows.{Grid, is_nonbasic, row_of, rows_of}
@@ -26,7 +27,7 @@ use Rattle.nz_tab.proofs.Blocks.{no_coefficient}
 use Rattle.nz_tab.proofs.Joined.{back_all, front_all, nonbasic_then}
 use Rattle.nz_tab.proofs.Numbering.{HasNumber, all_within, are_numbered, has_its_units, number_is, number_of, units_numbered}
 use Rattle.nz_tab.proofs.SameRow.{same_row}
-use Rattle.nz_tab.proofs.Uniting.{Holds, addends_numbered, joined_to, numbered, units_join}
+use Rattle.nz_tab.proofs.Uniting.{Holds, addends_numbered, numbered, units_join}
 
 -- ---- The numbers of units, and the units themselves
 

@@ -1,6 +1,6 @@
 -- The numbers of units among forms.
 use Rattle.std.proofs.Common.{◌≡◌, ℕ, zero, suc, ◌<◌, Bool, true, false, List, [], ◌∷◌, ◌++◌, length, get_or, Option, Some, None, pos, refl, sym, ap, ◌∙◌, true≢false, arith}
-use Rattle.std.specs.Prelude.{if◌then◌else◌, cond, nat_eq, ◌==◌, ◌≢◌, ◌&&◌, Contains, option_map, is_some}
+use Rattle.std.specs.Prelude.{if◌then◌else◌, cond, nat_eq, ◌==◌, ◌&&◌, Contains, option_map, is_some}
 use Rattle.std.specs.Ordering.{int_eq}
 use Rattle.std.specs.List.{AllByRecursion}
 use Rattle.std.proofs.lemmas.Bool.{and_parts}
@@ -10,12 +10,16 @@ use Rattle.std.proofs.lemmas.List.Elements.{All-from_recursion}
 use Rattle.nz_lists.proofs.Numbers.{equal-number, same-number}
 use Rattle.nz_fractions.specs.Fraction.{Fraction, whole}
 use Rattle.nz_spec.specs.Form as spec
-use Rattle.nz_spec.specs.Form.{unit_form}
-use Rattle.nz_spec.specs.FormOf.{number_in}
+use Rattle.nz_spec.specs.FormOf.{TermHasItsNumber, number_in}
 use Rattle.nz_spec.specs.Table.{Node, term_in}
+use Rattle.nz_spec.specs.Term as spec_terms
 use Rattle.nz_spec.specs.Basis.{form_at}
+use Rattle.nz_term.specs.declared.heads.Sort as code
+use Rattle.nz_term.specs.declared.heads.Sort.TheVariants.{Bool as Boolean, Int, Real}
+use Rattle.nz_term.specs.Constants as sorts
 use Rattle.nz_lin.specs.declared.form.Part.{Part}
 use Rattle.nz_lin.specs.Forms.{AreUnits, part_over, parts_over}
+use Rattle.nz_tab.specs.Laws.{UnitsAreForms, unit_parts}
 use Rattle.nz_tab.specs.Tables.{forms_over}
 use Rattle.nz_tab.specs.Units.{AreNumbers, is_form_of, is_one, is_unit_form, unit_number}
 
@@ -26,10 +30,6 @@ one_is q e =
     let both = and_parts (int_eq q.numerator (pos 1)) (q.below == 0) e in
     ap (λ z. let x : Fraction = record { numerator = z; below = q.below } in x) ((Decides-int_eq q.numerator (pos 1)).0 both.0)
     ∙ ap (λ n. let x : Fraction = record { numerator = pos 1; below = n } in x) (same-number q.below 0 both.1)
-
--- the parts of a unit over a table of terms
-abbrev pub unit_parts : List Node → ℕ → List spec.Part
-unit_parts ns u = (unit_form (term_in ns u)).parts
 
 abbrev alone : Fraction → List Node → ℕ → List spec.Part
 alone q ns u = record { coefficient = q; unit = term_in ns u } ∷ []
@@ -53,6 +53,27 @@ unit_of_form ns number u inside (p ∷ []) units e = by_parts units.names.0.0 e
         let number_is : p.unit ≡ u = sym (number p.unit within) ∙ ap (number_in ns) terms ∙ number u inside in
         ap (λ (b : Bool). b && is_one p.coefficient) (equal-number p.unit u number_is) ∙ ap is_one one
 unit_of_form ns number u inside (p ∷ q ∷ ps) units e = absurd (omega (arith, ap length e))
+
+-- two sorts are one where the definitions have one for them
+same_sort : (a b : code.Sort) → sorts.sort_of a ≡ sorts.sort_of b → a ≡ b
+same_sort Boolean Boolean e = refl
+same_sort Int Int e = refl
+same_sort Real Real e = refl
+same_sort a b e = cc
+
+-- two forms of one unit are one
+one_form : (ns : List Node) (u : ℕ) (f g : List Part) → AreUnits ns f → AreUnits ns g → is_form_of u f ≡ true → is_form_of u g ≡ true → f ≡ g
+one_form ns u [] g h k e d = absurd (true≢false (sym e))
+one_form ns u (p ∷ []) [] h k e d = absurd (true≢false (sym d))
+one_form ns u (p ∷ []) (q ∷ []) h k e d =
+    let a = and_parts (p.unit == u) (is_one p.coefficient) e in
+    let b = and_parts (q.unit == u) (is_one q.coefficient) d in
+    let unit : p.unit ≡ q.unit = same-number p.unit u a.0 ∙ sym (same-number q.unit u b.0) in
+    let coefficient : p.coefficient ≡ q.coefficient = one_is p.coefficient a.1 ∙ sym (one_is q.coefficient b.1) in
+    let sort : p.sort ≡ q.sort = same_sort p.sort q.sort (h.names.0.1 ∙ ap (λ (n : ℕ). spec_terms.sort_of (term_in ns n)) unit ∙ sym k.names.0.1) in
+    λ i. record { unit = unit i; sort = sort i; coefficient = coefficient i } ∷ []
+one_form ns u (p ∷ []) (q ∷ r ∷ qs) h k e d = absurd (true≢false (sym d))
+one_form ns u (p ∷ q ∷ ps) g h k e d = absurd (true≢false (sym e))
 
 -- ---- Numbers
 
@@ -105,6 +126,15 @@ unit_unlisted ns number fs all u inside none there =
     (unit_of_form ns number u inside (get_or fs k []) (All-from_recursion (AreUnits ns) fs all k [] within)
     (sym (get_or-map (parts_over ns) fs k [] (unit_parts ns u) within) ∙ there.2))
     none
+
+pub units_are_forms : TermHasItsNumber → UnitsAreForms
+units_are_forms numbers = record {
+  form = form_of_unit;
+  told = λ ns u f table inside. unit_of_form ns (numbers ns table) u inside f;
+  one = one_form;
+  numbered = number_found;
+  missing = λ ns fs u table all. unit_unlisted ns (numbers ns table) fs all u;
+}
 
 -- ---- One unit more
 

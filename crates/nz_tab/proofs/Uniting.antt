@@ -14,9 +14,10 @@ use Rattle.nz_spec.specs.Basis.{IsBasis, IsRow}
 use Rattle.nz_spec.specs.BasisMoves.{AreRows, JoinsKeepBasis, Rows, with_nonbasic}
 use Rattle.nz_lin.specs.declared.form.Part.{Part}
 use Rattle.nz_lin.specs.Forms.{AreInOrder, AreUnits, NamesUnit, parts_over}
+use Rattle.nz_tab.specs.Laws.{joined_to, unit_parts}
 use Rattle.nz_tab.specs.Tables.{forms_over}
 use Rattle.nz_tab.specs.Units.{addends, new_units, unit_number, unit_of, with_units}
-use Rattle.nz_tab.proofs.UnitForms.{number_behind, number_stays, unit_parts, unit_unlisted}
+use Rattle.nz_tab.proofs.UnitForms.{number_behind, number_stays, unit_unlisted}
 
 -- a number and its coefficient before others, by whether the unit has a number
 abbrev numbered_first : ℕ → Fraction → List (ℕ × Fraction) → List (ℕ × Fraction) → Option ℕ → List (ℕ × Fraction)
@@ -99,10 +100,6 @@ addends_numbered (p ∷ ps) fs order = by_number (unit_number fs p.unit) refl (a
         ∙ ap (λ (l : List (List Part)). numbered l (p ∷ ps)) (sym (units_step fs p ps e order.0))
 
 -- ---- A basis
-
--- the nonbasic forms, when those from n to m have joined them
-abbrev pub joined_to : (ℕ → Bool) → ℕ → ℕ → ℕ → Bool
-joined_to f n m k = if nat_lt k n then f k else nat_lt k m
 
 module _ (law : JoinsKeepBasis) (ns : List Node) (number : (i : ℕ) → i < length ns → number_in ns (term_in ns i) ≡ i) where
   pub record Holds (fs : List (List Part)) (f : ℕ → Bool) (rows : Rows) : Type 0 where

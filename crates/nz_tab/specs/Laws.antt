@@ -1,5 +1,5 @@
 -- Units among forms, over every table of terms.
-use Rattle.std.specs.Prelude.{◌≡◌, ℕ, ◌<◌, ⊥, Bool, true, List, length, Contains, Some, None, if◌then◌else◌, nat_lt}
+use Rattle.std.specs.Prelude.{◌≡◌, ℕ, ◌<◌, Bool, true, List, length, Contains, Some, None, if◌then◌else◌, nat_lt}
 use Rattle.std.specs.List.{AllByRecursion}
 use Rattle.nz_spec.specs.Basis.{IsBasis, form_at}
 use Rattle.nz_spec.specs.BasisMoves.{AreNumbered, AreRows, Rows}
