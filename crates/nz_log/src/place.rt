@@ -1,4 +1,7 @@
 //! Where an operation left the numbers.
+ghost use Rattle.std.specs.Prelude.{◌≡◌};
+ghost use Rattle.nz_fractions.specs.Fraction.{IsNumber};
+
 use nz_frac::Wide;
 use nz_lin::Multiple;
 use nz_term::TermId;
@@ -28,4 +31,17 @@ pub enum Site {
 pub struct Place {
     pub wide: Wide,
     pub site: Site,
+}
+
+impl Place {
+    /// The place of an operation that left the numbers. Both operands are numbers, as every fraction is.
+    pub fn new(wide: Wide, site: Site) -> Place
+        ensures place { result ≡ record { wide = wide; site = site } }
+        ensures left { IsNumber wide.a }
+        ensures right { IsNumber wide.b }
+    {
+        wide.a.num();
+        wide.b.num();
+        Place { wide, site }
+    }
 }
