@@ -7,7 +7,7 @@ use Rattle.std.proofs.lemmas.Option.{slice_get-get_or}
 use Rattle.nz_lists.proofs.Elements.{AllByRecursion-weaker}
 use Rattle.nz_lists.proofs.Members.{by_each, each_of, has_cases, map_has}
 use Rattle.nz_spec.specs.FormOf.{number_in, UnitsAreParts}
-use Rattle.nz_spec.specs.Gates.{clauses_over, gate_clauses}
+use Rattle.nz_spec.specs.Gates.{gate_clauses}
 use Rattle.nz_spec.specs.Literal.{are_same_literal}
 use Rattle.nz_spec.specs.Order.{post_order, post_orders}
 use Rattle.nz_spec.specs.Table.{Node, IsTable, HasOneNumberEach, OneNumber, TermOfNode, term_in, terms_at}
@@ -19,7 +19,7 @@ use Rattle.nz_log.specs.Atoms.{IsLitIn, clause_in, literal_in, terms_of}
 use Rattle.nz_log.specs.Leveled.{Names}
 use Rattle.nz_log.specs.Logs.{LogState, entry_at, level_at, literals_at, row_term}
 use Rattle.nz_log.specs.Sound.{AxiomsAreTaken, GatesAreNamed, GatesNameArguments, IsLog}
-use Rattle.nz_log.specs.TermLits.{yes, no, clause_of_terms, gates_at, is_boolean_at, literal_of}
+use Rattle.nz_log.specs.TermLits.{clause_of_terms, gates_at, literal_of}
 use Rattle.nz_cform.specs.Covering.{Covers, IsRowAt, kids_at}
 use Rattle.nz_cform.specs.Forms.{FormState, covered_at, IsCoveredWithin}
 use Rattle.nz_cform.specs.Laws.{RowsNameCovered}
