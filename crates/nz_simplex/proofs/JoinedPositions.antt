@@ -97,7 +97,8 @@ units_joined p (u ∷ us) = units_joined (with_unit p u) us ∙ one_first p u us
 -- ---- The units of a form
 
 module _ (ns : List Node) where
-  unit_parts : (fs : List (List Part)) (f : List Part) → map parts_of (unit_terms ns (new_units fs f)) ≡ map (parts_over ns) (new_units fs f)
+  -- the forms of units are those of their terms
+  pub unit_parts : (fs : List (List Part)) (f : List Part) → map parts_of (unit_terms ns (new_units fs f)) ≡ map (parts_over ns) (new_units fs f)
   unit_parts fs [] = refl
   unit_parts fs (p ∷ ps) = by_test (is_some (unit_number fs p.unit)) (unit_parts fs ps)
     where
@@ -106,7 +107,7 @@ module _ (ns : List Node) where
       by_test true h = h
       by_test false h = ap (λ (l : List (List spec.Part)). parts_over ns (unit_of p) ∷ l) h
 
-  unit_count : (fs : List (List Part)) (f : List Part) → length (unit_terms ns (new_units fs f)) ≡ length (new_units fs f)
+  pub unit_count : (fs : List (List Part)) (f : List Part) → length (unit_terms ns (new_units fs f)) ≡ length (new_units fs f)
   unit_count fs f =
       sym (length-map (unit_terms ns (new_units fs f)) parts_of)
       ∙ ap length (unit_parts fs f)

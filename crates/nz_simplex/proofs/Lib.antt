@@ -13,6 +13,7 @@ pub mod Grown
 pub mod Helping
 pub mod JoinedForms
 pub mod JoinedPositions
+pub mod JoiningRows
 pub mod Moving
 pub mod OverOtherUnits
 pub mod Places

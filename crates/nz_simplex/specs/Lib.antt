@@ -3,6 +3,7 @@ pub mod Choices
 pub mod Contradictions
 pub mod Faithful
 pub mod FaithfulScalars
+pub mod Joins
 pub mod Moves
 pub mod OtherUnits
 pub mod SaidBounds

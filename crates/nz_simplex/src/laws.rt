@@ -1,5 +1,6 @@
 //! What clashes are worth.
 ghost use Rattle.nz_simplex.specs.Contradictions.{ClashesContradict};
+ghost use Rattle.nz_simplex.specs.Joins.{JoinsStopAtRows};
 ghost use Rattle.nz_simplex.specs.OtherUnits.{ContradictionsStay};
 ghost use Rattle.nz_simplex.specs.SaidBounds.{LiteralsSayBounds, SumsStay};
 
@@ -7,6 +8,7 @@ use nz_spec::basis::worth_is_by_units;
 use nz_spec::form::forms_are_sums;
 use nz_spec::infinitesimal::infinitesimals_are_ordered;
 use nz_spec::term::tells_terms;
+use nz_tab::laws::units_join;
 
 /// Where each bound that was asserted has a literal that says the same, the literals of clashing bounds, with their multipliers, sum to a
 /// contradiction: those that a check tells, and two bounds that leave a form no value.
@@ -24,6 +26,13 @@ pub fn contradictions_stay()
 {
     tells_terms();
     worth_is_by_units();
+}
+
+/// Where a form that joins leaves the numbers, the operation is one of its row, over the position to which its units have joined.
+pub fn joins_stop_at_rows()
+    ensures stop { JoinsStopAtRows }
+{
+    units_join();
 }
 
 /// Which literals say which bounds of a form.
