@@ -10,11 +10,9 @@ use Rattle.nz_lists.proofs.Elements.{AllByRecursion-append}
 use Rattle.nz_lists.proofs.Tests.{same_tests}
 use Rattle.nz_lists.proofs.Numbers.{equal-number, same-number, other-number}
 use Rattle.nz_fractions.specs.Fraction.{whole}
-use Rattle.nz_spec.specs.BasisMoves.{JoinsKeepBasis}
 use Rattle.nz_spec.specs.Bland.{Point, Position}
 use Rattle.nz_spec.specs.Form as spec
 use Rattle.nz_spec.specs.Form.{unit_form}
-use Rattle.nz_spec.specs.FormOf.{TermHasItsNumber}
 use Rattle.nz_spec.specs.Legal.{AreLegal, Lead, LegalWorkGoesOn, Search, Task, after_line, after_lines, at_first, no_point, position_of, sum_of_atom, told_literals}
 use Rattle.nz_spec.specs.Literal.{Literal, TellsLiterals, are_same_literal, term_literal}
 use Rattle.nz_spec.specs.LiteralBounds as bounds
@@ -37,6 +35,7 @@ use Rattle.nz_log.specs.declared.stop.Stop.{Stop}
 use Rattle.nz_log.specs.declared.stop.Stop.TheVariants.{Wide, Spent, Memory}
 use Rattle.nz_log.specs.Places.{IsPlaceIn}
 use Rattle.nz_log.specs.Standing.{Ends, IsStoppedAt, Standing, Stands, search_after}
+use Rattle.nz_simplex.specs.Joins.{JoinsStopAtRows}
 use Rattle.nz_simplex.specs.Moves.{joined_over, unit_terms, with_all_units}
 use Rattle.nz_simplex.specs.Standing.{Held, bound_in}
 use Rattle.nz_simplex.specs.State as simplex_state
@@ -255,7 +254,7 @@ module _ (ns : List Node) (q : Task) (work : WorkList Note) (number : ℕ) where
         no_told [] e r y at = cc
         no_told (t ∷ ts) e r y at = cc
 
-    module _ (law : JoinsKeepBasis) (numbers : TermHasItsNumber) (sound : IsSound old.simplex) where
+    module _ (law : JoinsStopAtRows) (sound : IsSound old.simplex) where
       stops_there : (place : Place) → StopsJoining old f (Wide place) → IsStoppedAt ns q later place
       stops_there place stops = record {
         point = P.point;
@@ -264,7 +263,7 @@ module _ (ns : List Node) (q : Task) (work : WorkList Note) (number : ℕ) where
             subst (λ (fs : List (List spec.Part)). IsPlaceIn ns fs (told_literals (search_after ns later)) P.point place) (sym then_forms)
             (subst (λ (ls : List Literal). IsPlaceIn ns P.forms ls P.point place) (sym then_told)
             (subst (IsPlaceIn ns P.forms [] P.point) (λ i. record { wide = place.wide; site = sym stops.0 i })
-            (joining_place ns old.simplex f sound law numbers stands.at.over units place.wide (stops.4 ns stands.at.over units) stops.1 stops.2 stops.3)));
+            (joining_place law ns old.simplex f place.wide sound stands.at.over units (stops.4 ns stands.at.over units) stops.1 stops.2 stops.3)));
       }
 
       -- where a form joins, or doesn't

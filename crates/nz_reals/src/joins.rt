@@ -20,9 +20,8 @@ use crate::refute::stopped;
 use nz_base::{Memory, Work};
 use nz_lin::Bound;
 use nz_log::{Atom, AtomId, Log, Note, Site, Stop};
-use nz_spec::basis::joins_keep_basis;
+use nz_simplex::laws::joins_stop_at_rows;
 use nz_spec::derivation::tells_literals;
-use nz_spec::form::term_has_its_number;
 use nz_spec::table::one_number;
 use nz_spec::work::legal_work_goes_on;
 use nz_tab::TabStop;
@@ -73,11 +72,10 @@ impl Reals {
         ensures unspent { IfErr result (λ e. e ≡ stop.Spent → ⊥) }
         ensures ends { (ns : List Node) (q : Task) → AreUnits ns sum.sides.parts → IsNamedSum ns sum.sides.parts number work.old → Stands (IsAt self.old ns) ns q work.old → Ends (IsAt self.new ns) ns q work.new result }
     {
-        joins_keep_basis();
+        joins_stop_at_rows();
         tells_literals();
         one_number();
         legal_work_goes_on();
-        term_has_its_number();
         stored(self);
         if let Some(var) = self.find(&sum)? {
             return Ok(var);
