@@ -115,11 +115,7 @@ impl Reals {
         self.forms.reserve(1)?;
         let var = match self.simplex.add_form(sum.form()) {
             Ok(var) => var,
-            Err(TabStop::Wide(wide)) => {
-                wide.a.num();
-                wide.b.num();
-                return Err(stopped(wide, Site::Joining));
-            }
+            Err(TabStop::Wide(wide)) => return Err(stopped(wide, Site::Joining)),
             Err(TabStop::Memory) => return Err(Stop::Memory),
         };
         self.forms.insert(Atom::AtMost(sum), var).unwrap();

@@ -127,14 +127,7 @@ impl Reals {
         };
         match choose_delta(&[in_order(side, bound, value)]) {
             Ok(limit) => Ok(lesser(limit, least)),
-            Err(wide) => {
-                wide.a.num();
-                wide.b.num();
-                Err(Place {
-                    wide,
-                    site: Site::Limit { form: var, side },
-                })
-            }
+            Err(wide) => Err(Place::new(wide, Site::Limit { form: var, side })),
         }
     }
 
@@ -151,14 +144,7 @@ impl Reals {
                 number.num();
                 Ok(number)
             }
-            Err(wide) => {
-                wide.a.num();
-                wide.b.num();
-                Err(Place {
-                    wide,
-                    site: Site::Model { form: var },
-                })
-            }
+            Err(wide) => Err(Place::new(wide, Site::Model { form: var })),
         }
     }
 

@@ -1,5 +1,6 @@
 //! Clauses that say why literals aren't true together.
 ghost use Rattle.std.specs.Prelude.{◌≡◌, ℕ, List, All, IfErr, IfOk};
+ghost use Rattle.nz_fractions.specs.Fraction.{IsNumber};
 ghost use Rattle.nz_spec.specs.Table.{Node};
 ghost use Rattle.nz_log.specs.declared.lits.Lit.{Lit};
 ghost use Rattle.nz_log.specs.declared.stop.Stop.TheVariants as stop;
@@ -51,8 +52,6 @@ pub(crate) fn refute(
     match log.farkas(multiples) {
         Ok(clause) => Ok(clause),
         Err(LinStop::Wide(wide)) => {
-            wide.a.num();
-            wide.b.num();
             let bounds = bounds_of(theory.alloc, log, multiples)?;
             Err(stopped(wide, Site::Sum(bounds)))
         }
@@ -80,8 +79,10 @@ pub(crate) fn both_once(literal: Lit, other: Lit) -> [Multiple; 2]
 /// A stop at a place.
 pub(crate) fn stopped(wide: Wide, site: Site) -> Stop
     ensures stop { result ≡ stop.Wide (record { wide = wide; site = site }) }
+    ensures left { IsNumber wide.a }
+    ensures right { IsNumber wide.b }
 {
-    Stop::Wide(Place { wide, site })
+    Stop::Wide(Place::new(wide, site))
 }
 
 /// The bounds of these literals, with their multipliers.

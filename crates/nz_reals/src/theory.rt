@@ -33,10 +33,7 @@ fn stopped_at(place: simplex::Place) -> Stop
     ensures left { IsNumber place.wide.a }
     ensures right { IsNumber place.wide.b }
 {
-    let wide = place.wide;
-    wide.a.num();
-    wide.b.num();
-    stopped(wide, site_of(place.site))
+    stopped(place.wide, site_of(place.site))
 }
 
 /// The place of a computation of the simplex.

@@ -47,4 +47,4 @@ returns-in_ok-bounds-in-Err-Wide-clause-place c = λ ns over.
     subst (λ (list : List Atom). AreMultiplesIn ns list ms → AreBoundsOf ns list ms c.in_ok-bounds-in-Err-Wide.bounds.items) c.farkas.ensures.atoms (c.in_ok-bounds-in-Err-Wide.ensures.bounds ns) among in
     sum_stops ns t atoms c.requires.of.0 ms c.in-Err-Wide.wide c.in_ok-bounds-in-Err-Wide.bounds c.stopped.result c.requires.of.1 c.requires.known over
     (contradict_in c.args.theory.now c.args.log.now.atoms c.requires.of.0 c.args.multiples.now c.stored.ensures.forms c.requires.of.1 c.requires.known c.requires.refutes
-    c.contradictions_stay.ensures.stay c.sums_stay.ensures.stay c.term_has_its_number.ensures.number c.tells_literals.ensures.tells ns over.table among) c.num.ensures.number c.num-in-Err-Wide.ensures.number (subst (IsStopAt (first_wide_in_step ns (farkas_step (multiples_in ns atoms ms)))) c.in-Err-Wide.field-0-is (c.in-Err-Wide.ensures.stop ns over.table among)) bounds c.stopped.ensures.stop
+    c.contradictions_stay.ensures.stay c.sums_stay.ensures.stay c.term_has_its_number.ensures.number c.tells_literals.ensures.tells ns over.table among) c.stopped.ensures.left c.stopped.ensures.right (subst (IsStopAt (first_wide_in_step ns (farkas_step (multiples_in ns atoms ms)))) c.in-Err-Wide.field-0-is (c.in-Err-Wide.ensures.stop ns over.table among)) bounds c.stopped.ensures.stop

@@ -33,5 +33,5 @@ returns-in-Err-clause-place c =
       is = one_pair c.args.self.now c.args.var c.args.side c.in-Some.bound c.value-value.result c.in_order.result c.in-Some.ensures.bound c.value-value.ensures.value c.in_order.ensures.pair;
       numbers = (c.value-value.ensures.standard, c.value-value.ensures.coefficient);
       of = found.0;
-      leaves = record { left = c.num.ensures.number; right = c.num-in-Err.ensures.number; wide = found.1 };
+      leaves = record { left = c.new.ensures.left; right = c.new.ensures.right; wide = found.1 };
     }
