@@ -2,6 +2,7 @@
 use Rattle.std.proofs.Common.{◌≡◌, ◌==◌, ℕ, Bool, true, false, List, [], ◌∷◌, ◌++◌, Option, Some, None, refl, sym, ap, ◌∙◌, subst, if◌then◌else◌}
 use Rattle.std.specs.Prelude.{IsSome, IsTrue, slice_get, slice_index_or}
 use Rattle.std.proofs.lemmas.List.Elements.{All-push, All-weaker}
+use Rattle.nz_lists.proofs.Members.{at_of}
 use Rattle.nz_lists.proofs.Numbers.{equal-number, same-number}
 use Rattle.nz_spec.specs.Farkas.{bound_of, is_linear_literal}
 use Rattle.nz_spec.specs.Legal.{literal_by}
@@ -23,7 +24,6 @@ use Rattle.nz_reals.specs.Stands.{IsKnown, IsKnownAtom, IsOf}
 use Rattle.nz_reals.specs.State.{Theory, known_at}
 use Rattle.nz_reals.specs.Sums.{AreNonzero, IsFormSum, turned_sum, zero_bound}
 use Rattle.nz_simplex.specs.State.{State}
-use Rattle.nz_reals.proofs.Elements.{at_of}
 use Rattle.nz_reals.proofs.Refuting.{own_units}
 use Rattle.nz_reals.proofs.Saying.{bound_in_log}
 use Rattle.nz_reals.proofs.Sums.{turned_form, turned_over, turned_units}

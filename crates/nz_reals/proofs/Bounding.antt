@@ -5,8 +5,10 @@ use Rattle.std.specs.Prelude.{option_map, slice_get, slice_index_or, if◌then�
 use Rattle.std.specs.List.{AllByRecursion}
 use Rattle.std.proofs.lemmas.List.{length-map}
 use Rattle.std.proofs.lemmas.Option.{get_or_from_slice_get, slice_get-get_or, slice_get_within}
+use Rattle.nz_lists.proofs.Members.{at_of}
 use Rattle.nz_lists.proofs.Places.{slice_index_or-map}
 use Rattle.nz_fractions.specs.Fraction.{Fraction, fraction_lt, neg_ℚ, whole}
+use Rattle.nz_fractions.proofs.Identities.{neg-back}
 use Rattle.nz_spec.specs.Bland.{at_least_bound, at_most_bound, Side, lower_side, upper_side}
 use Rattle.nz_spec.specs.Form as spec
 use Rattle.nz_spec.specs.Form.{negated_part}
@@ -25,9 +27,8 @@ use Rattle.nz_reals.specs.Stands.{IsKnown, IsOver}
 use Rattle.nz_reals.specs.State.{Theory, known_at, literal_over}
 use Rattle.nz_reals.specs.Stored.{AreForms}
 use Rattle.nz_reals.specs.Sums.{IsFormSum, is_turned, turned_sum}
-use Rattle.nz_reals.proofs.Elements.{at_of}
 use Rattle.nz_reals.proofs.Saying.{literal_of_known}
-use Rattle.nz_reals.proofs.Sums.{neg_below, number_back, one_sum, over_negated, parts_back, sums_same, sums_told}
+use Rattle.nz_reals.proofs.Sums.{neg_below, one_sum, over_negated, parts_back, sums_same, sums_told}
 
 -- ---- The first that is found
 
@@ -174,7 +175,7 @@ module _ (ns : List Node) (one : HasOneNumberEach ns) (tells : TellsLiterals) wh
           by_test true same = of_upper (map negated_part (parts_over ns (p ∷ rest))) true (neg_ℚ b) (sym (ap (parts_over ns) same ∙ over_negated ns (p ∷ rest)))
           by_test false same =
               of_lower (map negated_part (parts_over ns (p ∷ rest))) true (neg_ℚ b) (ap (map negated_part) (sym (ap (parts_over ns) same))) (differs p rest refl)
-              ∙ ap (λ (q : Fraction). as_said (said_on trail.Lower (at_least_bound true q))) (number_back b)
+              ∙ ap (λ (q : Fraction). as_said (said_on trail.Lower (at_least_bound true q))) (neg-back b)
 
   -- a sum with units isn't its own negative
   pub differs_from : (f : List Part) → IsFormSum f → (f ≡ [] → ⊥) → parts_over ns f ≡ map negated_part (parts_over ns f) → ⊥

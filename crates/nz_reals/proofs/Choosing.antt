@@ -1,16 +1,17 @@
 -- The values of forms that are constants alone, one after another.
-use Rattle.std.proofs.Common.{◌≡◌, ℕ, ◌+◌, ◌<◌, inl, inr, true, false, List, [], ◌∷◌, ◌++◌, map, length, Option, Some, None, refl, sym, ap, ◌∙◌, subst, true≢false, arith, append_assoc}
+use Rattle.std.proofs.Common.{◌≡◌, ℕ, ◌+◌, ◌<◌, inl, inr, true, List, [], ◌∷◌, ◌++◌, map, length, Option, Some, None, refl, sym, ap, ◌∙◌, subst, true≢false, arith, append_assoc}
 use Rattle.std.specs.Prelude.{◌==◌, Contains, option_map, slice_get}
-use Rattle.std.specs.Cmp.{first_so, second_so}
+use Rattle.std.specs.Cmp.{first_so}
 use Rattle.std.proofs.lemmas.List.{length-map, map-append}
 use Rattle.std.proofs.lemmas.List.Elements.{Contains-append_left, Contains-push, Contains-push_cases}
 use Rattle.std.proofs.lemmas.Option.{slice_get-get_or}
+use Rattle.nz_lists.proofs.Members.{at_of, map_from}
 use Rattle.nz_lists.proofs.Numbers.{same-number}
 use Rattle.nz_fractions.specs.Fraction.{Fraction}
 use Rattle.nz_spec.specs.Infinitesimal.{IsLeastLimit, at}
 use Rattle.nz_spec.specs.Bland.{PositionsHaveValues}
 use Rattle.nz_spec.specs.Literal.{StandOnce}
-use Rattle.nz_spec.specs.Table.{Node, OneNumber}
+use Rattle.nz_spec.specs.Table.{Node}
 use Rattle.nz_spec.specs.Term as spec
 use Rattle.nz_spec.specs.Term.{real_sort}
 use Rattle.nz_spec.specs.ToldBounds.{AreNumbers}
@@ -20,35 +21,27 @@ use Rattle.nz_term.specs.Constants.{constant_of, sort_of}
 use Rattle.nz_term.specs.Heads.{head_of}
 use Rattle.nz_lin.specs.declared.form.Part.{Part}
 use Rattle.nz_lin.specs.Forms.{AreUnits, parts_over}
-use Rattle.nz_tab.specs.Units.{is_form_of, is_one, is_unit_form}
+use Rattle.nz_tab.specs.Laws.{UnitsAreForms}
+use Rattle.nz_tab.specs.Units.{is_form_of, is_one}
 use Rattle.nz_simplex.specs.State.{IsOver, IsSound, position_over}
 use Rattle.nz_reals.specs.Chosen.{AddsValues, IsAlone, IsRealConstant, Puts, PutsFirst, PutsNone, PutsValue}
 use Rattle.nz_reals.specs.Limits.{HasValues, pairs_below, value_of}
 use Rattle.nz_reals.specs.State.{Theory, sum_at}
 use Rattle.nz_reals.specs.Stored.{AreForms}
-use Rattle.nz_reals.proofs.Elements.{at_of, map_from, push_new}
-use Rattle.nz_reals.proofs.Joining.{alone_is}
+use Rattle.nz_reals.proofs.Elements.{push_new}
 use Rattle.nz_reals.proofs.Limiting.{chosen, known_values, below_or_last}
 
 -- ---- One form for a unit
 
--- the form of a unit has one part, which is its unit
-unit_part : (f : List Part) (u : ℕ) → is_form_of u f ≡ true → (p : Part) × (f ≡ p ∷ []) × (p.unit ≡ u) × (is_unit_form f ≡ true)
-unit_part [] u e = absurd (true≢false (sym e))
-unit_part (p ∷ []) u e = (p, refl, same-number p.unit u (first_so (p.unit == u) (is_one p.coefficient) e), second_so (p.unit == u) (is_one p.coefficient) e)
-unit_part (p ∷ q ∷ qs) u e = absurd (true≢false (sym e))
-
-module _ (t : Theory) (ns : List Node) (over : IsOver ns t.simplex) (forms : AreForms t.simplex) (one : OneNumber) where
+module _ (t : Theory) (ns : List Node) (over : IsOver ns t.simplex) (forms : AreForms t.simplex) (units : UnitsAreForms) where
   form_found : (k : ℕ) → k < length t.simplex.forms → slice_get t.simplex.forms k ≡ Some (sum_at t k)
   form_found k less = slice_get-get_or t.simplex.forms k [] less
 
-  one_form : (j k u : ℕ) → j < length t.simplex.forms → k < length t.simplex.forms → is_form_of u (sum_at t j) ≡ true → is_form_of u (sum_at t k) ≡ true → j ≡ k
+  pub one_form : (j k u : ℕ) → j < length t.simplex.forms → k < length t.simplex.forms → is_form_of u (sum_at t j) ≡ true → is_form_of u (sum_at t k) ≡ true → j ≡ k
   one_form j k u h i e f =
-      let p = unit_part (sum_at t j) u e in
-      let same : sum_at t k ≡ sum_at t j =
-      alone_is ns (one ns over.table) (sum_at t j) (sum_at t k) p.0 p.1 p.3 (subst (λ (m : ℕ). is_form_of m (sum_at t k) ≡ true) (sym p.2) f)
-      (at_of (AreUnits ns) t.simplex.forms over.units j (sum_at t j) (form_found j h))
-      (at_of (AreUnits ns) t.simplex.forms over.units k (sum_at t k) (form_found k i)) in
+      let first = at_of (AreUnits ns) t.simplex.forms over.units j (sum_at t j) (form_found j h) in
+      let second = at_of (AreUnits ns) t.simplex.forms over.units k (sum_at t k) (form_found k i) in
+      let same : sum_at t k ≡ sum_at t j = units.one ns u (sum_at t k) (sum_at t j) second first f e in
       forms.once j k (sum_at t j) (form_found j h) (form_found k i ∙ ap Some same)
 
   -- ---- One form after another

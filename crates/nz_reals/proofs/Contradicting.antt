@@ -2,6 +2,7 @@
 use Rattle.std.proofs.Common.{◌≡◌, ℕ, Bool, true, false, List, [], ◌∷◌, map, Option, Some, None, refl, sym, ap, ◌∙◌, subst, true≢false}
 use Rattle.std.specs.Prelude.{IsSome, slice_get, if◌then◌else◌}
 use Rattle.std.specs.List.{AllByRecursion}
+use Rattle.nz_lists.proofs.Members.{at_of}
 use Rattle.nz_fractions.specs.Fraction.{Fraction, neg_ℚ}
 use Rattle.nz_spec.specs.Farkas as farkas
 use Rattle.nz_spec.specs.Farkas.{bound_of}
@@ -28,7 +29,6 @@ use Rattle.nz_reals.specs.State.{Theory, known_at, literal_over}
 use Rattle.nz_reals.specs.Stored.{AreForms}
 use Rattle.nz_reals.specs.Sums.{is_turned, turned_sum}
 use Rattle.nz_reals.specs.Tells.{AreKnown, Refutes, multiples_over}
-use Rattle.nz_reals.proofs.Elements.{at_of}
 use Rattle.nz_reals.proofs.Saying.{bound_in_log, literal_of_known, signed_sum}
 
 -- something is known

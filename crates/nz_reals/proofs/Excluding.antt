@@ -2,6 +2,7 @@
 use Rattle.std.proofs.Common.{◌≡◌, ℕ, List, [], ◌∷◌, ◌++◌, map, Option, Some, None, refl, sym, ap, ◌∙◌, subst, arith, true}
 use Rattle.std.specs.Prelude.{All, Contains, IsSome, slice_index_or}
 use Rattle.std.proofs.lemmas.List.Elements.{All-contains, All-from_recursion, All-push, All-weaker}
+use Rattle.nz_lists.proofs.Members.{map_has}
 use Rattle.nz_spec.specs.Literal.{StandOnce}
 use Rattle.nz_spec.specs.Table.{Node}
 use Rattle.nz_log.specs.declared.atoms.Atom.{Atom}
@@ -15,7 +16,6 @@ use Rattle.nz_log.specs.Sound.{IsLog}
 use Rattle.nz_log.specs.Theories.{Grows, IsClash}
 use Rattle.nz_reals.specs.Exclusions.{AddsOn, AreAtomsOver, IsExclusion, Keeps}
 use Rattle.nz_reals.specs.Tells.{both, literals_of}
-use Rattle.nz_reals.proofs.Elements.{map_has}
 use Rattle.nz_reals.proofs.Refuting.{grows_same}
 
 -- ---- What the log keeps

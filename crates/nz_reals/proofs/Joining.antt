@@ -7,6 +7,7 @@ use Rattle.std.specs.Cmp.{first_so, second_so, signed_Decides}
 use Rattle.std.proofs.lemmas.List.Elements.{Contains-append_cases, Contains-push_cases}
 use Rattle.std.proofs.lemmas.Option.{slice_get-get_or, slice_get_within}
 use Rattle.nz_lists.proofs.Elements.{AllByRecursion-append, AllByRecursion-weaker}
+use Rattle.nz_lists.proofs.Members.{at_of, each_of, has_cases, has_first, has_found, has_more, has_none}
 use Rattle.nz_lists.proofs.Places.{slice_get_kept, slice_get-push_cases}
 use Rattle.nz_lists.proofs.Tests.{same_tests}
 use Rattle.nz_lists.proofs.Numbers.{equal-number, same-number}
@@ -33,7 +34,7 @@ use Rattle.nz_reals.specs.Known.{Known}
 use Rattle.nz_reals.specs.State.{Theory, known_at, told_lits}
 use Rattle.nz_reals.specs.Stored.{AreForms, AreTolds, FindsForms, IsBacked, IsMark}
 use Rattle.nz_reals.specs.Sums.{IsFormSum, zero_bound}
-use Rattle.nz_reals.proofs.Elements.{at_of, each_of, has_cases, has_first, has_found, has_more, has_none, push_new}
+use Rattle.nz_reals.proofs.Elements.{push_new}
 use Rattle.nz_reals.proofs.Sums.{one_sum}
 use Rattle.nz_reals.proofs.Tolds.{slice_get_last}
 

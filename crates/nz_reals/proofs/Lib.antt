@@ -19,3 +19,4 @@ pub mod Sums
 pub mod Telling
 pub mod Tolds
 pub mod Whys
+pub mod Worths

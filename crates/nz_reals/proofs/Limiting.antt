@@ -4,6 +4,7 @@ use Rattle.std.specs.Prelude.{Contains, IsSome, option_map, unwrap_or, if◌then
 use Rattle.std.proofs.lemmas.Int.{ints}
 use Rattle.std.proofs.lemmas.List.{length-map}
 use Rattle.std.proofs.lemmas.List.Elements.{All-contains, All-from_recursion, Contains-append_cases, Contains-append_left, Contains-append_right}
+use Rattle.nz_lists.proofs.Members.{by_each, has_cases, has_first, has_more, has_none}
 use Rattle.nz_lists.proofs.Numbers.{same_or_below}
 use Rattle.nz_fractions.specs.Fraction.{Fraction, IsNumber, Operation, Product, Sum, first_wide, fraction_lt, is_wide, outcome, whole, ◌=ℚ◌, ◌≤ℚ◌, ◌<ℚ◌, ◌+ℚ◌, ◌*ℚ◌}
 use Rattle.nz_fractions.proofs.Arithmetic.{+ℚ-same, outcome-product, outcome-sum}
@@ -36,7 +37,6 @@ use Rattle.nz_simplex.specs.State.{IsOver, IsSound, State, position_over, value_
 use Rattle.nz_reals.specs.Limits.{HasValues, IsLimitPlace, IsModelPlace, listed, pair_on, pairs_below, pairs_of, value_of}
 use Rattle.nz_reals.specs.Stands.{IsAt}
 use Rattle.nz_reals.specs.State.{Theory}
-use Rattle.nz_reals.proofs.Elements.{by_each, has_cases, has_first, has_more, has_none}
 use Rattle.nz_reals.proofs.Refuting.{first_is}
 use Rattle.nz_reals.proofs.Standing.{position_is}
 

@@ -4,6 +4,7 @@ use Rattle.std.proofs.lemmas.Bool.{false_from_ne_true}
 use Rattle.std.specs.Prelude.{◌==◌, ◌&&◌, Contains, fold, if◌then◌else◌}
 use Rattle.std.specs.Ordering.{is_lt, ordering_reverse}
 use Rattle.std.specs.Cmp.{first_so, second_so}
+use Rattle.nz_lists.proofs.Members.{has_cases}
 use Rattle.nz_lists.proofs.Numbers.{equal-number, same-number}
 use Rattle.nz_spec.specs.Infinitesimal.{Infinitesimal, infinitesimal_cmp, InfinitesimalsAreOrdered}
 use Rattle.nz_spec.specs.PositionMoves.{is_outside}
@@ -11,7 +12,6 @@ use Rattle.nz_trail.specs.Bounds.{IsImplied, IsOn, IsTighter}
 use Rattle.nz_trail.specs.declared.limits.Side.{Side}
 use Rattle.nz_trail.specs.declared.limits.Side.TheVariants.{Lower, Upper}
 use Rattle.nz_simplex.specs.Standing.{Held, half, is_bound_of, is_news, is_side, standing, standing_with}
-use Rattle.nz_reals.proofs.Elements.{has_cases}
 use Rattle.nz_reals.proofs.Whys.{stands_among}
 
 -- ---- Tighter

@@ -6,6 +6,7 @@ use Rattle.std.proofs.Math.Path.{fun_ext}
 use Rattle.std.proofs.lemmas.List.{length-map}
 use Rattle.std.proofs.lemmas.List.Elements.{All-contains, All-from_recursion, Contains-append_left, Contains-push}
 use Rattle.std.proofs.lemmas.Option.{slice_get-get_or, slice_get_within}
+use Rattle.nz_lists.proofs.Members.{each_of, has_found, map_has}
 use Rattle.nz_fractions.specs.Fraction.{Fraction, IsNumber, whole}
 use Rattle.nz_fractions.proofs.Laws.{=ℚ_refl}
 use Rattle.nz_spec.specs.Basis.{IsRow}
@@ -51,7 +52,6 @@ use Rattle.nz_reals.specs.Stands.{IsAt, IsOf, IsOver}
 use Rattle.nz_reals.specs.State.{Theory, known_at, lit_at, literal_over, told_lits}
 use Rattle.nz_reals.specs.Stored.{AreTolds, IsBacked}
 use Rattle.nz_reals.specs.Tells.{AreKnown, AreOf, IsMoved, IsSumPlace, both, literals_of, multiple_at, multiples_over, site_at}
-use Rattle.nz_reals.proofs.Elements.{each_of, has_found, map_has}
 use Rattle.nz_reals.proofs.Refuting.{first_is}
 use Rattle.nz_reals.proofs.Saying.{literal_is}
 use Rattle.nz_reals.proofs.Standing.{moved_at, position_is}

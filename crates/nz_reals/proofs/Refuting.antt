@@ -6,6 +6,7 @@ use Rattle.std.specs.declared.vec.Vec.{Vec}
 use Rattle.std.proofs.lemmas.List.Elements.{All-contains, Contains-get_or}
 use Rattle.std.proofs.lemmas.List.{map-append, take_more}
 use Rattle.nz_lists.proofs.Elements.{AllByRecursion-append}
+use Rattle.nz_lists.proofs.Members.{at_of, each_of, has_first, has_more, map_from, map_has}
 use Rattle.nz_fractions.specs.Fraction.{IsNumber, Operation, first_wide, is_wide}
 use Rattle.nz_spec.specs.Farkas as farkas
 use Rattle.nz_spec.specs.Farkas.{is_contradiction, is_multiple, negations_of, sum_of_multiples}
@@ -44,7 +45,7 @@ use Rattle.nz_reals.specs.State.{Theory, known_at}
 use Rattle.nz_reals.specs.Sums.{is_turned, turned_sum}
 use Rattle.nz_reals.specs.Tells.{AreBoundsOf, AreKnown, AreOf, IsSumPlace, literals_of, multiples_over}
 use Rattle.nz_reals.proofs.Contradicting.{some_known, turned_names}
-use Rattle.nz_reals.proofs.Elements.{at_of, each_of, has_first, has_more, map_from, map_has, once_from, once_once}
+use Rattle.nz_reals.proofs.Elements.{once_from, once_once}
 use Rattle.nz_reals.proofs.Saying.{literal_is}
 
 -- ---- Units of bounds

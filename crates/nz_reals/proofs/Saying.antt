@@ -7,6 +7,7 @@ use Rattle.std.proofs.lemmas.Int.{ints}
 use Rattle.nz_fractions.specs.Fraction.{Fraction, whole, neg_ℚ, ◌=ℚ◌, ◌*ℚ◌, ◌<ℚ◌, denominator}
 use Rattle.nz_fractions.proofs.Laws.{=ℚ_sym, =ℚ_trans, =ℚ-from_same}
 use Rattle.nz_fractions.proofs.Arithmetic.{*ℚ_comm, *ℚ-one, neg_ℚ-same}
+use Rattle.nz_fractions.proofs.Identities.{neg-back}
 use Rattle.nz_spec.specs.Basis.{worth}
 use Rattle.nz_spec.specs.Bland.{at_least_bound, at_most_bound}
 use Rattle.nz_spec.specs.Farkas as farkas
@@ -32,7 +33,7 @@ use Rattle.nz_reals.specs.Known.{IsSaidOf, Known, Said, literal_by, literal_on, 
 use Rattle.nz_reals.specs.Stands.{IsKnown, IsOf}
 use Rattle.nz_reals.specs.State.{Theory, known_at, literal_over, sum_at}
 use Rattle.nz_reals.specs.Sums.{AreNonzero, is_turned, turned_sum}
-use Rattle.nz_reals.proofs.Sums.{number_back, over_negated, parts_back}
+use Rattle.nz_reals.proofs.Sums.{over_negated, parts_back}
 
 -- ---- The literal of what is known
 
@@ -48,7 +49,7 @@ literal_back ns ps b k sign says = ap (with_sign sign) (ap (λ (s : Said). liter
     by_test true =
         ap (λ (qs : List spec.Part). is_at_most (map negated_part qs) (neg_ℚ (neg_ℚ b))) (over_negated ns ps)
         ∙ ap (λ (qs : List spec.Part). is_at_most qs (neg_ℚ (neg_ℚ b))) (parts_back (parts_over ns ps))
-        ∙ ap (is_at_most (parts_over ns ps)) (number_back b)
+        ∙ ap (is_at_most (parts_over ns ps)) (neg-back b)
     by_test false = refl
 
 -- the literal of a bound in a log
@@ -141,8 +142,8 @@ module _ (say : LiteralsSayBounds) (sums : SumsStay) (number : Numbering) where
       × SaysBound number (map negated_part qs) Upper (at_most_bound true (neg_ℚ b)) (whole (pos 1)) (negation_of (is_at_most qs b))
   turned_says qs b sum =
       say.lower number (map negated_part qs) qs (whole (pos 1)) (neg_ℚ b) b sum one_above
-      (λ v. =ℚ_trans (=ℚ_trans (=ℚ-from_same (sym (number_back (worth v qs)))) (neg_ℚ-same (=ℚ_sym (sums.negated_worth v qs)))) (one_time (neg_ℚ (worth v (map negated_part qs)))))
-      (=ℚ_trans (=ℚ-from_same (sym (number_back b))) (one_time (neg_ℚ (neg_ℚ b))))
+      (λ v. =ℚ_trans (=ℚ_trans (=ℚ-from_same (sym (neg-back (worth v qs)))) (neg_ℚ-same (=ℚ_sym (sums.negated_worth v qs)))) (one_time (neg_ℚ (worth v (map negated_part qs)))))
+      (=ℚ_trans (=ℚ-from_same (sym (neg-back b))) (one_time (neg_ℚ (neg_ℚ b))))
 
   Says : List spec.Part → Said → Literal → Type 0
   Says f s l = SaysBound number f s.side s.value (whole (pos 1)) l

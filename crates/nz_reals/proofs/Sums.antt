@@ -5,7 +5,7 @@ use Rattle.std.specs.Prelude.{ℤ, pos, negsuc, neg_ℤ, int_lt, ◌&&◌, if◌
 use Rattle.std.specs.List.{AllByRecursion}
 use Rattle.std.proofs.lemmas.Int.{ints}
 use Rattle.nz_fractions.specs.Fraction.{Fraction, neg_ℚ, whole, denominator, fraction_lt, fraction_eq}
-use Rattle.nz_fractions.proofs.Identities.{neg-nonzero, nonzero-test}
+use Rattle.nz_fractions.proofs.Identities.{neg-back, neg-nonzero, nonzero-test}
 use Rattle.nz_spec.specs.Form as spec
 use Rattle.nz_spec.specs.Form.{negated_part}
 use Rattle.nz_spec.specs.LiteralBounds.{turned}
@@ -26,18 +26,9 @@ use Rattle.nz_reals.specs.Sums.{AreNonzero, IsFormSum, is_turned, turned_sum, ze
 
 -- ---- Twice the other signs
 
-neg_neg : (n : ℤ) → neg_ℤ (neg_ℤ n) ≡ n
-neg_neg (pos zero) = refl
-neg_neg (pos (suc n)) = refl
-neg_neg (negsuc n) = refl
-
-pub number_back : (q : Fraction) → neg_ℚ (neg_ℚ q) ≡ q
-unfolding neg_ℚ
-number_back q = λ i. record { numerator = neg_neg q.numerator i; below = q.below }
-
 pub parts_back : (ps : List spec.Part) → map negated_part (map negated_part ps) ≡ ps
 parts_back [] = refl
-parts_back (p ∷ ps) = λ i. record { coefficient = number_back p.coefficient i; unit = p.unit } ∷ parts_back ps i
+parts_back (p ∷ ps) = λ i. record { coefficient = neg-back p.coefficient i; unit = p.unit } ∷ parts_back ps i
 
 pub over_negated : (ns : List Node) (ps : List Part) → parts_over ns (map negated ps) ≡ map negated_part (parts_over ns ps)
 over_negated ns [] = refl

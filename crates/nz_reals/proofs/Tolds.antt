@@ -6,6 +6,7 @@ use Rattle.std.proofs.lemmas.List.{length-take-le}
 use Rattle.std.proofs.lemmas.List.Elements.{Contains-append_right}
 use Rattle.std.proofs.lemmas.Option.{slice_get_within, slice_get-get_or}
 use Rattle.nz_lists.proofs.Elements.{AllByRecursion-append, AllByRecursion-weaker}
+use Rattle.nz_lists.proofs.Members.{at_of, each_of, has_first, has_found, map_has}
 use Rattle.nz_lists.proofs.Places.{slice_get_kept, slice_get-push_cases}
 use Rattle.nz_log.specs.declared.lits.Lit.{Lit}
 use Rattle.nz_spec.specs.Bland.{zero_infinitesimal}
@@ -25,7 +26,6 @@ use Rattle.nz_reals.specs.State.{Theory, empty_theory, known_at, told_lits}
 use Rattle.nz_reals.specs.Stored.{AreForms, AreTolds, FindsForms, IsBacked, IsMark, IsStored}
 use Rattle.nz_reals.specs.Sums.{IsFormSum}
 use Rattle.nz_reals.specs.Tells.{AreKnown, Clashes, IsTold, both, held_by, told_now}
-use Rattle.nz_reals.proofs.Elements.{at_of, each_of, has_first, has_found, map_has}
 
 -- ---- Places of lists
 

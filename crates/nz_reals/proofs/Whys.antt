@@ -4,6 +4,7 @@ use Rattle.std.specs.Cmp.{first_so}
 use Rattle.std.specs.Prelude.{Contains, flat_map, fold, option_map, unwrap_or, ◌&&◌, if◌then◌else◌}
 use Rattle.std.specs.List.{AllByRecursion}
 use Rattle.nz_lists.proofs.Elements.{AllByRecursion-append}
+use Rattle.nz_lists.proofs.Members.{has_first, has_more}
 use Rattle.nz_fractions.specs.Fraction.{Fraction, whole, neg_ℚ}
 use Rattle.nz_fractions.proofs.Laws.{=ℚ_refl}
 use Rattle.nz_fractions.proofs.Signs.{above_told, below_told}
@@ -21,7 +22,6 @@ use Rattle.nz_simplex.specs.Checks.{IsRefuted, holding_side, multiplier}
 use Rattle.nz_simplex.specs.Choices.{is_below_zero, size_of}
 use Rattle.nz_simplex.specs.Standing.{Held, bound_in, half, is_bound_of, is_news, reason_in, standing, standing_with}
 use Rattle.nz_simplex.specs.State.{State, nonbasic_in, position_over}
-use Rattle.nz_reals.proofs.Elements.{has_first, has_more}
 
 -- ---- What stands is one of the bounds
 

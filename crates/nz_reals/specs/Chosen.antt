@@ -1,18 +1,29 @@
 -- Values of units, where the simplex is feasible.
-use Rattle.std.specs.Prelude.{◌≡◌, ℕ, ◌<◌, ◌⊎◌, List, [], ◌∷◌, ◌++◌, length, map, Contains, Some, slice_get, true}
+use Rattle.std.specs.Prelude.{◌≡◌, ℕ, ◌<◌, ◌⊎◌, Bool, List, [], ◌∷◌, ◌++◌, length, map, Contains, Option, Some, slice_get, true, unwrap_or}
+use Rattle.std.specs.List.{AllByRecursion}
 use Rattle.nz_fractions.specs.Fraction.{Fraction, ◌=ℚ◌, IsNumber}
+use Rattle.nz_spec.specs.Basis.{Valuation}
+use Rattle.nz_spec.specs.Bland.{Point, Position, HasValue}
+use Rattle.nz_spec.specs.Decide.{IsValueOf}
+use Rattle.nz_spec.specs.Deciding.{IsMet}
+use Rattle.nz_spec.specs.Form as form
 use Rattle.nz_spec.specs.Infinitesimal.{Infinitesimal, at}
-use Rattle.nz_spec.specs.Bland.{Position, HasValue}
-use Rattle.nz_spec.specs.Literal.{StandOnce}
+use Rattle.nz_spec.specs.Literal.{Literal, StandOnce}
 use Rattle.nz_spec.specs.Places.{IsChosen}
-use Rattle.nz_spec.specs.Table.{Node}
+use Rattle.nz_spec.specs.Table.{Node, listed_value, term_in}
 use Rattle.nz_spec.specs.Term as spec
-use Rattle.nz_spec.specs.Term.{Constant, constant, real_sort}
+use Rattle.nz_spec.specs.Term.{Constant, constant, default_value, number_of, real_sort}
 use Rattle.nz_spec.specs.ToldBounds.{AreNumbers}
+use Rattle.nz_lin.specs.declared.bound.Bound.{Bound}
 use Rattle.nz_lin.specs.declared.form.Part.{Part}
 use Rattle.nz_tab.specs.Units.{is_form_of}
+use Rattle.nz_log.specs.declared.atoms.Atom.{Atom}
+use Rattle.nz_log.specs.declared.atoms.Atom.TheVariants.{AtMost}
+use Rattle.nz_log.specs.declared.lits.Lit.{Lit}
+use Rattle.nz_log.specs.Atoms.{literal_in}
 use Rattle.nz_reals.specs.Limits.{value_of}
-use Rattle.nz_reals.specs.State.{Theory, sum_at}
+use Rattle.nz_reals.specs.Stands.{IsAt, IsOf}
+use Rattle.nz_reals.specs.State.{Theory, sum_at, told_lits}
 
 -- the form is this unit alone, which is a constant of the table, of sort Real
 pub record IsConstant (t : Theory) (ns : List Node) (u k : ℕ) : Type 0 where
@@ -40,6 +51,18 @@ pub record AddsValues (t : Theory) (ns : List Node) (p : Position) (old new : Li
   pub fraction : Fraction
   pub chosen : IsChosen p fraction
   pub right : AreValues t ns values fraction added
+
+-- Behind the old values stand values of constants, and the units are worth something: under it each bound that was told is met, and a constant of sort Real is
+-- worth what it is given, or else the default.
+pub record HasWorths (t : Theory) (ns : List Node) (old new : List (ℕ × spec.Value)) : Type 0 where
+  pub added : List (ℕ × spec.Value)
+  pub joined : new ≡ old ++ added
+  pub values : AllByRecursion (IsValueOf ns) added
+  pub worths : Valuation
+  pub met : (truths : spec.Term → Option Bool) (atoms : List Atom) (ids : List ℕ) (fs : List (List form.Part)) (ls : List Literal) (x : Point) → IsOf t atoms ids → IsAt t ns fs ls x
+      → (l : Lit) → Contains (told_lits t) l → Contains ids l.atom → (b : Bound) → slice_get atoms l.atom ≡ Some (AtMost b) → IsMet truths worths (literal_in ns atoms l)
+  pub constants : (i : ℕ) (node : Node) (c : Constant) → slice_get ns i ≡ Some node → node.head ≡ constant c → c.sort ≡ real_sort
+      → number_of (unwrap_or (listed_value added i) (default_value c.sort)) =ℚ worths (term_in ns i)
 
 -- ---- One form after another
 

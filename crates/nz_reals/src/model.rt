@@ -17,7 +17,7 @@ ghost use Rattle.nz_log.specs.Places.{IsPlaceIn, OnWide};
 ghost use Rattle.nz_simplex.specs.Standing.{bound_in, half};
 ghost use Rattle.nz_simplex.specs.State.{position_over};
 ghost use Rattle.nz_tab.specs.Units.{is_one};
-ghost use Rattle.nz_reals.specs.Chosen.{AddsValues, IsAlone, IsRealConstant, Puts};
+ghost use Rattle.nz_reals.specs.Chosen.{AddsValues, HasWorths, IsAlone, IsRealConstant, Puts};
 ghost use Rattle.nz_reals.specs.Limits.{HasValues, IsLimitPlace, IsModelPlace, IsOfValueAt, listed, pair_on, pairs_below, pairs_of, value_of};
 ghost use Rattle.nz_reals.specs.Stands.{IsAt, IsFeasible, IsOver};
 
@@ -27,14 +27,18 @@ use nz_frac::{Frac, Wide};
 use nz_lin::Part;
 use nz_log::{Place, Site, Stop};
 use nz_spec::basis::positions_have_values;
+use nz_spec::deciding::{chosen_fractions_keep_bounds, told_bounds_are_met};
+use nz_spec::derivation::tells_literals;
+use nz_spec::form::term_has_its_number;
 use nz_spec::infinitesimal::infinitesimals_are_ordered;
 use nz_spec::table::one_number;
+use nz_tab::laws::units_are_forms;
 use nz_term::{Assign, Head, Sort, TermId, Terms, Value};
 use nz_trail::{Limit, Side, Var};
 
 impl Reals {
     /// Puts a value for each constant of sort `Real` among the units behind those of an assignment: the value at the point, where a fraction stands for the
-    /// infinitesimal that keeps all values within their bounds.
+    /// infinitesimal that keeps all values within their bounds. Under these values each bound that was told holds.
     ///
     /// # Errors
     ///
@@ -43,12 +47,18 @@ impl Reals {
         requires over { IsOver self.now terms.now }
         requires feasible { IsFeasible self.now }
         ensures values { OnOk result (AddsValues self.now terms.now (position_over terms.now self.now.simplex) values.old values.new) }
+        ensures worths { OnOk result (HasWorths self.now terms.now values.old values.new) }
         ensures place { IfErr result (λ e. OnWide e (λ p. (fs : List (List spec.Part)) (ls : List Literal) (x : Point) → IsAt self.now terms.now fs ls x → IsPlaceIn terms.now fs ls x p)) }
         ensures unspent { IfErr result (λ e. e ≡ stop.Spent → ⊥) }
     {
         positions_have_values();
         infinitesimals_are_ordered();
         one_number();
+        term_has_its_number();
+        tells_literals();
+        told_bounds_are_met();
+        chosen_fractions_keep_bounds();
+        units_are_forms();
         stored(self);
         let delta = match self.delta() {
             Ok(delta) => delta,

@@ -10,6 +10,7 @@ use Rattle.nz_reals.specs.Stands.{IsAt}
 use Rattle.nz_reals.specs.State.{Theory}
 use Rattle.nz_reals.proofs.Choosing.{adds_values, puts_more}
 use Rattle.nz_reals.proofs.Limiting.{has_values, limit_stands, model_stands}
+use Rattle.nz_reals.proofs.Worths.{has_worths}
 use Rattle.nz_reals.proofs.reals.Reals.add_values.Goals as goal
 
 pub delta-requires : goal.delta-requires
@@ -42,7 +43,7 @@ loop-var-preserved c =
     let inside : c.loop-var.var < length t.simplex.forms = omega (arith, c.loop-var-test.true, c.len-var-end.ensures.count, seen) in
     record {
       puts =
-          puts_more t c.args.terms.now c.requires.over c.stored.ensures.forms c.one_number.ensures.one c.in-Ok.delta c.args.values.now c.loop-var.var c.loop-var.values c.add_value.new.values inside
+          puts_more t c.args.terms.now c.requires.over c.stored.ensures.forms c.units_are_forms.ensures.forms c.in-Ok.delta c.args.values.now c.loop-var.var c.loop-var.values c.add_value.new.values inside
           c.loop-var.invariant.puts c.in_ok-add_value.ensures.puts;
     }
 
@@ -52,5 +53,11 @@ returns-clause-values c =
     let ns = c.args.terms.now in
     let seen = ap (λ (x : Theory). length x.simplex.forms) c.self.view_is in
     let end : c.loop-var.var ≡ length t.simplex.forms = omega (arith, c.loop-var-test.false, c.loop-var.auto.var-end, c.len-var-end.ensures.count, seen) in
-    adds_values t ns c.requires.over c.stored.ensures.forms c.one_number.ensures.one c.in-Ok.delta c.args.values.now c.stored.ensures.sound c.positions_have_values.ensures.values
+    adds_values t ns c.requires.over c.stored.ensures.forms c.units_are_forms.ensures.forms c.in-Ok.delta c.args.values.now c.stored.ensures.sound c.positions_have_values.ensures.values
     (has_values t ns c.requires.over c.stored.ensures.sound c.infinitesimals_are_ordered.ensures.ordered (c.requires.feasible ns c.requires.over)) c.in-Ok.ensures.numbers c.in-Ok.ensures.least c.loop-var.var c.loop-var.values end c.loop-var.invariant.puts
+
+pub returns-clause-worths : goal.returns-clause-worths
+returns-clause-worths c =
+    has_worths c.told_bounds_are_met.ensures.met c.chosen_fractions_keep_bounds.ensures.keep c.term_has_its_number.ensures.number c.tells_literals.ensures.tells c.one_number.ensures.one
+    c.units_are_forms.ensures.forms c.args.self.now c.args.terms.now c.requires.over c.stored.ensures.forms c.stored.ensures.sound c.requires.feasible c.args.values.now c.loop-var.values
+    (returns-clause-values c)

@@ -1,6 +1,6 @@
 use Rattle.std.proofs.Common.{[], ◌∷◌, subst, sym}
+use Rattle.nz_lists.proofs.Members.{has_first, has_more}
 use Rattle.nz_reals.specs.Tells.{AreOf, Refutes}
-use Rattle.nz_reals.proofs.Elements.{has_first, has_more}
 use Rattle.nz_reals.proofs.Excluding.{adds_refuted}
 use Rattle.nz_reals.proofs.Telling.{opposed_refute}
 use Rattle.nz_reals.proofs.reals.Reals.exclusion.Goals as goal
