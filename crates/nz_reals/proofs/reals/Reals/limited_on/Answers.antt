@@ -4,7 +4,9 @@ use Rattle.std.proofs.lemmas.List.Elements.{All-from_recursion}
 use Rattle.nz_fractions.specs.Fraction.{Fraction, fraction_lt}
 use Rattle.nz_spec.specs.Infinitesimal.{IsLeastLimit, Pair, ◌≤δ◌}
 use Rattle.nz_delta.specs.Pairs.{pair_of}
-use Rattle.nz_reals.specs.Limits.{listed, pair_on}
+use Rattle.nz_log.specs.declared.place.Place.{Place}
+use Rattle.nz_log.specs.declared.place.Site.TheVariants.{Limit}
+use Rattle.nz_reals.specs.Limits.{IsLimitPlace, listed, pair_on}
 use Rattle.nz_reals.proofs.Limiting.{lesser_least, limit_stop, one_pair}
 use Rattle.nz_reals.proofs.reals.Reals.limited_on.Goals as goal
 
@@ -24,7 +26,8 @@ returns-in-Ok-clause-least c = λ ps first.
 pub returns-in-Err-clause-place : goal.returns-in-Err-clause-place
 returns-in-Err-clause-place c =
     let found = limit_stop (pair_of c.in_order.result) _ c.in-Err.ensures.wide in
-    record {
+    let own : Place = record { wide = c.in-Err.wide; site = Limit c.args.var c.args.side } in
+    let there : IsLimitPlace c.args.self.now own = record {
       form = c.args.var;
       side = c.args.side;
       site = refl;
@@ -34,4 +37,5 @@ returns-in-Err-clause-place c =
       numbers = (c.value-value.ensures.standard, c.value-value.ensures.coefficient);
       of = found.0;
       leaves = record { left = c.new.ensures.left; right = c.new.ensures.right; wide = found.1 };
-    }
+    } in
+    subst (IsLimitPlace c.args.self.now) (sym c.new.ensures.place) there
