@@ -1,7 +1,9 @@
 -- Clauses that bounds of one form exclude each other: what the log has then.
-use Rattle.std.proofs.Common.{◌≡◌, ℕ, List, [], ◌∷◌, ◌++◌, map, Option, Some, None, refl, sym, ap, ◌∙◌, subst, arith, true}
+use Rattle.std.proofs.Common.{◌≡◌, ℕ, ◌+◌, ◌-◌, ◌<◌, ◌≤◌, inl, inr, List, [], ◌∷◌, ◌++◌, get_or, length, map, Option, Some, None, refl, sym, ap, ◌∙◌, subst, arith, true}
 use Rattle.std.specs.Prelude.{All, Contains, IsSome, slice_index_or}
+use Rattle.std.specs.List.{AllAdjacentBelow}
 use Rattle.std.proofs.lemmas.List.Elements.{All-contains, All-from_recursion, All-push, All-weaker}
+use Rattle.std.proofs.lemmas.List.Sorted.{all_adjacent_more}
 use Rattle.nz_lists.proofs.Members.{map_has}
 use Rattle.nz_spec.specs.Literal.{StandOnce}
 use Rattle.nz_spec.specs.Table.{Node}
@@ -11,11 +13,15 @@ use Rattle.nz_log.specs.declared.multiples.Multiple.{Multiple}
 use Rattle.nz_log.specs.Atoms.{IsLitIn}
 use Rattle.nz_log.specs.Axioms.{AreMultiplesIn}
 use Rattle.nz_log.specs.Leveled.{AreTold, AreToldAtoms, Names}
+use Rattle.nz_log.specs.Lits.{negated_lit}
 use Rattle.nz_log.specs.Logs.{Entry, LogState, Puts, literals_at, told_of}
 use Rattle.nz_log.specs.Sound.{IsLog}
 use Rattle.nz_log.specs.Theories.{Grows, IsClash}
-use Rattle.nz_reals.specs.Exclusions.{AddsOn, AreAtomsOver, IsExclusion, Keeps}
+use Rattle.nz_reals.specs.declared.neighbours.Lower as code
+use Rattle.nz_reals.specs.Exclusions.{AddsOn, AreAtomsOver, AreExcluded, AreLowers, HasNeighbours, IsExclusion, Keeps, lits_of}
+use Rattle.nz_reals.specs.State.{Theory}
 use Rattle.nz_reals.specs.Tells.{both, literals_of}
+use Rattle.nz_reals.proofs.Lowering.{adjacent_map}
 use Rattle.nz_reals.proofs.Refuting.{grows_same}
 
 -- ---- What the log keeps
@@ -113,3 +119,29 @@ pub exclusions_more : (old new : LogState) (ids cs : List ℕ) (l other : Lit) (
     → IsClash new (l ∷ other ∷ []) id → All (IsExclusion new ids) (cs ++ id ∷ [])
 exclusions_more old new ids cs l other id on other_on adds all clash =
     All-push (IsExclusion new ids) cs id (exclusions_kept old new ids cs adds.keeps all) (record { first = l; second = other; first_on = on; second_on = other_on; clash = clash })
+
+-- ---- Neighbours
+
+-- they have their clause still, where there are more
+pub excluded_kept : (t : Theory) (old new : LogState) (from : ℕ) (cs ds : List ℕ) (l other : Lit) → Keeps old new → ((id : ℕ) → Contains cs id → Contains ds id)
+    → AreExcluded t old from cs l other → AreExcluded t new from ds l other
+excluded_kept t old new from cs ds l other keeps more is = λ late opposed.
+    elim (is late opposed) [ inl c ↦ inl (c.0, more c.0 c.1, clash_kept old new (l ∷ other ∷ []) c.0 keeps c.2) | inr none ↦ inr none ]
+
+-- each of the first bounds has its clause with the one before it
+abbrev pub AreJoinedBelow : Theory → LogState → ℕ → List ℕ → List code.Lower → ℕ → Type 0
+AreJoinedBelow t log from cs xs i = AllAdjacentBelow (λ (x y : code.Lower). AreExcluded t log from cs y.literal (negated_lit x.literal)) xs i
+
+pub joined_more : (t : Theory) (old new : LogState) (from : ℕ) (cs ds : List ℕ) (xs : List code.Lower) (i : ℕ) → 0 < i → Keeps old new → ((id : ℕ) → Contains cs id → Contains ds id)
+    → AreJoinedBelow t old from cs xs i → ((d : code.Lower) → AreExcluded t new from ds (get_or xs i d).literal (negated_lit (get_or xs (i - 1) d).literal)) → AreJoinedBelow t new from ds xs (i + 1)
+joined_more t old new from cs ds xs i first keeps more joined one =
+    all_adjacent_more xs (λ (x y : code.Lower). AreExcluded t new from ds y.literal (negated_lit x.literal)) i first
+    (λ k d less. excluded_kept t old new from cs ds (get_or xs (k + 1) d).literal (negated_lit (get_or xs k d).literal) keeps more (joined k d less)) one
+
+pub neighbours_joined : (t : Theory) (log : LogState) (ids : List ℕ) (from : ℕ) (cs : List ℕ) (xs : List code.Lower) (i : ℕ) → length xs ≤ i → AreLowers t ids (lits_of xs)
+    → AreJoinedBelow t log from cs xs i → HasNeighbours t log ids from cs
+neighbours_joined t log ids from cs xs i all are joined = record {
+  lowers = lits_of xs;
+  are = are;
+  joined = adjacent_map (λ (x : code.Lower). x.literal) (λ (l m : Lit). AreExcluded t log from cs m (negated_lit l)) xs (λ k d less. joined k d (omega (arith, less, all)));
+}

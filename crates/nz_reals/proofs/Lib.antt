@@ -10,6 +10,7 @@ pub mod JoiningRows
 pub mod Keeping
 pub mod Knowing
 pub mod Limiting
+pub mod Lowering
 pub mod News
 pub mod Placing
 pub mod Refuting

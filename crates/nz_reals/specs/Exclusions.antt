@@ -1,18 +1,25 @@
 -- Bounds of one form that exclude each other, and the clauses that say so.
-use Rattle.std.specs.Prelude.{◌≡◌, ℕ, List, [], ◌∷◌, All, Contains, Some, IsSome, true}
+use Rattle.std.specs.Prelude.{◌≡◌, ℕ, ◌<◌, ◌≤◌, ◌⊎◌, List, [], ◌∷◌, length, map, All, Contains, Some, IsSome, true}
+use Rattle.std.specs.List.{AllAdjacentBelow}
 use Rattle.std.specs.declared.cmp.Ordering.TheVariants.{Greater}
-use Rattle.nz_spec.specs.Infinitesimal.{infinitesimal_cmp}
+use Rattle.nz_spec.specs.Infinitesimal.{infinitesimal_cmp, ◌≤δ◌}
 use Rattle.nz_spec.specs.Table.{Node}
 use Rattle.nz_trail.specs.declared.limits.Side.TheVariants.{Lower, Upper}
+use Rattle.nz_delta.specs.DeltaSpace.{infinitesimal_of}
 use Rattle.nz_log.specs.declared.atoms.Atom.{Atom}
 use Rattle.nz_log.specs.declared.lits.Lit.{Lit}
+use Rattle.nz_log.specs.declared.place.Place.{Place}
 use Rattle.nz_log.specs.Atoms.{IsLitIn}
 use Rattle.nz_log.specs.Leveled.{AreToldAtoms}
+use Rattle.nz_log.specs.Lits.{negated_lit}
 use Rattle.nz_log.specs.Logs.{IsLive, LogState, entry_at}
 use Rattle.nz_log.specs.Sound.{IsLog}
 use Rattle.nz_log.specs.Theories.{Grows, IsClash}
-use Rattle.nz_reals.specs.Known.{Known, Said, said_by}
+use Rattle.nz_reals.specs.declared.neighbours.Lower as code
+use Rattle.nz_reals.specs.Known.{Known, Said, said_by, said_on}
+use Rattle.nz_reals.specs.Stands.{IsOver}
 use Rattle.nz_reals.specs.State.{Theory, known_at}
+use Rattle.nz_reals.specs.Tells.{IsSumPlace, both}
 
 -- ---- Bounds
 
@@ -61,3 +68,60 @@ pub record AddsOn (ids : List ℕ) (old new : LogState) : Type 0 where
   pub keeps : Keeps old new
   pub grows : AreToldAtoms old ids → Grows old new
   pub sound : (ns : List Node) (levels : List (List ℕ)) → AreAtomsOver ns old.atoms ids → IsLog ns levels old → IsLog ns levels new
+
+-- ---- Which bounds have clauses
+
+-- Something is known of the atom, and the literal says a lower bound.
+pub record IsLower (t : Theory) (l : Lit) : Type 0 where
+  pub known : Known
+  pub knows : known_at t l.atom ≡ Some known
+  pub side : (said_by known l.sign).side ≡ Lower
+
+-- The first literal bounds a form with a lesser number than the second does, or the same form at a value that is at most the second's.
+pub record IsWeaker (t : Theory) (l other : Lit) : Type 0 where
+  pub first : Known
+  pub knows : known_at t l.atom ≡ Some first
+  pub second : Known
+  pub knows_other : known_at t other.atom ≡ Some second
+  pub order : (first.form < second.form) ⊎ ((first.form ≡ second.form) × ((said_by first l.sign).value ≤δ (said_by second other.sign).value))
+
+-- of two neighbours the first is the weaker one
+abbrev pub AreWeakerFirst : Theory → List Lit → Type 0
+AreWeakerFirst t ls = AllAdjacentBelow (IsWeaker t) ls (length ls)
+
+-- Just the lower bounds that literals on these atoms say: those of a form beside each other, the weakest first.
+pub record AreLowers (t : Theory) (ids : List ℕ) (ls : List Lit) : Type 0 where
+  pub right : All (λ (l : Lit). Contains ids l.atom × IsLower t l) ls
+  pub all : (l : Lit) → Contains ids l.atom → IsLower t l → Contains ls l
+  pub weaker_first : AreWeakerFirst t ls
+
+-- An operation of the sum of two literals leaves the numbers, over each table that has the units of the theory.
+pub record HasNoSum (t : Theory) (l other : Lit) : Type 0 where
+  pub place : Place
+  pub leaves : (ns : List Node) → IsOver t ns → IsSumPlace ns t (both l other) place
+
+-- one of the clauses says that the two literals aren't both true, unless their sum leaves the numbers
+abbrev pub HasClause : Theory → LogState → List ℕ → Lit → Lit → Type 0
+HasClause t log cs l other = ((id : ℕ) × Contains cs id × IsClash log (l ∷ other ∷ []) id) ⊎ HasNoSum t l other
+
+-- two literals have their clause where their bounds leave a form no value, and one of their atoms has at least this number
+abbrev pub AreExcluded : Theory → LogState → ℕ → List ℕ → Lit → Lit → Type 0
+AreExcluded t log from cs l other = (from ≤ l.atom) ⊎ (from ≤ other.atom) → AreOpposed t l other → HasClause t log cs l other
+
+-- Of the lower bounds on these atoms, each has its clause with the negation of the next weaker one.
+pub record HasNeighbours (t : Theory) (log : LogState) (ids : List ℕ) (from : ℕ) (cs : List ℕ) : Type 0 where
+  pub lowers : List Lit
+  pub are : AreLowers t ids lowers
+  pub joined : AllAdjacentBelow (λ (l m : Lit). AreExcluded t log from cs m (negated_lit l)) lowers (length lowers)
+
+-- ---- Lower bounds as the code lists them
+
+abbrev pub lits_of : List code.Lower → List Lit
+lits_of xs = map (λ (x : code.Lower). x.literal) xs
+
+-- It is the lower bound that its literal says, of this form at this value.
+pub record IsSaidLower (t : Theory) (x : code.Lower) : Type 0 where
+  pub known : Known
+  pub knows : known_at t x.literal.atom ≡ Some known
+  pub form : x.var ≡ known.form
+  pub says : said_by known x.literal.sign ≡ said_on Lower (infinitesimal_of x.value)

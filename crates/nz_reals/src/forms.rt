@@ -1,5 +1,5 @@
 //! What atoms say of the forms of a simplex.
-ghost use Rattle.std.specs.Prelude.{◌≡◌, IfOk, IfSome, List, true};
+ghost use Rattle.std.specs.Prelude.{◌≡◌, Bool, IfOk, IfSome, List, None, true, false};
 ghost use Rattle.nz_fractions.specs.Fraction.{whole};
 ghost use Rattle.nz_spec.specs.Table.{IsTable, Node};
 ghost use Rattle.nz_lin.specs.Bounds.{HasUnits};
@@ -28,6 +28,7 @@ impl Said {
     /// Whether it is a lower bound, and the other one an upper bound below it.
     pub(crate) fn is_above(&self, other: &Said) -> bool
         ensures above { result ≡ true → IsAbove (said_of self.now) (said_of other.now) }
+        ensures meet { result ≡ false → IsAbove (said_of self.now) (said_of other.now) → ⊥ }
     {
         stands_for_infinitesimal();
         match self.side {
@@ -80,6 +81,7 @@ impl Bounded {
     /// The sign of the literal that says a lower bound. A sum without units has none.
     pub(crate) fn lower_sign(&self) -> Option<bool>
         ensures lower { IfSome result (λ sign. (said_by (known_of self.now) sign).side ≡ Lower) }
+        ensures none { result ≡ None → (sign : Bool) → (said_by (known_of self.now) sign).side ≡ Lower → ⊥ }
     {
         match self.yes.side {
             Side::Lower => return Some(true),

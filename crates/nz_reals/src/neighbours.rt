@@ -1,7 +1,9 @@
 //! Clauses by which neighbouring bounds of one form know each other: one that is true makes the weaker ones true, and those against it false.
-ghost use Rattle.std.specs.Prelude.{◌≡◌, ℕ, List, [], ◌∷◌, All, Contains, IfOk, IfSome, IsSome, OnOk, option_map, true};
+ghost use Rattle.std.specs.Prelude.{◌≡◌, ℕ, List, [], ◌∷◌, All, Contains, IfOk, IfSome, IsSome, None, OnOk, option_map, true, false};
+ghost use Rattle.nz_log.specs.declared.atoms.Atom.{Atom};
+ghost use Rattle.nz_log.specs.declared.lits.Lit.{Lit};
 ghost use Rattle.nz_log.specs.Theories.{IsClash};
-ghost use Rattle.nz_reals.specs.Exclusions.{AddsOn, AreOpposed, IsExclusion, IsKnownOn};
+ghost use Rattle.nz_reals.specs.Exclusions.{AddsOn, AreExcluded, AreLowers, AreOpposed, HasNeighbours, HasNoSum, IsExclusion, IsKnownOn, IsLower, IsSaidLower, lits_of};
 ghost use Rattle.nz_reals.specs.Known.{known_of};
 ghost use Rattle.nz_reals.specs.Stands.{IsOf};
 ghost use Rattle.nz_reals.specs.State.{known_at};
@@ -42,6 +44,7 @@ impl Reals {
         requires of { (ids : List ℕ) × IsOf self.now log.old.atoms ids }
         ensures clauses { IfOk result (λ cs. All (IsExclusion log.new atoms.now) cs.items) }
         ensures adds { AddsOn atoms.now log.old log.new }
+        ensures neighbours { IfOk result (λ cs. HasNeighbours self.now log.new atoms.now from cs.items) }
     {
         let lowers = self.lowers(atoms)?;
         let mut clauses = Vec::new(self.alloc);
@@ -54,7 +57,9 @@ impl Reals {
 
     /// The lower bounds that these atoms say, those of a form beside each other, the weakest first.
     fn lowers(&self, atoms: &[AtomId]) -> Result<Vec<Lower>, Memory>
+        requires of { (list : List Atom) × (ids : List ℕ) × IsOf self.now list ids }
         ensures known { IfOk result (λ ls. All (λ l. IsKnownOn self.now atoms.now l.literal) ls.items) }
+        ensures lowers { IfOk result (λ ls. AreLowers self.now atoms.now (lits_of ls.items)) }
     {
         let mut lowers = Vec::new(self.alloc);
         for atom in atoms {
@@ -70,6 +75,8 @@ impl Reals {
     fn lower(&self, atom: AtomId) -> Option<Lower>
         ensures atom { IfSome result (λ l. l.literal.atom ≡ atom) }
         ensures known { IfSome result (λ l. IsSome (known_at self.now atom)) }
+        ensures lower { IfSome result (IsSaidLower self.now) }
+        ensures none { result ≡ None → (l : Lit) → l.atom ≡ atom → IsLower self.now l → ⊥ }
     {
         let bounded = self.known_if(atom)?;
         let sign = bounded.lower_sign()?;
@@ -103,6 +110,8 @@ impl Reals {
         requires known { AreKnown self.now (both literal other) }
         ensures clauses { (ids : List ℕ) → Contains ids literal.atom → Contains ids other.atom → All (IsExclusion log.old ids) clauses.old.items → OnOk result (All (IsExclusion log.new ids) clauses.new.items) }
         ensures adds { (ids : List ℕ) → Contains ids literal.atom → Contains ids other.atom → AddsOn ids log.old log.new }
+        ensures kept { (id : ℕ) → Contains clauses.old.items id → Contains clauses.new.items id }
+        ensures excluded { OnOk result (AreExcluded self.now log.new from clauses.new.items literal other) }
     {
         if literal.atom < from && other.atom < from {
             return Ok(());
@@ -119,6 +128,7 @@ impl Reals {
         requires known { AreKnown self.now (both literal other) }
         ensures clash { IfOk result (λ r. IfSome r (IsClash log.new (literal ∷ other ∷ []))) }
         ensures adds { (ids : List ℕ) → Contains ids literal.atom → Contains ids other.atom → AddsOn ids log.old log.new }
+        ensures none { IfOk result (λ r. r ≡ None → AreOpposed self.now literal other → HasNoSum self.now literal other) }
     {
         clashes_contradict();
         literals_say_bounds();
@@ -133,7 +143,8 @@ impl Reals {
             Ok(clause) => Ok(Some(clause)),
             Err(Stop::Memory) => Err(Memory),
             // The search is right without the clause.
-            Err(_) => Ok(None),
+            Err(Stop::Wide(_)) => Ok(None),
+            Err(Stop::Spent) => unreachable!(),
         }
     }
 
@@ -141,6 +152,7 @@ impl Reals {
     fn are_opposed(&self, literal: Lit, other: Lit) -> bool
         requires known { AreKnown self.now (both literal other) }
         ensures apart { result ≡ true → AreOpposed self.now literal other }
+        ensures together { result ≡ false → AreOpposed self.now literal other → ⊥ }
     {
         let low = self.known(literal.atom);
         let high = self.known(other.atom);

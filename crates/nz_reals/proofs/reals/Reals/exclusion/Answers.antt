@@ -1,6 +1,9 @@
-use Rattle.std.proofs.Common.{[], ◌∷◌, subst, sym}
+use Rattle.std.proofs.Common.{List, [], ◌∷◌, subst, sym}
 use Rattle.nz_lists.proofs.Members.{has_first, has_more}
-use Rattle.nz_reals.specs.Tells.{AreOf, Refutes}
+use Rattle.nz_log.specs.declared.multiples.Multiple.{Multiple}
+use Rattle.nz_log.specs.declared.stop.Stop.{Stop}
+use Rattle.nz_log.specs.Places.{OnWide}
+use Rattle.nz_reals.specs.Tells.{AreOf, IsSumPlace, Refutes}
 use Rattle.nz_reals.proofs.Excluding.{adds_refuted}
 use Rattle.nz_reals.proofs.Telling.{opposed_refute}
 use Rattle.nz_reals.proofs.reals.Reals.exclusion.Goals as goal
@@ -24,9 +27,17 @@ pub returns-in-Err-Memory-clause-adds : goal.returns-in-Err-Memory-clause-adds
 returns-in-Err-Memory-clause-adds c = λ ids on other_on.
     adds_refuted ids c.args.literal c.args.other on other_on c.args.log.now c.refute.new.log c.both_once.result c.both_once.ensures.both c.refute.ensures.keeps c.refute.ensures.grows c.refute.ensures.sound
 
-pub returns : goal.returns
-returns c = record {
-  clash = tt;
-  adds = λ ids on other_on.
-      adds_refuted ids c.args.literal c.args.other on other_on c.args.log.now c.refute.new.log c.both_once.result c.both_once.ensures.both c.refute.ensures.keeps c.refute.ensures.grows c.refute.ensures.sound;
-}
+pub returns-in-Err-Wide-clause-none : goal.returns-in-Err-Wide-clause-none
+returns-in-Err-Wide-clause-none c = λ is opposed.
+    let t = c.args.self.now in
+    let place = c.in-Err-Wide.field-0-0 in
+    record {
+      place = place;
+      leaves = λ ns over.
+          subst (λ (ms : List Multiple). IsSumPlace ns t ms place) c.both_once.ensures.both
+          (subst (λ (e : Stop). OnWide e (IsSumPlace ns t c.both_once.result)) c.in-Err-Wide.field-0-is (c.in-Err-Wide.ensures.place ns over));
+    }
+
+pub returns-in-Err-Wide-clause-adds : goal.returns-in-Err-Wide-clause-adds
+returns-in-Err-Wide-clause-adds c = λ ids on other_on.
+    adds_refuted ids c.args.literal c.args.other on other_on c.args.log.now c.refute.new.log c.both_once.result c.both_once.ensures.both c.refute.ensures.keeps c.refute.ensures.grows c.refute.ensures.sound
