@@ -19,9 +19,10 @@ use Rattle.nz_log.specs.Sound.{IsLog}
 use Rattle.nz_log.specs.Theories.{Grows, IsClash}
 use Rattle.nz_reals.specs.declared.neighbours.Lower as code
 use Rattle.nz_reals.specs.Exclusions.{AddsOn, AreAtomsOver, AreExcluded, AreLowers, HasNeighbours, IsExclusion, Keeps, lits_of}
+use Rattle.nz_reals.specs.Stands.{IsOf}
 use Rattle.nz_reals.specs.State.{Theory}
 use Rattle.nz_reals.specs.Tells.{both, literals_of}
-use Rattle.nz_reals.proofs.Lowering.{adjacent_map}
+use Rattle.nz_reals.proofs.Lowering.{adjacent_map, opposed}
 use Rattle.nz_reals.proofs.Refuting.{grows_same}
 
 -- ---- What the log keeps
@@ -138,10 +139,16 @@ joined_more t old new from cs ds xs i first keeps more joined one =
     all_adjacent_more xs (λ (x y : code.Lower). AreExcluded t new from ds y.literal (negated_lit x.literal)) i first
     (λ k d less. excluded_kept t old new from cs ds (get_or xs (k + 1) d).literal (negated_lit (get_or xs k d).literal) keeps more (joined k d less)) one
 
-pub neighbours_joined : (t : Theory) (log : LogState) (ids : List ℕ) (from : ℕ) (cs : List ℕ) (xs : List code.Lower) (i : ℕ) → length xs ≤ i → AreLowers t ids (lits_of xs)
-    → AreJoinedBelow t log from cs xs i → HasNeighbours t log ids from cs
-neighbours_joined t log ids from cs xs i all are joined = record {
-  lowers = lits_of xs;
-  are = are;
-  joined = adjacent_map (λ (x : code.Lower). x.literal) (λ (l m : Lit). AreExcluded t log from cs m (negated_lit l)) xs (λ k d less. joined k d (omega (arith, less, all)));
-}
+pub neighbours_joined : (t : Theory) (atoms : List Atom) (some : List ℕ) → IsOf t atoms some → (log : LogState) (ids : List ℕ) (from : ℕ) (cs : List ℕ) (xs : List code.Lower) (i : ℕ) → length xs ≤ i
+    → AreLowers t ids (lits_of xs) → AreJoinedBelow t log from cs xs i → HasNeighbours t log ids from cs
+neighbours_joined t atoms some of log ids from cs xs i all are joined =
+    let ls = lits_of xs in
+    let excluded : AllAdjacentBelow (λ (l m : Lit). AreExcluded t log from cs m (negated_lit l)) ls (length ls) =
+    adjacent_map (λ (x : code.Lower). x.literal) (λ (l m : Lit). AreExcluded t log from cs m (negated_lit l)) xs (λ k d less. joined k d (omega (arith, less, all))) in
+    record {
+      lowers = ls;
+      are = are;
+      joined = λ k d less late one.
+          excluded k d less (elim late [ inl first ↦ inr first | inr second ↦ inl second ])
+          (opposed t atoms some of (get_or ls k d) (get_or ls (k + 1) d) (are.right k d (omega (arith, less))).1 (are.right (k + 1) d less).1 (are.weaker_first k d less) one);
+    }

@@ -1,27 +1,29 @@
 -- The lower bounds that atoms say, and their order.
-use Rattle.std.proofs.Common.{◌≡◌, ℕ, ◌+◌, ◌<◌, ◌≤◌, Bool, true, false, true≢false, ◌⊎◌, inl, inr, List, [], ◌∷◌, ◌++◌, length, map, get_or, take, Some, Ordering, Less, Equal, Greater, refl, sym, ap, ◌∙◌, subst, subst₂, arith}
+use Rattle.std.proofs.Common.{◌≡◌, ℕ, ◌+◌, ◌<◌, ◌≤◌, Bool, true, false, true≢false, ◌⊎◌, inl, inr, List, [], ◌∷◌, ◌++◌, length, map, get_or, take, Some, Ordering, Less, Equal, Greater, refl, sym, ap, ap₂, ◌∙◌, subst, subst₂, not, pos, negsuc, arith}
 use Rattle.std.specs.Prelude.{All, Contains, IsSome, if◌then◌else◌}
 use Rattle.std.specs.List.{AllAdjacentBelow}
 use Rattle.std.specs.List.Sorted.{IsPermutation}
 use Rattle.std.specs.Cmp.{ranks}
 use Rattle.std.specs.Ordering.{MatchOrdering, is_lt, nat_cmp, ordering_then}
+use Rattle.std.proofs.lemmas.Int.{ints}
 use Rattle.std.proofs.lemmas.List.{get_or_default, length-map, take_more}
 use Rattle.std.proofs.lemmas.List.Elements.{All-contains, All-map, All-push, All-weaker, Contains-append_left, Contains-push, Contains-push_cases}
 use Rattle.std.proofs.lemmas.List.Sorted.{All-permutation, Contains-permutation}
 use Rattle.nz_lists.proofs.Members.{has_none, map_has}
 use Rattle.nz_lists.proofs.Places.{slice_index_or-map}
-use Rattle.nz_fractions.specs.Fraction.{Fraction, ◌=ℚ◌, ◌≤ℚ◌, ◌<ℚ◌, fraction_cmp, neg_ℚ}
-use Rattle.nz_fractions.proofs.Laws.{=ℚ_sym, ≤ℚ-from_eq, ≤ℚ-from_lt}
-use Rattle.nz_fractions.proofs.Order.{fraction_ranked}
+use Rattle.nz_fractions.specs.Fraction.{Fraction, ◌=ℚ◌, ◌≤ℚ◌, ◌<ℚ◌, denominator, fraction_cmp, neg_ℚ, whole}
+use Rattle.nz_fractions.proofs.Laws.{=ℚ_sym, ≤ℚ-from_eq, ≤ℚ-from_lt, <ℚ-≤ℚ_trans}
+use Rattle.nz_fractions.proofs.Order.{fraction_cmp_is, fraction_ranked}
 use Rattle.nz_spec.specs.Bland.{at_least_bound, at_most_bound}
-use Rattle.nz_spec.specs.Infinitesimal.{◌≤δ◌}
+use Rattle.nz_spec.specs.Infinitesimal.{Infinitesimal, infinitesimal_cmp, ◌≤δ◌}
 use Rattle.nz_lin.specs.declared.form.Part.{Part}
 use Rattle.nz_trail.specs.declared.limits.Side.TheVariants.{Lower, Upper}
 use Rattle.nz_delta.specs.DeltaSpace.{infinitesimal_of}
 use Rattle.nz_log.specs.declared.atoms.Atom.{Atom}
 use Rattle.nz_log.specs.declared.lits.Lit.{Lit}
+use Rattle.nz_log.specs.Lits.{negated_lit}
 use Rattle.nz_reals.specs.declared.neighbours.Lower as code
-use Rattle.nz_reals.specs.Exclusions.{AreLowers, IsKnownOn, IsLower, IsSaidLower, IsWeaker, lits_of}
+use Rattle.nz_reals.specs.Exclusions.{AreLowers, AreOfOneForm, AreOpposed, IsKnownOn, IsLower, IsSaidLower, IsWeaker, lits_of}
 use Rattle.nz_reals.specs.Known.{IsSaidOf, Known, Said, said_by, said_on}
 use Rattle.nz_reals.specs.Stands.{IsOf}
 use Rattle.nz_reals.specs.State.{Theory, known_at}
@@ -91,6 +93,73 @@ module _ (t : Theory) where
       by_var Less e h = absurd (true≢false h)
       by_var Equal e h = inr (sym low.form ∙ sym (equal y.var x.var (sym e)) ∙ high.form, values (by_first (fraction_cmp y.value.c x.value.c) refl h))
       by_var Greater e h = inl (subst (λ (n : ℕ). n < high.known.form) low.form (subst (λ (n : ℕ). x.var < n) high.form (greater y.var x.var (sym e))))
+
+-- ---- The negation of a lower bound
+
+-- The one is a lower bound, the other an upper one that is less by infinitesimals.
+record IsJustBelow (low high : Said) : Type 0 where
+  upper : high.side ≡ Upper
+  standard : high.value.standard ≡ low.value.standard
+  less : high.value.coefficient <ℚ low.value.coefficient
+
+minus_below : whole (negsuc 0) <ℚ whole (pos 0)
+unfolding denominator
+minus_below = record { cross = omega (arith, ints) }
+
+one_above : whole (pos 0) <ℚ whole (pos 1)
+unfolding denominator
+one_above = record { cross = omega (arith, ints) }
+
+never_lower : (s : Said) → s.side ≡ Upper → s.side ≡ Lower → ⊥
+never_lower s h k = let never : Upper ≡ Lower = sym h ∙ k in absurd (cc)
+
+negation_below : (ps : List Part) (b : Fraction) (k : Known) → IsSaidOf ps b k → (sign : Bool) → (said_by k sign).side ≡ Lower → IsJustBelow (said_by k sign) (said_by k (not sign))
+negation_below [] b k says true low = absurd (never_lower k.yes (ap (λ (s : Said). s.side) says.yes) low)
+negation_below [] b k says false low = absurd (never_lower k.no (ap (λ (s : Said). s.side) says.no) low)
+negation_below (p ∷ ps) b k says sign low = by_turn (is_turned (p ∷ ps)) sign says.yes says.no low
+  where
+    by_turn : (x sign : Bool) → k.yes ≡ (if x then said_on Lower (at_least_bound false (neg_ℚ b)) else said_on Upper (at_most_bound false b))
+        → k.no ≡ (if x then said_on Upper (at_most_bound true (neg_ℚ b)) else said_on Lower (at_least_bound true b)) → (said_by k sign).side ≡ Lower
+        → IsJustBelow (said_by k sign) (said_by k (not sign))
+    by_turn true true y n h = subst₂ IsJustBelow (sym y) (sym n) (record { upper = refl; standard = refl; less = minus_below })
+    by_turn true false y n h = absurd (never_lower k.no (ap (λ (s : Said). s.side) n) h)
+    by_turn false true y n h = absurd (never_lower k.yes (ap (λ (s : Said). s.side) y) h)
+    by_turn false false y n h = subst₂ IsJustBelow (sym n) (sym y) (record { upper = refl; standard = refl; less = one_above })
+
+-- what is at least a bound is above what is just below it
+above_both : (low high : Said) (x : Infinitesimal) → IsJustBelow low high → low.value ≤δ x → infinitesimal_cmp x high.value ≡ Greater
+unfolding infinitesimal_cmp
+above_both low high x below least =
+    elim least [
+      | inl less ↦ ap (λ (o : Ordering). ordering_then o (fraction_cmp x.coefficient high.value.coefficient))
+          (sym (fraction_cmp_is x.standard high.value.standard Greater (subst (λ (q : Fraction). q <ℚ x.standard) (sym below.standard) less)))
+      | inr same ↦ ap₂ ordering_then
+          (sym (fraction_cmp_is x.standard high.value.standard Equal (=ℚ_sym (subst (λ (q : Fraction). q =ℚ x.standard) (sym below.standard) same.0))))
+          (sym (fraction_cmp_is x.coefficient high.value.coefficient Greater (<ℚ-≤ℚ_trans below.less same.1)))
+    ]
+
+-- a bound and the negation of a weaker one of its form leave the form no value
+pub opposed : (t : Theory) (atoms : List Atom) (ids : List ℕ) → IsOf t atoms ids → (l m : Lit) → IsLower t l → IsLower t m → IsWeaker t l m → AreOfOneForm t l m → AreOpposed t m (negated_lit l)
+opposed t atoms ids of l m low high weaker one =
+    let k = low.known in
+    let n = high.known in
+    let form : k.form ≡ n.form = ap (λ (x : Known). x.form) (some_same (sym low.knows ∙ one.knows)) ∙ one.form ∙ ap (λ (x : Known). x.form) (some_same (sym one.knows_other ∙ high.knows)) in
+    let right = of.right l.atom k low.knows in
+    let below = negation_below right.0.sides.parts right.0.sides.offset k right.2.says l.sign low.side in
+    let order : (k.form < n.form) ⊎ ((k.form ≡ n.form) × ((said_by k l.sign).value ≤δ (said_by n m.sign).value)) =
+    subst₂ (λ (x y : Known). (x.form < y.form) ⊎ ((x.form ≡ y.form) × ((said_by x l.sign).value ≤δ (said_by y m.sign).value))) (some_same (sym weaker.knows ∙ low.knows))
+    (some_same (sym weaker.knows_other ∙ high.knows)) weaker.order in
+    let least : (said_by k l.sign).value ≤δ (said_by n m.sign).value = elim order [ inl less ↦ absurd (omega (arith, less, form)) | inr same ↦ same.1 ] in
+    record {
+      first = n;
+      knows = high.knows;
+      second = k;
+      knows_other = low.knows;
+      form = form;
+      above = record { lower = high.side; upper = below.upper; greater = above_both (said_by k l.sign) (said_by k (not l.sign)) (said_by n m.sign).value below least };
+    }
+
+-- ---- Neighbours
 
 -- what is listed of neighbours of a list, of those of what a map makes of it
 pub adjacent_map : {X Y : Type 0} (f : X → Y) (R : Y → Y → Type 0) (xs : List X) → AllAdjacentBelow (λ x y. R (f x) (f y)) xs (length xs) → AllAdjacentBelow R (map f xs) (length (map f xs))

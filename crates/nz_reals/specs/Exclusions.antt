@@ -104,15 +104,24 @@ pub record HasNoSum (t : Theory) (l other : Lit) : Type 0 where
 abbrev pub HasClause : Theory → LogState → List ℕ → Lit → Lit → Type 0
 HasClause t log cs l other = ((id : ℕ) × Contains cs id × IsClash log (l ∷ other ∷ []) id) ⊎ HasNoSum t l other
 
--- two literals have their clause where their bounds leave a form no value, and one of their atoms has at least this number
-abbrev pub AreExcluded : Theory → LogState → ℕ → List ℕ → Lit → Lit → Type 0
-AreExcluded t log from cs l other = (from ≤ l.atom) ⊎ (from ≤ other.atom) → AreOpposed t l other → HasClause t log cs l other
+-- Two literals bound one form.
+pub record AreOfOneForm (t : Theory) (l other : Lit) : Type 0 where
+  pub first : Known
+  pub knows : known_at t l.atom ≡ Some first
+  pub second : Known
+  pub knows_other : known_at t other.atom ≡ Some second
+  pub form : first.form ≡ second.form
 
--- Of the lower bounds on these atoms, each has its clause with the negation of the next weaker one.
+-- The lower bounds that these atoms say are listed. Of two neighbours of one form, of whose atoms one has at least this number, the stronger one has its clause
+-- with the negation of the weaker one.
 pub record HasNeighbours (t : Theory) (log : LogState) (ids : List ℕ) (from : ℕ) (cs : List ℕ) : Type 0 where
   pub lowers : List Lit
   pub are : AreLowers t ids lowers
-  pub joined : AllAdjacentBelow (λ (l m : Lit). AreExcluded t log from cs m (negated_lit l)) lowers (length lowers)
+  pub joined : AllAdjacentBelow (λ (l m : Lit). (from ≤ l.atom) ⊎ (from ≤ m.atom) → AreOfOneForm t l m → HasClause t log cs m (negated_lit l)) lowers (length lowers)
+
+-- two literals have their clause where their bounds leave a form no value, and one of their atoms has at least this number
+abbrev pub AreExcluded : Theory → LogState → ℕ → List ℕ → Lit → Lit → Type 0
+AreExcluded t log from cs l other = (from ≤ l.atom) ⊎ (from ≤ other.atom) → AreOpposed t l other → HasClause t log cs l other
 
 -- ---- Lower bounds as the code lists them
 

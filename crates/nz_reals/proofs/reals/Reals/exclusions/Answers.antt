@@ -41,4 +41,4 @@ pub returns-clause-neighbours : goal.returns-clause-neighbours
 returns-clause-neighbours c =
     let xs = c.in_ok-lowers.lowers.items in
     let all : length xs ≤ c.loop-i.i = search rules in
-    neighbours_joined c.args.self.now c.loop-i.log c.args.atoms.now c.args.from c.loop-i.clauses.items xs c.loop-i.i all c.in_ok-lowers.ensures.lowers c.loop-i.invariant.joined
+    neighbours_joined c.args.self.now c.args.log.now.atoms c.requires.of.0 c.requires.of.1 c.loop-i.log c.args.atoms.now c.args.from c.loop-i.clauses.items xs c.loop-i.i all c.in_ok-lowers.ensures.lowers c.loop-i.invariant.joined
