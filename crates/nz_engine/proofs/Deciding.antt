@@ -4,22 +4,21 @@ use Rattle.std.specs.Prelude.{All, Contains, IsSome, flat_map, slice_get, unwrap
 use Rattle.std.specs.List.{AllByRecursion}
 use Rattle.std.proofs.lemmas.Option.{slice_get-get_or}
 use Rattle.std.proofs.lemmas.List.{get_or-map, length-map}
-use Rattle.std.proofs.lemmas.List.Elements.{All-contains, All-contains_itself, All-from_recursion, All-weaker, recursion_from_All}
+use Rattle.std.proofs.lemmas.List.Elements.{All-contains, All-from_recursion, All-weaker, recursion_from_All}
 use Rattle.nz_lists.proofs.Elements.{AllByRecursion-append}
-use Rattle.nz_fractions.specs.Fraction.{Fraction, ◌=ℚ◌}
+use Rattle.nz_fractions.specs.Fraction.{◌=ℚ◌}
 use Rattle.nz_spec.specs.Basis.{Valuation}
 use Rattle.nz_spec.specs.Decide.{IsValueOf, AreModelValues, asserted_numbers}
 use Rattle.nz_spec.specs.Deciding.{IsMet, MeetsTables, TablesDecide}
 use Rattle.nz_spec.specs.Form.{unit_value}
 use Rattle.nz_spec.specs.FormOf.{number_in, TermHasItsNumber}
 use Rattle.nz_spec.specs.Gates.{is_boolean_term}
-use Rattle.nz_spec.specs.Literal.{term_literal, are_same_sign, AreTrueLiterals, TellsLiterals}
+use Rattle.nz_spec.specs.Literal.{term_literal, are_same_sign, AreTrueLiterals}
 use Rattle.nz_spec.specs.Model.{IsAssignment}
 use Rattle.nz_spec.specs.Order.{post_order, post_orders}
-use Rattle.nz_spec.specs.Table.{Node, IsTable, term_in, terms_at, listed_value, assignment_by, OneNumber, TermOfNode, AssignsByNumber}
+use Rattle.nz_spec.specs.Table.{Node, IsTable, term_in, terms_at, listed_value, assignment_by, TermOfNode, AssignsByNumber}
 use Rattle.nz_spec.specs.Taken.{IsTaken, IsTakenBoolean}
-use Rattle.nz_spec.specs.Term.{Sort, bool_sort, int_sort, real_sort, is_int_sort, Constant, constant, falsum, Head, Term, apply, no_terms, Assignment, Value, truth, number, number_of, value_of, is_true, is_bool, default_value, IsTrueUnder, IsOfSort, ValueFits}
-use Rattle.nz_spec.specs.ToldBounds.{ChosenFractionsKeepBounds, ToldBoundsAreMet}
+use Rattle.nz_spec.specs.Term.{Sort, bool_sort, int_sort, real_sort, is_int_sort, Constant, constant, falsum, Term, apply, no_terms, Assignment, Value, truth, number_of, value_of, is_true, is_bool, default_value, IsTrueUnder}
 use Rattle.nz_log.specs.declared.atoms.Atom.{Atom}
 use Rattle.nz_log.specs.declared.atoms.Atom.TheVariants as atoms
 use Rattle.nz_log.specs.declared.lits.Lit.{Lit}
@@ -30,16 +29,13 @@ use Rattle.nz_log.specs.TermLits.{literal_of, yes}
 use Rattle.nz_cform.specs.Covering.{kids_at}
 use Rattle.nz_cform.specs.Forms.{IsCoveredWithin, covered_at}
 use Rattle.nz_cform.specs.Laws.{MeetsRows, RowsMeetTables}
-use Rattle.nz_reals.specs.Chosen.{AddsValues, IsConstant}
-use Rattle.nz_reals.specs.State.{Theory, told_lits}
-use Rattle.nz_reals.specs.Stored.{AreForms}
+use Rattle.nz_reals.specs.Chosen.{HasWorths}
+use Rattle.nz_reals.specs.State.{told_lits}
 use Rattle.nz_sat.specs.declared.clauses.Held.{Held}
 use Rattle.nz_sat.specs.Sats.{IsTrueClause, IsTrueLit, held_of, truth_of}
-use Rattle.nz_simplex.specs.State.{IsSound, position_over}
 use Rattle.nz_engine.specs.Checking.{HasFound, IsPosed, terms_named, truth_in, value_at}
 use Rattle.nz_engine.specs.Preparing.{PreparedState, HoldsUnit, IsOfForm, IsPrepared, IsSearched, atoms_of, boolean_terms, unit_of}
 use Rattle.nz_engine.proofs.Going.{some_of, some_within}
-use Rattle.nz_engine.proofs.Meeting as meeting
 use Rattle.nz_engine.proofs.Modeling.{constant_values, is_assignment, listed_behind, listed_first, listed_truth, no_truth}
 use Rattle.nz_engine.proofs.Onces.{boolean_there}
 use Rattle.nz_engine.proofs.Posing.{all_named}
@@ -95,13 +91,9 @@ real_of real_sort a b = refl
 
 -- ---- What was found
 
-module _ (rows_meet : RowsMeetTables) (decides : TablesDecide) (met : ToldBoundsAreMet) (keep : ChosenFractionsKeepBounds) (numbers : TermHasItsNumber) (tells : TellsLiterals) (one : OneNumber)
-    (of_node : TermOfNode) (assigns : AssignsByNumber) (own : AtomsOfTerms) (ns : List Node) (levels : List (List ℕ)) (assumed : List TermLit) (p : PreparedState) (posed : IsPosed ns levels assumed p)
-    (found : HasFound ns assumed p) (forms : AreForms p.sat.theory.simplex) (sound : IsSound p.sat.theory.simplex) (ps : List (ℕ × Value))
-    (adds : AddsValues p.sat.theory ns (position_over ns p.sat.theory.simplex) (flat_map (value_at ns p) p.form.terms.ids) ps) where
-  abbrev theory : Theory
-  theory = p.sat.theory
-
+module _ (rows_meet : RowsMeetTables) (decides : TablesDecide) (numbers : TermHasItsNumber) (of_node : TermOfNode) (assigns : AssignsByNumber) (own : AtomsOfTerms) (ns : List Node)
+    (levels : List (List ℕ)) (assumed : List TermLit) (p : PreparedState) (posed : IsPosed ns levels assumed p) (found : HasFound ns assumed p) (ps : List (ℕ × Value))
+    (adds : HasWorths p.sat.theory ns (flat_map (value_at ns p) p.form.terms.ids) ps) where
   ready : IsPrepared ns levels (levels ++ terms_named assumed ∷ []) p
   ready = posed.standing.raised
 
@@ -113,7 +105,7 @@ module _ (rows_meet : RowsMeetTables) (decides : TablesDecide) (met : ToldBounds
   truths u = if is_boolean_term u then truth_in p (number_in ns u) else None
 
   abbrev worths : Valuation
-  worths = meeting.worth_of met keep numbers tells one ns posed.table theory forms sound found.bounds.feasible found.at.over adds.values adds.fraction adds.has adds.numbers adds.chosen
+  worths = adds.worths
 
   covered_within : (t : ℕ) → IsSome (covered_at p.form t) → t < length ns
   covered_within t some = let n = some_of (covered_at p.form t) some in ready.covers.within t n.0 n.1
@@ -166,9 +158,8 @@ module _ (rows_meet : RowsMeetTables) (decides : TablesDecide) (met : ToldBounds
           (signed_term (term_in ns t) l.sign (truth_is t (covered_within t of.0) of.1 ∙ truth_t))
       by_atom (atoms.AtMost b) at x =
           let has = among l.atom x in
-          let told : Contains (told_lits theory) l = subst (λ (ls : List Lit). Contains ls l) (sym found.bounds.told) (found.bounds.all l has (b, at) holds) in
-          meeting.told_met met keep numbers tells one ns posed.table theory forms sound found.bounds.feasible found.at.over adds.values adds.fraction adds.has adds.numbers adds.chosen
-          truths p.log.atoms (atoms_of ns p) found.of found.forms found.told found.point found.at l told has b at
+          let told : Contains (told_lits p.sat.theory) l = subst (λ (ls : List Lit). Contains ls l) (sym found.bounds.told) (found.bounds.all l has (b, at) holds) in
+          adds.met truths p.log.atoms (atoms_of ns p) found.forms found.told found.point found.of found.at l told has b at
 
   rows_met : MeetsRows ns p.log truths worths
   rows_met i t row =
@@ -243,8 +234,7 @@ module _ (rows_meet : RowsMeetTables) (decides : TablesDecide) (met : ToldBounds
       ∙ ap (λ (o : Option Value). unwrap_or o (default_value c.sort)) (listed_behind (flat_map (value_at ns p) p.form.terms.ids) adds.added i (no_truth ns p p.form.terms.ids i c (head_at i c n) other)) in
       subst (λ (u : Term). unit_value values (apply (constant c) no_terms) =ℚ worths u) has.2
       (subst (λ (v : Value). number_of v =ℚ worths (term_in ns i)) (sym value)
-      (meeting.constant_worth met keep numbers tells one ns posed.table theory forms sound found.bounds.feasible found.at.over adds.values adds.fraction adds.has adds.numbers adds.chosen
-      adds.added adds.right i below c n.node n.at n.head real))
+      (adds.constants i n.node c n.at n.head real))
 
   -- ---- Terms
 
@@ -267,24 +257,7 @@ module _ (rows_meet : RowsMeetTables) (decides : TablesDecide) (met : ToldBounds
   each_value : AllByRecursion (IsValueOf ns) ps
   each_value =
       subst (AllByRecursion (IsValueOf ns)) (sym adds.joined)
-      (AllByRecursion-append (IsValueOf ns) (flat_map (value_at ns p) p.form.terms.ids) adds.added (constant_values ns p p.form.terms.ids)
-      (recursion_from_All (IsValueOf ns) adds.added (All-weaker (Contains adds.added) (IsValueOf ns) number_value adds.added (All-contains_itself adds.added))))
-    where
-      value_real : (s : Sort) (v : Value) (q : Fraction) → s ≡ real_sort → v ≡ number q → IsOfSort s v
-      value_real s v q real is = subst (λ (x : Value). IsOfSort s x) (sym is) (subst (λ (x : Sort). IsOfSort x (number q)) (sym real) tt)
-
-      number_value : (x : ℕ × Value) → Contains adds.added x → IsValueOf ns x
-      number_value x has =
-          let r = adds.right.right x.0 x.1 has in
-          let k : IsConstant theory ns x.0 r.0 = r.1 in
-          let node : k.node ≡ record { head = constant k.name; kids = k.node.kids } = ap (λ (h : Head). let n : Node = record { head = h; kids = k.node.kids } in n) k.head in
-          record {
-            of = k.name;
-            kids = k.node.kids;
-            node = k.at ∙ ap Some node;
-            sort = value_real k.name.sort x.1 r.2.0 k.real r.2.1;
-            fits = subst ValueFits (sym r.2.1) r.2.3;
-          }
+      (AllByRecursion-append (IsValueOf ns) (flat_map (value_at ns p) p.form.terms.ids) adds.added (constant_values ns p p.form.terms.ids) adds.values)
 
   sorted : IsAssignment values
   sorted = is_assignment ns ps each_value

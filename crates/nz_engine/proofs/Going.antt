@@ -6,6 +6,7 @@ use Rattle.std.proofs.lemmas.Bool.{leb-true, le-leb}
 use Rattle.std.proofs.lemmas.List.{length-append, take-append-le}
 use Rattle.std.proofs.lemmas.List.Elements.{All-contains, All-contains_itself, All-from_recursion, All-weaker, Contains-append_right, recursion_from_All}
 use Rattle.nz_lists.proofs.Elements.{AllByRecursion-weaker}
+use Rattle.nz_lists.proofs.Members.{has_cases, has_none}
 use Rattle.nz_lists.proofs.Options.{kept_if}
 use Rattle.nz_spec.specs.Table.{Node, IsTable, TermStays, term_in}
 use Rattle.nz_spec.specs.Order.{post_order}
@@ -24,7 +25,6 @@ use Rattle.nz_cform.specs.Covering.{IsRowAt, origin_at}
 use Rattle.nz_cform.specs.Forms.{covered_at}
 use Rattle.nz_cform.specs.Listings as listings
 use Rattle.nz_cform.specs.Listings.{ListingState, listed_at}
-use Rattle.nz_reals.proofs.Elements.{has_cases, has_none}
 use Rattle.nz_cform.specs.Laws.{CoversStay}
 use Rattle.nz_sat.specs.declared.clauses.Held.{Held}
 use Rattle.nz_sat.specs.Sats.{AreHeld, held_of, held_up_to}

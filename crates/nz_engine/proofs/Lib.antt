@@ -6,7 +6,6 @@ pub mod Ending
 pub mod Excluding
 pub mod Going
 pub mod Leveling
-pub mod Meeting
 pub mod Modeling
 pub mod Naming
 pub mod Onces

@@ -1,10 +1,10 @@
 -- Lists of numbers in which none stands twice, and the Boolean ones of some terms.
 use Rattle.std.proofs.Common.{◌≡◌, ◌⊎◌, inl, inr, ℕ, zero, suc, Bool, true, false, true≢false, List, [], ◌∷◌, ◌++◌, map, Some, refl, sym, ap, subst, ◌∙◌, arith}
 use Rattle.std.specs.Prelude.{Contains, if◌then◌else◌, ⊤}
+use Rattle.nz_lists.proofs.Members.{has_cases, has_first, has_more, has_none, map_from}
 use Rattle.nz_spec.specs.Gates.{is_boolean_term}
 use Rattle.nz_spec.specs.Literal.{StandOnce}
 use Rattle.nz_spec.specs.Table.{Node, term_in}
-use Rattle.nz_reals.proofs.Elements.{has_cases, has_first, has_more, has_none}
 use Rattle.nz_engine.specs.Preparing.{boolean_terms}
 use Rattle.nz_engine.proofs.Placing.{place_of, stands_there}
 
@@ -49,19 +49,11 @@ once_append (x ∷ xs) ys h k apart = (
   once_append xs ys h.1 k (λ y a b. apart y (has_more x y xs a) b),
 )
 
-from_map : (f : ℕ → ℕ) (xs : List ℕ) (y : ℕ) → Contains (map f xs) y → (x : ℕ) × Contains xs x × (f x ≡ y)
-from_map f [] y c = absurd (has_none y c)
-from_map f (x ∷ xs) y c =
-    elim (has_cases (f x) y (map f xs) c) [
-      | inl same ↦ (x, has_first x xs, same)
-      | inr more ↦ let of = from_map f xs y more in (of.0, has_more x of.0 xs of.1, of.2)
-    ]
-
 pub once_map : (f : ℕ → ℕ) (xs : List ℕ) → ((x y : ℕ) → Contains xs x → Contains xs y → f x ≡ f y → x ≡ y) → IsOnce xs → IsOnce (map f xs)
 once_map f [] one h = tt
 once_map f (x ∷ xs) one h = (
   (λ c.
-      let of = from_map f xs (f x) c in
+      let of = map_from f xs (f x) c in
       let same : of.0 ≡ x = one of.0 x (has_more x of.0 xs of.1) (has_first x xs) of.2 in
       h.0 (of_same of.0 same of.1)),
   once_map f xs (λ y z a b. one y z (has_more x y xs a) (has_more x z xs b)) h.1,

@@ -6,6 +6,7 @@ use Rattle.std.proofs.lemmas.Option.{get_or_from_slice_get, slice_get_within}
 use Rattle.std.proofs.lemmas.List.Elements.{All-append, All-contains, All-contains_itself, All-from_recursion, All-head, All-map, All-tail, All-weaker, Contains-append_left, Contains-append_right, Contains-get_or}
 use Rattle.nz_lists.proofs.Elements.{AllByRecursion-weaker}
 use Rattle.nz_fractions.specs.Fraction.{Fraction, neg_ℚ}
+use Rattle.nz_fractions.proofs.Identities.{neg-back, neg-nonzero}
 use Rattle.nz_spec.specs.Decide.{asserted_numbers}
 use Rattle.nz_spec.specs.Form as spec
 use Rattle.nz_spec.specs.Form.{negated_part}
@@ -20,6 +21,7 @@ use Rattle.nz_spec.specs.Work.{WorkList}
 use Rattle.nz_spec.specs.Term.{is_zero}
 use Rattle.nz_lin.specs.declared.bound.Bound.{Bound}
 use Rattle.nz_lin.specs.declared.form.Part.{Part}
+use Rattle.nz_lin.specs.Bounds.{bounded}
 use Rattle.nz_lin.specs.Forms.{parts_over}
 use Rattle.nz_log.specs.declared.atoms.Atom.{Atom}
 use Rattle.nz_log.specs.declared.atoms.Atom.TheVariants.{Term, AtMost}
@@ -43,9 +45,6 @@ use Rattle.nz_cform.specs.Listings.{IsListing, listed_at}
 use Rattle.nz_reals.specs.Knowing.{of_stays}
 use Rattle.nz_reals.specs.Stands.{HasTold, IsAt, IsFeasible, IsOf}
 use Rattle.nz_reals.specs.Sums.{AreNonzero}
-use Rattle.nz_reals.proofs.Saying.{bound_in_log}
-use Rattle.nz_fractions.proofs.Identities.{neg-nonzero}
-use Rattle.nz_reals.proofs.Sums.{number_back}
 use Rattle.nz_sat.specs.Numbers.{IsAtomAt, atom_literal}
 use Rattle.nz_sat.specs.Sats as sat
 use Rattle.nz_sat.specs.Sats.{AreNamed, AreOn, HoldsMore, IsAsked, IsSatisfied, IsTheoryMet, truth_of}
@@ -125,7 +124,7 @@ consistent_lits atoms ls has apart =
 
 unnegated : (ps : List spec.Part) → AreNonzeroParts (map negated_part ps) → AreNonzeroParts ps
 unnegated [] h = tt
-unnegated (p ∷ ps) h = (subst (λ (q : Fraction). is_zero q ≡ false) (number_back p.coefficient) (neg-nonzero (neg_ℚ p.coefficient) h.0), unnegated ps h.1)
+unnegated (p ∷ ps) h = (subst (λ (q : Fraction). is_zero q ≡ false) (neg-back p.coefficient) (neg-nonzero (neg_ℚ p.coefficient) h.0), unnegated ps h.1)
 
 by_sign : (ps : List spec.Part) (b : Fraction) (sign : Bool) → IsRowLiteral (with_sign sign (is_at_most ps b)) → AreNonzeroParts ps
 by_sign ps b true h = h
@@ -148,6 +147,12 @@ tabled_by ns q t ps b false listed h =
 normal_bound : (atoms : List Atom) (i : ℕ) (b : Bound) → AreAtoms atoms → slice_get atoms i ≡ Some (AtMost b) → b.strict ≡ false
 normal_bound atoms i b are at =
     All-contains IsNormal atoms (AtMost b) (All-from_recursion IsNormal atoms are.normal) (i, slice_get_within atoms i (AtMost b) at, get_or_from_slice_get atoms i (AtMost b) (AtMost b) at)
+
+-- what a literal on it says
+bound_in_log : (ns : List Node) (atoms : List Atom) (l : Lit) (b : Bound) → slice_get atoms l.atom ≡ Some (AtMost b) → b.strict ≡ false
+    → literal_in ns atoms l ≡ with_sign l.sign (is_at_most (parts_over ns b.sides.parts) b.sides.offset)
+bound_in_log ns atoms l b at normal =
+    literal_at_atom ns atoms l (AtMost b) at ∙ ap (λ (s : Bool). with_sign l.sign (bounded s (parts_over ns b.sides.parts) b.sides.offset)) normal
 
 entry_of : {X Y : Type 0} (f : X → Y) (o : Option X) (y : Y) → option_map f o ≡ Some y → (x : X) × (o ≡ Some x)
 entry_of f None y e = absurd cc

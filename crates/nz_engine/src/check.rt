@@ -24,10 +24,9 @@ use nz_base::{Memory, Work};
 use nz_cform::laws::{covers_stay, rows_meet_tables};
 use nz_log::laws::{atoms_of_terms, clauses_are_true, logs_stay, logs_stay_leveled};
 use nz_log::{Note, Stop, TermLit, Verdict};
-use nz_spec::deciding::{chosen_fractions_keep_bounds, tables_decide, told_bounds_are_met};
-use nz_spec::derivation::tells_literals;
+use nz_spec::deciding::tables_decide;
 use nz_spec::form::term_has_its_number;
-use nz_spec::table::{assigns_by_number, one_number, term_of_node, term_stays};
+use nz_spec::table::{assigns_by_number, term_of_node, term_stays};
 use nz_term::{Assign, Terms, known_table};
 use std::alloc::Global;
 
@@ -129,17 +128,12 @@ fn model(alloc: Global, terms: &Terms, prepared: &Prepared) -> Result<Assign, St
     ensures place { IfErr result (λ e. OnWide e (IsStopOf terms.now prepared.now.sat.theory)) }
     ensures unspent { IfErr result (λ e. e ≡ stop.Spent → ⊥) }
 {
-    one_number();
     term_of_node();
     assigns_by_number();
     term_has_its_number();
-    tells_literals();
     rows_meet_tables();
     tables_decide();
-    told_bounds_are_met();
-    chosen_fractions_keep_bounds();
     atoms_of_terms();
-    prepared.known();
     prepared.values(alloc, terms)
 }
 

@@ -20,13 +20,11 @@ ghost use Rattle.nz_log.specs.Verdicts.{OnSpent, task_in};
 ghost use Rattle.nz_cform.specs.Covering.{Covers};
 ghost use Rattle.nz_cform.specs.Forms.{covered_at};
 ghost use Rattle.nz_cform.specs.Stops as form;
-ghost use Rattle.nz_reals.specs.Chosen.{AddsValues};
+ghost use Rattle.nz_reals.specs.Chosen.{HasWorths};
 ghost use Rattle.nz_reals.specs.Stands.{HasTold, IsAt, IsFeasible, IsOf, IsOver};
 ghost use Rattle.nz_reals.specs.State.{empty_theory};
-ghost use Rattle.nz_reals.specs.Stored.{AreForms};
 ghost use Rattle.nz_sat.specs.Numbers.{IsAtomAt};
 ghost use Rattle.nz_sat.specs.Sats.{held_of};
-ghost use Rattle.nz_simplex.specs.State.{IsSound, position_over};
 ghost use Rattle.nz_engine.specs.Checking.{AreCovered, AreHanded, AreLearnable, AreNumbered, AreTakenAt, EndsWith, HasBegun, HasFound, IsPosed, IsReady, IsRootStop, IsStopOf, IsTermStop, MayBegin, NotesAll, NotesFirst, NotesForms, Works, atom_lines, note_of, terms_named, truth_in, value_at};
 ghost use Rattle.nz_engine.specs.Engines.{literals_in};
 ghost use Rattle.nz_engine.specs.Levels.{IsPlaced, count_of};
@@ -39,7 +37,7 @@ use nz_cform::laws::{covers_stay, rows_name_covered};
 use nz_cform::{ClauseForm, FormStop};
 use nz_log::laws::{atoms_of_terms, logs_stay, logs_stay_leveled, tells_lits};
 use nz_log::{Atom, AtomId, ClauseId, Lit, Log, Note, Place, Site, Step, Stop, TermLit};
-use nz_reals::{Reals, stored};
+use nz_reals::Reals;
 use nz_sat::Sat;
 use nz_spec::deciding::taken_terms_are_in_order;
 use nz_spec::derivation::tells_literals;
@@ -312,14 +310,6 @@ impl Prepared {
         self.form.bounds().len() == count
     }
 
-    /// Says what holds of the theory of each search.
-    pub fn known(&self)
-        ensures forms { AreForms self.now.sat.theory.simplex }
-        ensures sound { IsSound self.now.sat.theory.simplex }
-    {
-        stored(&self.sat.theory);
-    }
-
     /// The truths of the constants that the last search found, and the numbers of those in bounds.
     ///
     /// # Errors
@@ -329,7 +319,7 @@ impl Prepared {
         requires covers { Covers terms.now self.now.log self.now.form }
         requires over { IsOver self.now.sat.theory terms.now }
         requires feasible { IsFeasible self.now.sat.theory }
-        ensures values { IfOk result (λ ps. AddsValues self.now.sat.theory terms.now (position_over terms.now self.now.sat.theory.simplex) (flat_map (value_at terms.now self.now) self.now.form.terms.ids) ps) }
+        ensures worths { IfOk result (HasWorths self.now.sat.theory terms.now (flat_map (value_at terms.now self.now) self.now.form.terms.ids)) }
         ensures place { IfErr result (λ e. OnWide e (IsStopOf terms.now self.now.sat.theory)) }
         ensures unspent { IfErr result (λ e. e ≡ stop.Spent → ⊥) }
     {
@@ -528,7 +518,7 @@ fn values_of(
     requires within { All (λ t. t < length terms.now) covered.now }
     requires over { IsOver prepared.now.sat.theory terms.now }
     requires feasible { IsFeasible prepared.now.sat.theory }
-    ensures values { IfOk result (λ ps. AddsValues prepared.now.sat.theory terms.now (position_over terms.now prepared.now.sat.theory.simplex) (flat_map (value_at terms.now prepared.now) covered.now) ps) }
+    ensures worths { IfOk result (HasWorths prepared.now.sat.theory terms.now (flat_map (value_at terms.now prepared.now) covered.now)) }
     ensures place { IfErr result (λ e. OnWide e (IsStopOf terms.now prepared.now.sat.theory)) }
     ensures unspent { IfErr result (λ e. e ≡ stop.Spent → ⊥) }
 {
