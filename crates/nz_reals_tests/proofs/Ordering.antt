@@ -1,6 +1,6 @@
 -- A theory with its log, as the log grows, as literals are told and taken back, and as it learns of an atom.
-use Rattle.std.proofs.Common.{◌≡◌, ◌≢◌, true, false, ℕ, suc, ◌<◌, ◌≤◌, ◌+◌, inl, inr, List, [], ◌∷◌, ◌++◌, length, map, take, Option, Some, None, IfSome, refl, sym, ap, subst, ◌∙◌, arith}
-use Rattle.std.specs.Prelude.{All, Contains, IsSome, slice_get, slice_index_or}
+use Rattle.std.proofs.Common.{◌≡◌, ◌≢◌, true, false, ℕ, suc, ◌<◌, ◌+◌, inl, inr, List, [], ◌∷◌, ◌++◌, length, map, take, Option, Some, None, IfSome, refl, sym, subst, ◌∙◌, arith}
+use Rattle.std.specs.Prelude.{All, Contains, IsSome, slice_index_or}
 use Rattle.std.proofs.lemmas.Option.{same_Some}
 use Rattle.std.proofs.lemmas.List.{map_push}
 use Rattle.std.proofs.lemmas.List.Elements.{All-contains, All-from_recursion, All-map, All-push, All-take, All-weaker, recursion_from_All}
@@ -8,11 +8,9 @@ use Rattle.nz_lists.proofs.Members.{map_has}
 use Rattle.nz_lists.proofs.Numbers.{same_or_below}
 use Rattle.nz_spec.specs.Table.{IsTable, Node}
 use Rattle.nz_spec.specs.Term.{is_zero}
-use Rattle.nz_lin.specs.declared.bound.Bound.{Bound}
 use Rattle.nz_lin.specs.declared.form.Part.{Part}
 use Rattle.nz_lin.specs.Bounds.{HasUnits}
 use Rattle.nz_lin.specs.Forms.{NamesUnit}
-use Rattle.nz_log.specs.declared.atoms.Atom.{Atom}
 use Rattle.nz_log.specs.declared.atoms.Atom.TheVariants.{AtMost}
 use Rattle.nz_log.specs.declared.lits.Lit.{Lit}
 use Rattle.nz_log.specs.Atoms.{IsAtomIn, IsLitIn, Stay, terms_of, unit_numbers}
@@ -23,7 +21,6 @@ use Rattle.nz_reals.specs.Joins.{IsAtomFor}
 use Rattle.nz_reals.specs.Knowing.{of_stays}
 use Rattle.nz_reals.specs.Stands.{HasTold, IsOf, IsOver}
 use Rattle.nz_reals.specs.State.{Theory, empty_theory, told_lits}
-use Rattle.nz_reals.specs.Sums.{AreNonzero}
 use Rattle.nz_reals_tests.specs.Systems.{AreAllPlaced, IsInOrder, IsSum}
 
 -- ---- The log

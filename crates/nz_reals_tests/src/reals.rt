@@ -14,6 +14,8 @@ const ROWS: &[Row] = &[
     Row([0, 1, 0], 100), // 7: y <= 100
     Row([1, 0, -1], 0), // 8: x <= z
     Row([1, 0, 0], 5), // 9: x <= 5
+    Row([2, 3, 0], 1), // 10: 2*x + 3*y <= 1
+    Row([0, -2, 0], 1), // 11: y >= -1/2
 ];
 
 const CLASHES: &[Act] = &[
@@ -44,6 +46,13 @@ const CLASHES: &[Act] = &[
     Act::Feasible(&[-1, -2, -8]),
     Act::Tell(8),
     Act::Clash(&[-1, -2, 8]),
+    Act::Undo(0),
+    // 10, twice 5 and 3/2 times 11: the sum is 0 <= -3/2.
+    Act::Tell(5),
+    Act::Tell(10),
+    Act::Feasible(&[5, 10, -11]),
+    Act::Tell(11),
+    Act::Clash(&[5, 10, 11]),
 ];
 
 #[test]
