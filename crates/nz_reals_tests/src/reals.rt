@@ -1,0 +1,89 @@
+//! What a theory makes of bounds over rows: clashes, and what comes after literals are taken back.
+
+use crate::acts::{Act, run};
+use crate::system::Row;
+use std::test::Fail;
+
+const ROWS: &[Row] = &[
+    Row([1, -1, 0], 0), // 1: x <= y
+    Row([0, 1, -1], 0), // 2: y <= z
+    Row([-1, 0, 1], -1), // 3: z <= x - 1
+    Row([1, 1, 1], 3), // 4: x + y + z <= 3
+    Row([-1, 0, 0], -2), // 5: x >= 2
+    Row([1, 0, 0], 1), // 6: x <= 1
+    Row([0, 1, 0], 100), // 7: y <= 100
+    Row([1, 0, -1], 0), // 8: x <= z
+    Row([1, 0, 0], 5), // 9: x <= 5
+    Row([2, 3, 0], 1), // 10: 2*x + 3*y <= 1
+    Row([0, -2, 0], 1), // 11: y >= -1/2
+];
+
+const CLASHES: &[Act] = &[
+    Act::Tell(7),
+    Act::Tell(1),
+    Act::Tell(2),
+    Act::Told(3),
+    Act::Feasible(&[7, 1, 2, 8]),
+    // The sum of 1, 2 and 3 is 0 <= -1.
+    Act::Tell(9),
+    Act::Tell(3),
+    Act::Clash(&[1, 2, 3]),
+    Act::Undo(3),
+    Act::Told(3),
+    Act::Feasible(&[7, 1, 2, 8]),
+    // Twice 1, 2, 4 and three times 5: the sum is 0 <= -3.
+    Act::Tell(4),
+    Act::Feasible(&[7, 1, 2, 4]),
+    Act::Tell(5),
+    Act::Clash(&[1, 2, 4, 5]),
+    Act::Undo(4),
+    Act::Tell(6),
+    Act::Feasible(&[7, 1, 2, 4, 6, -5]),
+    Act::Undo(0),
+    // x > y and y > z, and x <= z: the sum is 0 < 0.
+    Act::Tell(-1),
+    Act::Tell(-2),
+    Act::Feasible(&[-1, -2, -8]),
+    Act::Tell(8),
+    Act::Clash(&[-1, -2, 8]),
+    Act::Undo(0),
+    // 10, twice 5 and 3/2 times 11: the sum is 0 <= -3/2.
+    Act::Tell(5),
+    Act::Tell(10),
+    Act::Feasible(&[5, 10, -11]),
+    Act::Tell(11),
+    Act::Clash(&[5, 10, 11]),
+];
+
+#[test]
+fn bounds_clash_over_rows(rt: HostRuntime) -> Result<(), Fail> {
+    run(rt.alloc(), ROWS, CLASHES)
+}
+
+// A bound that clashes with one of the same sum is refused at once, and isn't told.
+const REFUSED: &[Act] = &[
+    Act::Tell(5),
+    Act::Refuse(6, &[5, 6]),
+    Act::Told(1),
+    Act::Tell(9),
+    Act::Feasible(&[5, -6, 9]),
+    Act::Undo(0),
+    Act::Tell(6),
+    Act::Refuse(-9, &[6, -9]),
+];
+
+#[test]
+fn a_bound_is_refused(rt: HostRuntime) -> Result<(), Fail> {
+    run(rt.alloc(), ROWS, REFUSED)
+}
+
+// Lower bounds of x, the weakest first: above 1, at least 2, above 5; of x - z: above 0, at least 1.
+const NEIGHBOURS: &[Act] = &[
+    Act::Excludes(0, &[&[5, 6], &[-9, -5], &[3, 8]]),
+    Act::Excludes(8, &[&[-9, -5]]),
+];
+
+#[test]
+fn neighbouring_bounds_exclude_each_other(rt: HostRuntime) -> Result<(), Fail> {
+    run(rt.alloc(), ROWS, NEIGHBOURS)
+}
