@@ -1,0 +1,41 @@
+//! What a check assumes, as the engine is asked.
+ghost use Rattle.std.specs.Prelude.{◌≡◌, map, IfOk, true, false};
+ghost use Rattle.nz_log.specs.TermLits.{AreConsistent};
+ghost use Rattle.nz_session.specs.Assumed.{DenyEachOther, lit_of};
+
+use nz_base::Memory;
+use nz_log::TermLit;
+use nz_sort::Assumed;
+use nz_term::{Assign, Value};
+use std::alloc::Global;
+
+/// The literals that terms are assumed by.
+pub(crate) fn literals_of(alloc: Global, assumed: &[Assumed]) -> Result<Vec<TermLit>, Memory>
+    ensures literals { IfOk result (λ ls. ls.items ≡ map lit_of assumed.now) }
+{
+    Ok(
+        assumed
+            .iter()
+            .map(|one| TermLit {
+                term: one.term,
+                sign: one.is_true,
+            })
+            .collect(alloc)?,
+    )
+}
+
+/// None of these literals is the negation of another.
+pub(crate) fn are_consistent(alloc: Global, literals: &[TermLit]) -> Result<bool, Memory>
+    ensures yes { IfOk result (λ b. b ≡ true → AreConsistent literals.now) }
+    ensures no { IfOk result (λ b. b ≡ false → DenyEachOther literals.now) }
+{
+    let mut signs = Assign::new(alloc)?;
+    for literal in literals {
+        let denied = Value::Truth(!literal.sign);
+        if signs.value(literal.term) == Some(denied) {
+            return Ok(false);
+        }
+        signs.push(literal.term, Value::Truth(literal.sign))?;
+    }
+    Ok(true)
+}
