@@ -6,8 +6,8 @@ ghost use Rattle.nz_session.specs.Assumed.{DenyEachOther, lit_of};
 use nz_base::Memory;
 use nz_log::TermLit;
 use nz_sort::Assumed;
-use nz_term::{Assign, Value};
 use std::alloc::Global;
+use std::collections::HashMap;
 
 /// The literals that terms are assumed by.
 pub(crate) fn literals_of(alloc: Global, assumed: &[Assumed]) -> Result<Vec<TermLit>, Memory>
@@ -29,13 +29,13 @@ pub(crate) fn are_consistent(alloc: Global, literals: &[TermLit]) -> Result<bool
     ensures yes { IfOk result (λ b. b ≡ true → AreConsistent literals.now) }
     ensures no { IfOk result (λ b. b ≡ false → DenyEachOther literals.now) }
 {
-    let mut signs = Assign::new(alloc)?;
+    let mut signs = HashMap::new(alloc);
     for literal in literals {
-        let denied = Value::Truth(!literal.sign);
-        if signs.value(literal.term) == Some(denied) {
-            return Ok(false);
+        if let Some(sign) = signs.insert(literal.term, literal.sign)? {
+            if sign != literal.sign {
+                return Ok(false);
+            }
         }
-        signs.push(literal.term, Value::Truth(literal.sign))?;
     }
     Ok(true)
 }

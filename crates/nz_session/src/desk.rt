@@ -132,6 +132,7 @@ impl<E: Decide> Desk<E> {
         ensures front { IsFrontOfTable (table_of self.old) (table_of self.new) }
     {
         argument_tells();
+        assumptions_are_taken();
         states_stay_sorted();
         match self.live.command(&mut self.terms, tree) {
             Err(refusal) => said(Reply::Error(refusal)),

@@ -1,5 +1,9 @@
 //! Models of the live constants.
-ghost use Rattle.std.specs.Prelude.{◌≡◌, ◌++◌, slice_get, IfOk, OnOk};
+ghost use Rattle.std.specs.Prelude.{◌≡◌, ◌++◌, slice_get, unwrap_or, IfOk, OnOk};
+ghost use Rattle.nz_spec.specs.Table.{listed_value};
+ghost use Rattle.nz_spec.specs.Term.{default_value as default_at};
+ghost use Rattle.nz_term.specs.Constants.{sort_of};
+ghost use Rattle.nz_term.specs.Values.{value_of};
 ghost use Rattle.nz_sort.specs.Items.{table_numbers};
 ghost use Rattle.nz_sort.specs.Live.{constants_by};
 ghost use Rattle.nz_session.specs.Completed.{bound_at, completed, completed_values, valued_at};
@@ -8,7 +12,7 @@ use nz_base::Memory;
 use nz_reply::{Binding, Bindings};
 use nz_sort::{Accepted, Live};
 use nz_spec::table::assigns_by_number;
-use nz_term::{Assign, Head, TermId, Terms, known_table};
+use nz_term::{Assign, Head, Sort, TermId, Terms, Value, known_table};
 use nz_truth::default_value;
 use std::alloc::Global;
 use std::rc::Rc;
@@ -102,7 +106,14 @@ fn bind(
         return Ok(());
     };
     let constant = constant.clone()?;
-    let value = assign.value(id).unwrap_or(default_value(constant.sort));
-    values.push(id, value)?;
+    values.push(id, value_in(assign, id, constant.sort))?;
+    let value = value_in(assign, id, constant.sort);
     bindings.push(Binding { constant, value })
+}
+
+/// The value that the assignment gives the constant of this number, or else the default of its sort.
+fn value_in(assign: &Assign, id: TermId, sort: Sort) -> Value
+    ensures value { value_of result ≡ unwrap_or (listed_value assign.now id) (default_at (sort_of sort)) }
+{
+    assign.value(id).unwrap_or(default_value(sort))
 }

@@ -1,0 +1,80 @@
+-- Assumed terms as literals of a table, and such literals that deny each other.
+use Rattle.std.proofs.Common.{◌≡◌, ◌==◌, ◌<◌, ◌≤◌, ◌+◌, inl, inr, ℕ, Bool, true, false, not, cond, IsTrue, List, [], ◌∷◌, ◌++◌, length, map, take, get_or, Option, Some, None, refl, sym, ap, ◌∙◌, subst, arith}
+use Rattle.std.specs.Prelude.{All, Contains}
+use Rattle.std.specs.List.{AllByRecursion}
+use Rattle.std.proofs.lemmas.Bool.Decides.{eqb_tells}
+use Rattle.std.proofs.lemmas.List.{take_all}
+use Rattle.std.proofs.lemmas.List.Elements.{All-contains, All-from_recursion, All-map, All-more, Contains-get_or}
+use Rattle.nz_lists.proofs.Elements.{AllByRecursion-map}
+use Rattle.nz_spec.specs.Term.{Term, Assignment, is_true, value_of}
+use Rattle.nz_spec.specs.Normal.{NormalKeepsValue}
+use Rattle.nz_spec.specs.Table.{Node, term_in}
+use Rattle.nz_spec.specs.Literal.{Literal, term_literal, is_at_most, is_below, are_same_sign, is_literal_true}
+use Rattle.nz_spec.specs.Model.{IsModel, IsUnsatisfiable}
+use Rattle.nz_log.specs.declared.term_lits.TermLit.{TermLit}
+use Rattle.nz_log.specs.TermLits.{turned, literal_of, AreConsistent}
+use Rattle.nz_sort.specs.declared.acts.Assumed.{Assumed}
+use Rattle.nz_sort.specs.Assuming.{IsAssumed, AreAssumed}
+use Rattle.nz_session.specs.Assumed.{lit_of, IsLitOf, AreLitsOf, IsTakenAt, DenyEachOther}
+use Rattle.nz_session.proofs.LegalWork.{lits_true}
+
+-- ---- What is assumed, by the literals that the engine is asked
+
+lit_is : (ns : List Node) (x : Assumed) (l : Literal) → IsAssumed ns x l → IsLitOf ns (lit_of x) l
+lit_is ns x (term_literal t sign) h = (h.0.term, h.1)
+lit_is ns x (is_at_most ps b) h = absurd h
+lit_is ns x (is_below ps b) h = absurd h
+
+pub lits_are : (ns : List Node) (xs : List Assumed) (ls : List Literal) → AreAssumed ns xs ls → AreLitsOf ns (map lit_of xs) ls
+lits_are ns [] [] h = tt
+lits_are ns [] (l ∷ ls) h = absurd h
+lits_are ns (x ∷ xs) [] h = absurd h
+lits_are ns (x ∷ xs) (l ∷ ls) h = (lit_is ns x l h.0, lits_are ns xs ls h.1)
+
+pub lits_taken : (ns : List Node) (xs : List Assumed) → All (λ (x : Assumed). IsTakenAt ns x.term) xs → All (λ (l : TermLit). IsTakenAt ns l.term) (map lit_of xs)
+lits_taken ns xs h = All-map (λ (l : TermLit). IsTakenAt ns l.term) lit_of xs h
+
+-- ---- Literals that deny each other
+
+-- a literal and its negation aren't both true
+contradict : (sign value : Bool) → IsTrue (are_same_sign sign value) → IsTrue (are_same_sign (not sign) value) → ⊥
+contradict true true h k = absurd cc
+contradict true false h k = absurd cc
+contradict false true h k = absurd cc
+contradict false false h k = absurd cc
+
+-- so there is no model under them
+pub no_model_denied : NormalKeepsValue → (ns : List Node) (asserted : List Term) (lits : List TermLit) (ls : List Literal) → AreLitsOf ns lits ls → DenyEachOther lits → IsUnsatisfiable asserted ls
+no_model_denied keeps ns asserted lits ls are d a m =
+    let holds : Literal → Type 0 = λ l. IsTrue (is_literal_true a l) in
+    let each = All-from_recursion (λ (l : TermLit). holds (literal_of ns l)) lits (AllByRecursion-map holds (literal_of ns) lits (lits_true keeps ns a lits ls are m.assumed_hold)) in
+    contradict d.one.sign (is_true (value_of a (term_in ns d.one.term)))
+    (All-contains (λ (l : TermLit). holds (literal_of ns l)) lits d.one each d.stands)
+    (All-contains (λ (l : TermLit). holds (literal_of ns l)) lits (turned d.one) each d.denied)
+
+-- ---- Signs by the numbers of terms
+
+-- what a map gives terms are the signs of these literals
+pub record HasSigns (signs : ℕ → Option Bool) (ls : List TermLit) : Type 0 where
+  pub lists : All (λ (l : TermLit). signs l.term ≡ Some l.sign) ls
+  pub has : (i : ℕ) (sign : Bool) → signs i ≡ Some sign → (l : TermLit) × Contains ls l × (l.term ≡ i) × (l.sign ≡ sign)
+
+opposite : (a b : Bool) → (a ≡ b → ⊥) → not a ≡ b
+opposite true true n = absurd (n refl)
+opposite true false n = refl
+opposite false true n = refl
+opposite false false n = absurd (n refl)
+
+is_opposite : (a : Bool) → not a ≡ a → ⊥
+is_opposite true e = absurd cc
+is_opposite false e = absurd cc
+
+some_sign : (a b : Bool) → Some a ≡ Some b → a ≡ b
+some_sign a b e = cc
+
+-- then none of them denies another
+pub signs_agree : (signs : ℕ → Option Bool) (ls : List TermLit) → HasSigns signs ls → AreConsistent ls
+signs_agree signs ls h k d below denied =
+    let l = get_or ls k d in
+    let of : TermLit → Type 0 = λ m. signs m.term ≡ Some m.sign in
+    is_opposite l.sign (some_sign (not l.sign) l.sign (sym (All-contains of ls (turned l) h.lists denied) ∙ h.lists k d below))
