@@ -1,10 +1,10 @@
 -- Assumed terms as literals of a table, and such literals that deny each other.
-use Rattle.std.proofs.Common.{◌≡◌, ◌==◌, ◌<◌, ◌≤◌, ◌+◌, inl, inr, ℕ, Bool, true, false, not, cond, IsTrue, List, [], ◌∷◌, ◌++◌, length, map, take, get_or, Option, Some, None, refl, sym, ap, ◌∙◌, subst, arith}
+use Rattle.std.proofs.Common.{◌≡◌, ◌==◌, ◌<◌, ◌≤◌, ◌+◌, inl, inr, ℕ, Bool, true, false, not, cond, IsTrue, List, [], ◌∷◌, ◌++◌, length, map, take, drop, get_or, Option, Some, None, refl, sym, ap, ◌∙◌, subst, arith}
 use Rattle.std.specs.Prelude.{All, Contains}
 use Rattle.std.specs.List.{AllByRecursion}
 use Rattle.std.proofs.lemmas.Bool.Decides.{eqb_tells}
-use Rattle.std.proofs.lemmas.List.{take_all}
-use Rattle.std.proofs.lemmas.List.Elements.{All-contains, All-from_recursion, All-map, All-more, Contains-get_or}
+use Rattle.std.proofs.lemmas.List.{take-append-drop, take_more}
+use Rattle.std.proofs.lemmas.List.Elements.{All-contains, All-from_recursion, All-map, All-nil, All-push, All-weaker, Contains-append_left, Contains-append_right, Contains-get_or}
 use Rattle.nz_lists.proofs.Elements.{AllByRecursion-map}
 use Rattle.nz_spec.specs.Term.{Term, Assignment, is_true, value_of}
 use Rattle.nz_spec.specs.Normal.{NormalKeepsValue}
@@ -52,6 +52,9 @@ no_model_denied keeps ns asserted lits ls are d a m =
     (All-contains (λ (l : TermLit). holds (literal_of ns l)) lits d.one each d.stands)
     (All-contains (λ (l : TermLit). holds (literal_of ns l)) lits (turned d.one) each d.denied)
 
+contained_in_front : (ls : List TermLit) (k : ℕ) (l : TermLit) → Contains (take k ls) l → Contains ls l
+contained_in_front ls k l h = subst (λ ms. Contains ms l) (take-append-drop k ls) (Contains-append_left (take k ls) (drop k ls) l h)
+
 -- ---- Signs by the numbers of terms
 
 -- what a map gives terms are the signs of these literals
@@ -71,6 +74,70 @@ is_opposite false e = absurd cc
 
 some_sign : (a b : Bool) → Some a ≡ Some b → a ≡ b
 some_sign a b e = cc
+
+-- of none
+pub signs_none : (signs : ℕ → Option Bool) → ((i : ℕ) → signs i ≡ None) → HasSigns signs []
+signs_none signs none =
+    record {
+      lists = All-nil (λ (l : TermLit). signs l.term ≡ Some l.sign);
+      has = λ i sign e. let both : None ≡ Some sign = sym (none i) ∙ e in absurd cc;
+    }
+
+-- of one more, where it denies none of them
+module _ (signs new : ℕ → Option Bool) (ls : List TermLit) (l : TermLit) (agree : (sign : Bool) → signs l.term ≡ Some sign → sign ≡ l.sign)
+    (put : (i : ℕ) → new i ≡ cond (l.term == i) (Some l.sign) (signs i)) (h : HasSigns signs ls) where
+  put_here : (i : ℕ) → (l.term == i) ≡ true → new i ≡ Some l.sign
+  put_here i e = put i ∙ ap (λ b. cond b (Some l.sign) (signs i)) e
+
+  put_there : (i : ℕ) → (l.term == i) ≡ false → new i ≡ signs i
+  put_there i e = put i ∙ ap (λ b. cond b (Some l.sign) (signs i)) e
+
+  listed_still : (m : TermLit) → signs m.term ≡ Some m.sign → new m.term ≡ Some m.sign
+  listed_still m e =
+      elim (eqb_tells l.term m.term) [
+        | inl same ↦ put_here m.term same.0 ∙ ap Some (sym (agree m.sign (ap signs same.1 ∙ e)))
+        | inr other ↦ put_there m.term other.0 ∙ e
+      ]
+
+  listed_here : new l.term ≡ Some l.sign
+  listed_here =
+      elim (eqb_tells l.term l.term) [
+        | inl same ↦ put_here l.term same.0
+        | inr other ↦ absurd (other.1 refl)
+      ]
+
+  has_more : (i : ℕ) (sign : Bool) → new i ≡ Some sign → (m : TermLit) × Contains (ls ++ l ∷ []) m × (m.term ≡ i) × (m.sign ≡ sign)
+  has_more i sign e =
+      elim (eqb_tells l.term i) [
+        | inl same ↦ (l, Contains-append_right ls (l ∷ []) l (0, omega arith, refl), same.1, some_sign l.sign sign (sym (put_here i same.0) ∙ e))
+        | inr other ↦
+            let m = h.has i sign (sym (put_there i other.0) ∙ e) in
+            (m.0, Contains-append_left ls (l ∷ []) m.0 m.1, m.2, m.3)
+      ]
+
+  signs_push : HasSigns new (ls ++ l ∷ [])
+  signs_push =
+      let old : TermLit → Type 0 = λ m. signs m.term ≡ Some m.sign in
+      let listed : TermLit → Type 0 = λ m. new m.term ≡ Some m.sign in
+      record { lists = All-push listed ls l (All-weaker old listed listed_still ls h.lists) listed_here; has = has_more }
+
+pub signs_more : (signs new : ℕ → Option Bool) (ls : List TermLit) (k : ℕ) (d l : TermLit) → k < length ls → l ≡ get_or ls k d → ((sign : Bool) → signs l.term ≡ Some sign → sign ≡ l.sign)
+    → ((i : ℕ) → new i ≡ cond (l.term == i) (Some l.sign) (signs i)) → HasSigns signs (take k ls) → HasSigns new (take (k + 1) ls)
+signs_more signs new ls k d l below is agree put h =
+    subst (HasSigns new) (ap (λ m. take k ls ++ m ∷ []) is ∙ sym (take_more ls k d below)) (signs_push signs new (take k ls) l agree put h)
+
+-- a literal of another sign than the map has is the negation of one of them
+pub denies_one : (signs : ℕ → Option Bool) (ls : List TermLit) (k : ℕ) (d l : TermLit) (sign : Bool) → k < length ls → l ≡ get_or ls k d → signs l.term ≡ Some sign → (sign ≡ l.sign → ⊥)
+    → HasSigns signs (take k ls) → DenyEachOther ls
+denies_one signs ls k d l sign below is e other h =
+    let one = h.has l.term sign e in
+    let differs : not l.sign ≡ one.0.sign = opposite l.sign one.0.sign (λ x. other (sym one.3 ∙ sym x)) in
+    let denied : turned l ≡ one.0 = λ i. let m : TermLit = record { term = sym one.2 i; sign = differs i } in m in
+    record {
+      one = l;
+      stands = subst (Contains ls) (sym is) (Contains-get_or ls k d below);
+      denied = subst (Contains ls) (sym denied) (contained_in_front ls k one.0 one.1);
+    }
 
 -- then none of them denies another
 pub signs_agree : (signs : ℕ → Option Bool) (ls : List TermLit) → HasSigns signs ls → AreConsistent ls
