@@ -1,8 +1,9 @@
 -- The model of the live constants that is made of the values that a search gave.
-use Rattle.std.proofs.Common.{◌≡◌, ℕ, zero, suc, ◌+◌, ◌<◌, ◌≤◌, Bool, true, false, ◌||◌, IsTrue, List, [], ◌∷◌, ◌++◌, length, map, drop, Option, Some, None, option_map, refl, sym, ap, ◌∙◌, subst, get_or, true≢false, add-one, append-nil, append_assoc}
-use Rattle.std.specs.Prelude.{Contains, slice_get, bytes_eq, pos, unwrap_or, if◌then◌else◌}
+use Rattle.std.proofs.Common.{◌≡◌, ℕ, zero, suc, ◌+◌, ◌<◌, ◌≤◌, Bool, true, false, ◌||◌, IsTrue, List, [], ◌∷◌, ◌++◌, length, map, drop, Option, Some, None, option_map, refl, sym, ap, ◌∙◌, subst, arith, get_or, true≢false, add-one, append-nil, append_assoc}
+use Rattle.std.specs.Prelude.{Contains, flat_map, slice_get, bytes_eq, pos, unwrap_or, if◌then◌else◌}
 use Rattle.std.specs.List.{AllByRecursion, list_any}
 use Rattle.std.specs.Cmp.Lexicographic.{nat_list_eq_equiv}
+use Rattle.std.proofs.lemmas.Grind.{flat_map-append}
 use Rattle.std.proofs.lemmas.Slice.Eq.{bytes_eq-Decides}
 use Rattle.std.proofs.lemmas.List.Folds.{list_any_at}
 use Rattle.std.proofs.lemmas.List.Elements.{recursion_from_All}
@@ -25,10 +26,10 @@ use Rattle.nz_spec.specs.Sorts.{IsAssumable}
 use Rattle.nz_log.specs.declared.term_lits.TermLit.{TermLit}
 use Rattle.nz_log.specs.TermLits.{literal_of}
 use Rattle.nz_log.specs.Verdicts.{task_in}
-use Rattle.nz_term.specs.Values.{value_of}
-use Rattle.nz_term.specs.declared.assign.Value as own
 use Rattle.nz_sort.specs.declared.items.Accepted.{Accepted}
+use Rattle.nz_sort.specs.declared.levels.Level.{Level}
 use Rattle.nz_sort.specs.Items.{table_numbers}
+use Rattle.nz_sort.specs.Layers.{Layer, layer_of}
 use Rattle.nz_sort.specs.Live.{Standing, asserted_by, constants_by, IsLive}
 use Rattle.nz_session.specs.Completed.{bound_at, completed, valued_at, completed_values}
 
@@ -299,17 +300,12 @@ head_node : (h : Head) (o : Option Node) → option_map (λ (n : Node). n.head) 
 head_node h None e = absurd cc
 head_node h (Some n) e = (n, refl, cc)
 
-value_chosen : (o : Option own.Value) (d : own.Value) → value_of (unwrap_or o d) ≡ unwrap_or (option_map value_of o) (value_of d)
-value_chosen None d = refl
-value_chosen (Some v) d = refl
-
 -- the value of a constant that has one by its number, or else the default of its sort
-given_value : AssignsByNumber → (ns : List Node) → IsTable ns → (ps : List (ℕ × Value)) (id : ℕ) (k : Constant) (o : Option own.Value) (d v : own.Value)
-    → option_map (λ (n : Node). n.head) (slice_get ns id) ≡ Some (constant k) → option_map value_of o ≡ listed_value ps id → value_of d ≡ default_value k.sort → v ≡ unwrap_or o d
-    → value_of v ≡ assignment_by ns ps k
-given_value law ns table ps id k o d v head at none is =
+given_value : AssignsByNumber → (ns : List Node) → IsTable ns → (ps : List (ℕ × Value)) (id : ℕ) (k : Constant) (v : Value) → option_map (λ (n : Node). n.head) (slice_get ns id) ≡ Some (constant k)
+    → v ≡ unwrap_or (listed_value ps id) (default_value k.sort) → v ≡ assignment_by ns ps k
+given_value law ns table ps id k v head is =
     let n = head_node (constant k) (slice_get ns id) head in
-    ap value_of is ∙ value_chosen o d ∙ ap (λ m. unwrap_or m (value_of d)) at ∙ ap (unwrap_or (listed_value ps id)) none ∙ sym (law ns table ps id n.0 k n.1 n.2)
+    is ∙ sym (law ns table ps id n.0 k n.1 n.2)
 
 valued_by_head : (ns : List Node) (ps : List (ℕ × Value)) (id : ℕ) (o : Option Node) (h : Head) → option_map (λ (n : Node). n.head) o ≡ Some h
     → valued_at ns ps id o ≡ map (λ (c : Constant). (id, assignment_by ns ps c)) (constants_of_head h)
@@ -319,13 +315,12 @@ valued_by_head ns ps id (Some n) h e =
     ap (λ x. map (λ (c : Constant). (id, assignment_by ns ps c)) (constants_of_head x)) same
 
 -- one value more by number
-pub given_pair : AssignsByNumber → (ns : List Node) → IsTable ns → (ps : List (ℕ × Value)) (id : ℕ) (k : Constant) (o : Option own.Value) (d v : own.Value) (old new : List (ℕ × Value))
-    → option_map (λ (n : Node). n.head) (slice_get ns id) ≡ Some (constant k) → option_map value_of o ≡ listed_value ps id → value_of d ≡ default_value k.sort → v ≡ unwrap_or o d
-    → new ≡ old ++ (id, value_of v) ∷ []
+pub given_pair : AssignsByNumber → (ns : List Node) → IsTable ns → (ps : List (ℕ × Value)) (id : ℕ) (k : Constant) (v : Value) (old new : List (ℕ × Value))
+    → option_map (λ (n : Node). n.head) (slice_get ns id) ≡ Some (constant k) → v ≡ unwrap_or (listed_value ps id) (default_value k.sort) → new ≡ old ++ (id, v) ∷ []
     → new ≡ old ++ valued_at ns ps id (slice_get ns id)
-given_pair law ns table ps id k o d v old new head at none is grown =
+given_pair law ns table ps id k v old new head is grown =
     grown
-    ∙ ap (λ w. old ++ (id, w) ∷ []) (given_value law ns table ps id k o d v head at none is)
+    ∙ ap (λ w. old ++ (id, w) ∷ []) (given_value law ns table ps id k v head is)
     ∙ ap (λ bs. old ++ bs) (sym (valued_by_head ns ps id (slice_get ns id) (constant k) head))
 
 -- a number past the table has no value
@@ -343,11 +338,35 @@ valued_more ns ps items k d old new total below grown h =
     ap (λ m. new ++ completed_values ns ps (table_numbers (drop m items))) (add-one k) ∙ ap (λ bs. bs ++ rest) grown ∙ append_assoc old first rest ∙ ap (λ bs. old ++ bs) (sym step) ∙ h
 
 -- one binding more, of a constant that has a value or else the default of its sort
-pub given_binding : AssignsByNumber → (ns : List Node) → IsTable ns → (ps : List (ℕ × Value)) (id : ℕ) (k : Constant) (o : Option own.Value) (d v : own.Value) (old new : List Binding)
-    → option_map (λ (n : Node). n.head) (slice_get ns id) ≡ Some (constant k) → option_map value_of o ≡ listed_value ps id → value_of d ≡ default_value k.sort → v ≡ unwrap_or o d
-    → new ≡ old ++ record { constant = k; value = value_of v } ∷ []
+pub given_binding : AssignsByNumber → (ns : List Node) → IsTable ns → (ps : List (ℕ × Value)) (id : ℕ) (k : Constant) (v : Value) (old new : List Binding)
+    → option_map (λ (n : Node). n.head) (slice_get ns id) ≡ Some (constant k) → v ≡ unwrap_or (listed_value ps id) (default_value k.sort) → new ≡ old ++ record { constant = k; value = v } ∷ []
     → new ≡ old ++ bound_at ns ps (slice_get ns id)
-given_binding law ns table ps id k o d v old new head at none is grown =
+given_binding law ns table ps id k v old new head is grown =
     grown
-    ∙ ap (λ w. let b : Binding = record { constant = k; value = w } in old ++ b ∷ []) (given_value law ns table ps id k o d v head at none is)
+    ∙ ap (λ w. let b : Binding = record { constant = k; value = w } in old ++ b ∷ []) (given_value law ns table ps id k v head is)
     ∙ ap (λ bs. old ++ bs) (sym (bound_by_head ns ps (slice_get ns id) (constant k) head))
+
+-- ---- Level by level
+
+-- the terms of the constants of a level
+abbrev constants_at : Layer → List ℕ
+constants_at k = table_numbers k.constants
+
+level_first : (ks : List Level) (i : ℕ) (x : Level) → i < length ks → x ≡ get_or ks i x → drop i (map layer_of ks) ≡ layer_of x ∷ drop (suc i) (map layer_of ks)
+level_first [] i x below is = absurd (omega (arith, below))
+level_first (k ∷ ks) zero x below is = ap (λ (y : Level). layer_of y ∷ map layer_of ks) (sym is)
+level_first (k ∷ ks) (suc i) x below is = level_first ks i x (omega (arith, below)) is
+
+-- what each of their numbers adds, of one level more
+pub level_more : {B : Type 0} (f : ℕ → List B) (ks : List Level) (layers : List Layer) (i : ℕ) (x : Level) (items : List Accepted) (old new total : List B) → map layer_of ks ≡ layers → i < length ks
+    → x ≡ get_or ks i x → items ≡ (layer_of x).constants → new ≡ old ++ flat_map f (table_numbers items) → old ++ flat_map f (flat_map constants_at (drop i layers)) ≡ total
+    → new ++ flat_map f (flat_map constants_at (drop (i + 1) layers)) ≡ total
+level_more f ks layers i x items old new total e below is are grown h =
+    let first = flat_map f (table_numbers items) in
+    let rest = flat_map f (flat_map constants_at (drop (suc i) layers)) in
+    let dropped : drop i layers ≡ layer_of x ∷ drop (suc i) layers = subst (λ ls. drop i ls ≡ layer_of x ∷ drop (suc i) ls) e (level_first ks i x below is) in
+    let step : flat_map f (flat_map constants_at (drop i layers)) ≡ first ++ rest =
+    ap (λ ls. flat_map f (flat_map constants_at ls)) dropped
+    ∙ ap (λ ys. flat_map f (table_numbers ys ++ flat_map constants_at (drop (suc i) layers))) (sym are)
+    ∙ flat_map-append f (table_numbers items) (flat_map constants_at (drop (suc i) layers)) in
+    ap (λ m. new ++ flat_map f (flat_map constants_at (drop m layers))) (add-one i) ∙ ap (λ bs. bs ++ rest) grown ∙ append_assoc old first rest ∙ ap (λ bs. old ++ bs) (sym step) ∙ h

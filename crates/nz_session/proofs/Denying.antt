@@ -62,12 +62,6 @@ pub record HasSigns (signs : ℕ → Option Bool) (ls : List TermLit) : Type 0 w
   pub lists : All (λ (l : TermLit). signs l.term ≡ Some l.sign) ls
   pub has : (i : ℕ) (sign : Bool) → signs i ≡ Some sign → (l : TermLit) × Contains ls l × (l.term ≡ i) × (l.sign ≡ sign)
 
-opposite : (a b : Bool) → (a ≡ b → ⊥) → not a ≡ b
-opposite true true n = absurd (n refl)
-opposite true false n = refl
-opposite false true n = refl
-opposite false false n = absurd (n refl)
-
 is_opposite : (a : Bool) → not a ≡ a → ⊥
 is_opposite true e = absurd cc
 is_opposite false e = absurd cc
@@ -127,16 +121,14 @@ signs_more signs new ls k d l below is agree put h =
     subst (HasSigns new) (ap (λ m. take k ls ++ m ∷ []) is ∙ sym (take_more ls k d below)) (signs_push signs new (take k ls) l agree put h)
 
 -- a literal of another sign than the map has is the negation of one of them
-pub denies_one : (signs : ℕ → Option Bool) (ls : List TermLit) (k : ℕ) (d l : TermLit) (sign : Bool) → k < length ls → l ≡ get_or ls k d → signs l.term ≡ Some sign → (sign ≡ l.sign → ⊥)
-    → HasSigns signs (take k ls) → DenyEachOther ls
-denies_one signs ls k d l sign below is e other h =
-    let one = h.has l.term sign e in
-    let differs : not l.sign ≡ one.0.sign = opposite l.sign one.0.sign (λ x. other (sym one.3 ∙ sym x)) in
-    let denied : turned l ≡ one.0 = λ i. let m : TermLit = record { term = sym one.2 i; sign = differs i } in m in
+pub denies_one : (signs : ℕ → Option Bool) (ls : List TermLit) (k : ℕ) (d l : TermLit) → k < length ls → l ≡ get_or ls k d → signs l.term ≡ Some (not l.sign) → HasSigns signs (take k ls) → DenyEachOther ls
+denies_one signs ls k d l below is e h =
+    let one = h.has l.term (not l.sign) e in
+    let denied : one.0 ≡ turned l = λ i. let m : TermLit = record { term = one.2 i; sign = one.3 i } in m in
     record {
       one = l;
       stands = subst (Contains ls) (sym is) (Contains-get_or ls k d below);
-      denied = subst (Contains ls) (sym denied) (contained_in_front ls k one.0 one.1);
+      denied = subst (Contains ls) denied (contained_in_front ls k one.0 one.1);
     }
 
 -- then none of them denies another

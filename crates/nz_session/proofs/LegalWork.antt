@@ -191,20 +191,20 @@ same_units ns (NoteLine note ∷ lines) =
 -- ---- A search that wasn't decided
 
 -- of what the engine was told
-pub undecided_in_levels : (ns : List Node) (levels asserted : List (List ℕ)) (ls : List TermLit) (limit : ℕ) (work : WorkList own.Note) (r : Result Verdict Stop) → levels ≡ asserted
+pub undecided_in_levels : (ns : List Node) (levels told : List (List ℕ)) (ls : List TermLit) (limit : ℕ) (work : WorkList own.Note) (r : Result Verdict Stop) → levels ≡ told
     → work.limit ≡ limit → AreLegal (task_in ns levels ls) (noted_list ns work).lines → AreNotedWithin ns work.lines → IfErr r (λ s. OnSpent s (IsSpent work))
     → IfErr r (λ s. OnWide s (λ p. IsStoppedLegally (task_in ns levels ls) (noted_list ns work) (place_of ns p))) → IfErr r (λ s. OnWide s (λ p. IsSiteWithin ns p.site))
-    → IfErr r (λ s. IfUndecided s (IsUndecided ns asserted ls limit work))
-undecided_in_levels ns levels asserted ls limit work (Ok v) e limited legal noted spent stopped sited = tt
-undecided_in_levels ns levels asserted ls limit work (Err Memory) e limited legal noted spent stopped sited = tt
-undecided_in_levels ns levels asserted ls limit work (Err Spent) e limited legal noted spent stopped sited =
+    → IfErr r (λ s. IfUndecided s (IsUndecided ns told ls limit work))
+undecided_in_levels ns levels told ls limit work (Ok v) e limited legal noted spent stopped sited = tt
+undecided_in_levels ns levels told ls limit work (Err Memory) e limited legal noted spent stopped sited = tt
+undecided_in_levels ns levels told ls limit work (Err Spent) e limited legal noted spent stopped sited =
     record {
       limited = limited;
       ends = record { spent = same_units ns work.lines ∙ spent; legal = subst (λ ks. AreLegal (task_in ns ks ls) (noted_list ns work).lines) e legal };
       noted = noted;
       sited = tt;
     }
-undecided_in_levels ns levels asserted ls limit work (Err (Wide place)) e limited legal noted spent stopped sited =
+undecided_in_levels ns levels told ls limit work (Err (Wide place)) e limited legal noted spent stopped sited =
     record {
       limited = limited;
       ends = subst (λ ks. IsStoppedLegally (task_in ns ks ls) (noted_list ns work) (place_of ns place)) e stopped;

@@ -18,6 +18,14 @@ pub told_count : (levels : List (List ℕ)) (t : Told) (asserted : List (List �
 told_count levels t asserted (inl h) = h.count ∙ ap length (sym h.none)
 told_count levels t asserted (inr h) = h.count ∙ sym (ap length h.has ∙ length-append h.before (take t.last h.newest ∷ []))
 
+-- no more levels were told than there are
+pub told_few : (levels : List (List ℕ)) (t : Told) (asserted : List (List ℕ)) → IsTold levels t asserted → t.levels ≤ length asserted
+told_few levels t asserted (inl h) = let none = h.count in omega (arith, none)
+told_few levels t asserted (inr h) =
+    let long = ap length h.are ∙ length-append h.before (h.newest ∷ h.later) in
+    let count = h.count in
+    omega (arith, long, count)
+
 -- ---- More is asserted
 
 goes_on_split : (before : List (List ℕ)) (newest : List ℕ) (later new : List (List ℕ)) → GoesOn (before ++ newest ∷ later) new

@@ -1,5 +1,5 @@
 //! What a check assumes, as the engine is asked.
-ghost use Rattle.std.specs.Prelude.{◌≡◌, map, IfOk, true, false};
+ghost use Rattle.std.specs.Prelude.{◌≡◌, Bool, true, false, not, map, Some, IfOk};
 ghost use Rattle.nz_log.specs.TermLits.{AreConsistent};
 ghost use Rattle.nz_session.specs.Assumed.{DenyEachOther, lit_of};
 
@@ -31,11 +31,21 @@ pub(crate) fn are_consistent(alloc: Global, literals: &[TermLit]) -> Result<bool
 {
     let mut signs = HashMap::new(alloc);
     for literal in literals {
-        if let Some(sign) = signs.insert(literal.term, literal.sign)? {
-            if sign != literal.sign {
-                return Ok(false);
-            }
+        let before = signs.insert(literal.term, literal.sign)?;
+        if is_denied(before, literal.sign) {
+            return Ok(false);
         }
     }
     Ok(true)
+}
+
+/// A term has had the other sign before.
+fn is_denied(before: Option<bool>, sign: bool) -> bool
+    ensures denied { result ≡ true → before ≡ Some (not sign) }
+    ensures agrees { result ≡ false → (other : Bool) → before ≡ Some other → other ≡ sign }
+{
+    match before {
+        Some(other) => other != sign,
+        None => false,
+    }
 }

@@ -5,6 +5,7 @@ use Rattle.nz_spec.specs.Term.{constant}
 use Rattle.nz_spec.specs.Table.{Node}
 use Rattle.nz_term.specs.Constants.{constant_of}
 use Rattle.nz_term.specs.Heads.{head_of}
+use Rattle.nz_term.specs.Values.{value_of}
 use Rattle.nz_session.proofs.Assigning.{bound_past, given_binding, given_pair, valued_past}
 use Rattle.nz_session.proofs.models.bind.Goals as goal
 
@@ -28,11 +29,9 @@ returns c =
     let copied : k ≡ c.in-Constant.constant.now = c.in_ok-constant.ensures.cases in
     let head : option_map (λ (n : Node). n.head) (slice_get ns id) ≡ Some (constant (constant_of k)) =
     c.head.ensures.head ∙ ap (λ h. Some (head_of h)) c.in-Constant.is ∙ ap (λ x. Some (constant (constant_of x))) (sym copied) in
+    let bound = given_binding law ns table ps id (constant_of k) (value_of c.value_in-value.result) c.args.bindings.now c.push-2.new.self head c.value_in-value.ensures.value in
+    let valued = given_pair law ns table ps id (constant_of k) (value_of c.value_in.result) c.args.values.now c.push.new.self head c.value_in.ensures.value c.in_ok-push.ensures.grown in
     record {
-      bindings = on_ok_weaker c.push-2.result
-          (λ grown. given_binding law ns table ps id (constant_of k) c.value.result c.default_value.result c.unwrap_or-value.result c.args.bindings.now c.push-2.new.self
-          head c.value.ensures.value c.default_value.ensures.default c.unwrap_or-value.ensures grown) c.push-2.ensures.grown;
-      values = on_ok_weaker c.push-2.result
-          (λ bound. given_pair law ns table ps id (constant_of k) c.value.result c.default_value.result c.unwrap_or-value.result c.args.values.now c.push.new.self
-          head c.value.ensures.value c.default_value.ensures.default c.unwrap_or-value.ensures c.in_ok-push.ensures.grown) c.push-2.ensures.grown;
+      bindings = on_ok_weaker c.push-2.result bound c.push-2.ensures.grown;
+      values = on_ok_weaker c.push-2.result (λ grown. valued) c.push-2.ensures.grown;
     }
