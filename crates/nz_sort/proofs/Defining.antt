@@ -28,7 +28,7 @@ use Rattle.nz_elaborate.specs.declared.names.Named.TheVariants as kinds
 use Rattle.nz_sort.specs.Live.{Standing, asserted_by, IsLevel, IsLive, GoesOn}
 use Rattle.nz_sort.specs.Acts.{rule_of, redeclared_by}
 use Rattle.nz_sort.specs.Changes.{Comes, Defines, with_definition}
-use Rattle.nz_sort.proofs.Accepting.{has_definition, definition_number}
+use Rattle.nz_sort.proofs.Accepting.{has_definition, definition_integer}
 use Rattle.nz_sort.proofs.Leveling.{is_live, level_with, goes_on_same}
 use Rattle.nz_sort.proofs.Naming.{scope_by, scope_as, scope_stays, scope_with_definition}
 use Rattle.nz_sort.proofs.Living.{constants_with, definitions_with, items_of-with_item, kept_where_grown, next_after}
@@ -52,7 +52,7 @@ level_defined stays old new more before d e grow is fit number items older h =
       before = (let far = length-append before.names ((e.name, kinds.Definition d) ∷ []) in let near = h.before in omega (arith, far, near));
       has = has_definition stays old new more before.top items number e grow h.has;
       count = h.count ∙ ap length (sym same);
-      numbers = ap items_hold_integers (items_of-with_item levels l) ∙ definition_number (items_of levels) e before.top.holds_integers h.numbers;
+      integers = ap items_hold_integers (items_of-with_item levels l) ∙ definition_integer (items_of levels) e before.top.holds_integers h.integers;
     }
 
 live_defined : TermStays → (old new : List Node) (before : Standing) (s : State) (d : code.Definition) (e : Definition) → IsLive old before s → Grows old new

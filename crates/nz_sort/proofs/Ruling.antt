@@ -24,7 +24,7 @@ use Rattle.nz_sort.specs.Acts.{asked, rule_of, is_plain, AsksBy}
 use Rattle.nz_sort.specs.Changes.{Comes, ComesBy}
 use Rattle.nz_sort.specs.Live.{Standing, IsLive, IsCarriedOut, Leaves, Moves, asserted_by, Ask, Asks, changed, popped, cleared, reset, check, show_model, show_values, show_reason, show_info, show_levels, print_success, nothing, echo, leave, unsupported}
 use Rattle.nz_sort.proofs.Leveling.{goes_on_same}
-use Rattle.nz_sort.proofs.Living.{leaves_asked, leaves_by, live_numbers, if_skipped, kept_where_same}
+use Rattle.nz_sort.proofs.Living.{leaves_asked, leaves_by, live_integers, if_skipped, kept_where_same}
 
 pub if_some_weaker : {P Q : spec.Error → Type 0} (o : Option spec.Error) → ((e : spec.Error) → P e → Q e) → IfSome o P → IfSome o Q
 if_some_weaker None f h = tt
@@ -142,12 +142,12 @@ asked_plain (accepted c) act h = h.plain
 asked_plain (refused e) act h = absurd h
 asked_plain not_taken act h = ap is_plain h
 
-stays_put : (standing : Standing) (act : Act) {becomes : State → Outcome} → ((s : State) → AsksBy (becomes s) act) → Moves (asked act) (asserted_by standing) (asserted_by standing)
-stays_put standing act {becomes = becomes} h = plain_stays (asked act) standing (asked_plain (becomes start) act (h start))
+stays_put : (standing : Standing) (act : Act) (becomes : State → Outcome) → ((s : State) → AsksBy (becomes s) act) → Moves (asked act) (asserted_by standing) (asserted_by standing)
+stays_put standing act becomes h = plain_stays (asked act) standing (asked_plain (becomes start) act (h start))
 
 pub comes_only : (ns : List Node) (standing : Standing) (r : Request) (becomes : State → Outcome) (act : Act) → ((s : State) → AsksBy (becomes s) act)
     → Comes ns ns standing standing r becomes (Ok act)
-comes_only ns standing r becomes act h = comes_by_leaving ns standing r becomes act (stays_put standing act h) (λ s live. leaves_only ns standing s r (becomes s) act (h s) live)
+comes_only ns standing r becomes act h = comes_by_leaving ns standing r becomes act (stays_put standing act becomes h) (λ s live. leaves_only ns standing s r (becomes s) act (h s) live)
 
 pub comes_asked : (ns : List Node) (standing : Standing) (r : Request) (act : Act) (c : Command) → is_plain (asked act) ≡ true → Asks ns (asked act) r c
     → ((s : State) (reply : Reply) → (effect s c reply).levels ≡ s.levels) → ((s : State) (reply : Reply) → (effect s c reply).next ≡ s.next)
@@ -163,9 +163,9 @@ leaves_checked : (ns : List Node) (standing : Standing) (s : State) (act : Act) 
     → Leaves s checks (outcome_by s checks) (asked act) ns standing
 leaves_checked ns standing s act true e a live =
     subst (λ ask. Leaves s checks (outcome_by s checks) ask ns standing) (sym a)
-    (record { is = ap (λ b. cond b not_taken (accepted (check_sat []))) (live_numbers ns standing s live ∙ e); live = live })
+    (record { is = ap (λ b. cond b not_taken (accepted (check_sat []))) (live_integers ns standing s live ∙ e); live = live })
 leaves_checked ns standing s act false e a live =
-    let none = live_numbers ns standing s live ∙ e in
+    let none = live_integers ns standing s live ∙ e in
     subst (λ ask. Leaves s checks (outcome_by s checks) ask ns standing) (sym a)
     ((
       leaves_asked ns standing s checks (outcome_by s checks) (check []) (check_sat []) (ap (λ b. cond b not_taken (accepted (check_sat []))) none)

@@ -6,7 +6,7 @@ use Rattle.nz_spec.specs.Live.{constants_of, pushed_levels}
 use Rattle.nz_spec.specs.Script.{outcome_by, outcome_requested}
 use Rattle.nz_command.specs.Requests.{request}
 use Rattle.nz_sort.specs.Live.{Standing}
-use Rattle.nz_sort.proofs.Leveling.{levels_pushed}
+use Rattle.nz_sort.proofs.Leveling.{as_many_below, levels_pushed}
 use Rattle.nz_sort.proofs.Living.{as_many}
 use Rattle.nz_sort.proofs.Ruling.{comes_alike, within_bounds}
 use Rattle.nz_sort.proofs.live.Live.ruled.Goals as goal
@@ -16,7 +16,8 @@ returns c =
     let t = view c.args.tree.now in
     let r = request c.args.command.now in
     let short : has_token is_long_decimal t ≡ false = sym c.number_faults-faults.ensures.long ∙ c.if-faults.false in
-    let many : c.len.result ≡ length c.args.self.now.below = search rules in
+    let kept : c.len.result ≡ length c.self.inside.below.items = search rules in
+    let many = kept ∙ as_many_below c.self.inside.below.items c.args.self.now (ap (λ (st : Standing). st.below) c.self.view_is) in
     record {
       comes = comes_alike _ _ _ _ r (λ s. outcome_by s r) (λ s. outcome_requested s t r) c.requested.result
           (λ s live.
