@@ -1,5 +1,5 @@
 -- What is found of assumptions, one after another, and what becomes of a check under them.
-use Rattle.std.proofs.Common.{◌≡◌, ◌||◌, ℕ, List, [], ◌∷◌, ◌++◌, length, take, Option, Some, None, Ok, Err, Bool, true, false, not, is_some, cond, refl, sym, ap, ◌∙◌, subst, append-nil}
+use Rattle.std.proofs.Common.{◌≡◌, ◌||◌, ℕ, List, [], ◌∷◌, ◌++◌, length, take, Option, Some, None, Ok, Err, Bool, true, false, not, is_some, cond, if◌then◌else◌, refl, sym, ap, ◌∙◌, subst, append-nil}
 use Rattle.std.specs.Prelude.{option_and_then}
 use Rattle.std.specs.List.{list_any}
 use Rattle.std.proofs.lemmas.List.Folds.{list_any-append}
@@ -15,6 +15,7 @@ use Rattle.nz_spec.specs.Elaboration.{has_sort, Operator, operator_named, applie
 use Rattle.nz_spec.specs.Live.{State, items_of, items_hold_integers, constants_of, definitions_of}
 use Rattle.nz_spec.specs.Command.{check_sat, Outcome, accepted, refused, not_taken}
 use Rattle.nz_spec.specs.Error.{unknown_symbol, wrong_sort}
+use Rattle.nz_spec.specs.Right.{effect}
 use Rattle.nz_spec.specs.Script.{assumed_term, assumes_unknown, assumes_integer, assumed_literal, assumed_literals, check_under}
 use Rattle.nz_term.specs.Constants.{sort_of}
 use Rattle.nz_elaborate.specs.declared.typed.Typed.{Typed}
@@ -30,9 +31,8 @@ use Rattle.nz_sort.specs.Changes.{Comes}
 use Rattle.nz_sort.specs.Found.{IsFoundLiteral, IsFoundAs, AreFoundLiterals, HasFound, IsWithLiteral, IsWithOne}
 use Rattle.nz_sort.specs.Live.{Standing, asserted_by, IsLive, Leaves, IfSkipped, Moves, check, unsupported}
 use Rattle.nz_base.specs.declared.reply_errors.Error.TheVariants as errors
-use Rattle.nz_sort.proofs.Leveling.{goes_on_same}
 use Rattle.nz_sort.proofs.Ruling.{comes_refused}
-use Rattle.nz_sort.proofs.Living.{kept_where_grown, kept_where_same, live_grown, live_integers, stands_kept}
+use Rattle.nz_sort.proofs.Living.{kept_where_grown, kept_where_same, live_by_levels, live_grown, live_integers, stands_kept}
 
 -- ---- One assumption
 
@@ -49,9 +49,12 @@ none_assumed s x e = ap (assumed_by x.is_true) e
 none_holds : (s : State) (x : Assumption) → assumed_term s x ≡ None → assumes_integer s x ≡ false
 none_holds s x e = ap (λ (o : Option Term). elim o [ Some t ↦ holds_integer (normal_of t) | None ↦ false ]) e
 
+-- the term of a name that stands for these
+abbrev term_by : Option Operator → Option Constant → Option Definition → Option Term
+term_by o c d = elim o [ Some p ↦ applied p no_terms | None ↦ (elim c [ Some k ↦ Some (apply (constant k) no_terms) | None ↦ option_and_then (λ e. expansion e no_terms) d ]) ]
+
 -- without an operator, a constant and a definition of a name it has no term
-unknown_by : (o : Option Operator) (c : Option Constant) (d : Option Definition) → not (is_some o || is_some c || is_some d) ≡ true
-    → elim o [ Some p ↦ applied p no_terms | None ↦ (elim c [ Some k ↦ Some (apply (constant k) no_terms) | None ↦ option_and_then (λ e. expansion e no_terms) d ]) ] ≡ None
+unknown_by : (o : Option Operator) (c : Option Constant) (d : Option Definition) → not (is_some o || is_some c || is_some d) ≡ true → term_by o c d ≡ None
 unknown_by (Some o) c d e = cc
 unknown_by None (Some c) d e = cc
 unknown_by None None (Some d) e = cc
@@ -209,7 +212,7 @@ comes_under stays old mid new standing xs f act a first then_more whole companio
               command = check_sat h.0;
               is = h.1;
               asks = record { literals = h.0; assumes = all_longer stays mid new then_more f.literals.items h.0 h.2; is = refl };
-              live = λ reply. let kept = live_grown stays old new standing s whole companions live in kept;
+              live = λ reply. live_by_levels new standing s (effect s (check_sat h.0) reply) refl refl (live_grown stays old new standing s whole companions live);
             },
             holds_none old standing s xs mid f live (found s live) e,
           ));
@@ -218,7 +221,7 @@ comes_under stays old mid new standing xs f act a first then_more whole companio
       unchanged = tt;
       skipped_terms = subst (λ ask. IfSkipped ask (new ≡ old)) (sym a) tt;
       skipped = subst (λ ask. IfSkipped ask (standing ≡ standing)) (sym a) tt;
-      moves = subst (λ ask. Moves ask (asserted_by standing) (asserted_by standing)) (sym a) (goes_on_same (asserted_by standing));
+      moves = subst (λ ask. Moves ask (asserted_by standing) (asserted_by standing)) (sym a) refl;
     }
 
 pub comes_of_integers : (old new : List Node) (standing : Standing) (xs : List Assumption) (mid : List Node) (f : FoundAssumptions) (act : Act) → asked act ≡ unsupported → new ≡ old
@@ -234,7 +237,7 @@ comes_of_integers old new standing xs mid f act a same found e =
       unchanged = tt;
       skipped_terms = subst (λ ask. IfSkipped ask (new ≡ old)) (sym a) same;
       skipped = subst (λ ask. IfSkipped ask (standing ≡ standing)) (sym a) refl;
-      moves = subst (λ ask. Moves ask (asserted_by standing) (asserted_by standing)) (sym a) (goes_on_same (asserted_by standing));
+      moves = subst (λ ask. Moves ask (asserted_by standing) (asserted_by standing)) (sym a) refl;
     }
 
 -- a rule that the check breaks

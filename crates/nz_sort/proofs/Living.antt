@@ -144,7 +144,7 @@ companions_made old mid new mark e g has made = made (subst HasCompanions (sym (
 -- ---- What commands leave that bring no item
 
 -- what is live rests on the levels and the next number alone
-live_by_levels : (ns : List Node) (standing : Standing) (s t : State) → t.levels ≡ s.levels → t.next ≡ s.next → IsLive ns standing s → IsLive ns standing t
+pub live_by_levels : (ns : List Node) (standing : Standing) (s t : State) → t.levels ≡ s.levels → t.next ≡ s.next → IsLive ns standing s → IsLive ns standing t
 live_by_levels ns standing s t e f live =
     is_live ns standing t (subst (AreLevels ns standing.names (newest_first standing)) (sym e) live.levels) live.companions (live.next ∙ sym f)
 

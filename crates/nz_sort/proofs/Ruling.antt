@@ -80,6 +80,17 @@ pub within_bounds : (s : State) (t : Tree) (r : Request) → (passes_limit s r |
     → outcome_requested s t r ≡ outcome_by s r
 within_bounds s t r l w = rw (l, w) refl
 
+or_true : (b : Bool) → (b || true) ≡ true
+or_true true = refl
+or_true false = refl
+
+-- a decimal of too many places is past a limit, and so is a command that goes beyond one of its own
+pub breaks_places : (s : State) (t : Tree) (r : Request) → has_token is_long_decimal t ≡ true → outcome_requested s t r ≡ refused past_limit
+breaks_places s t r long = breaks_limit s t r (ap (λ b. passes_limit s r || b) long ∙ or_true (passes_limit s r))
+
+pub breaks_own : (s : State) (t : Tree) (r : Request) → passes_limit s r ≡ true → outcome_requested s t r ≡ refused past_limit
+breaks_own s t r own = breaks_limit s t r (ap (λ b. b || has_token is_long_decimal t) own)
+
 -- ---- What comes of a command
 
 -- a refusal leaves what stood
@@ -126,16 +137,16 @@ plain_stays popped standing e = cc
 plain_stays cleared standing e = tt
 plain_stays reset standing e = tt
 plain_stays (check xs) standing e = cc
-plain_stays show_model standing e = goes_on_same (asserted_by standing)
-plain_stays (show_values xs) standing e = goes_on_same (asserted_by standing)
-plain_stays show_reason standing e = goes_on_same (asserted_by standing)
-plain_stays (show_info i) standing e = goes_on_same (asserted_by standing)
-plain_stays show_levels standing e = goes_on_same (asserted_by standing)
-plain_stays (print_success b) standing e = goes_on_same (asserted_by standing)
-plain_stays nothing standing e = goes_on_same (asserted_by standing)
-plain_stays echo standing e = goes_on_same (asserted_by standing)
-plain_stays leave standing e = goes_on_same (asserted_by standing)
-plain_stays unsupported standing e = goes_on_same (asserted_by standing)
+plain_stays show_model standing e = refl
+plain_stays (show_values xs) standing e = refl
+plain_stays show_reason standing e = refl
+plain_stays (show_info i) standing e = refl
+plain_stays show_levels standing e = refl
+plain_stays (print_success b) standing e = refl
+plain_stays nothing standing e = refl
+plain_stays echo standing e = refl
+plain_stays leave standing e = refl
+plain_stays unsupported standing e = refl
 
 asked_plain : (outcome : Outcome) (act : Act) → AsksBy outcome act → is_plain (asked act) ≡ true
 asked_plain (accepted c) act h = h.plain
@@ -174,8 +185,8 @@ leaves_checked ns standing s act false e a live =
     ))
 
 check_stays : (ask : Ask) (standing : Standing) (holds : Bool) (xs : List Assumed) → ask ≡ cond holds unsupported (check xs) → Moves ask (asserted_by standing) (asserted_by standing)
-check_stays ask standing true xs a = subst (λ x. Moves x (asserted_by standing) (asserted_by standing)) (sym a) (goes_on_same (asserted_by standing))
-check_stays ask standing false xs a = subst (λ x. Moves x (asserted_by standing) (asserted_by standing)) (sym a) (goes_on_same (asserted_by standing))
+check_stays ask standing true xs a = subst (λ x. Moves x (asserted_by standing) (asserted_by standing)) (sym a) refl
+check_stays ask standing false xs a = subst (λ x. Moves x (asserted_by standing) (asserted_by standing)) (sym a) refl
 
 pub comes_checked : (ns : List Node) (standing : Standing) (act : Act) → asked act ≡ cond standing.top.holds_integers unsupported (check [])
     → Comes ns ns standing standing checks (λ s. outcome_by s checks) (Ok act)
