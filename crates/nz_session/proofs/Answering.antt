@@ -13,11 +13,10 @@ use Rattle.nz_spec.specs.Script.{outcome_of}
 use Rattle.nz_spec.specs.Sorts.{IsSortedState, StatesStaySorted}
 use Rattle.nz_spec.specs.Reply.{Reply, quiet, success, sat, unsat, unknown, model, values, info, levels as levels_reply, reason, echoed, unsupported, error, Cause, plain}
 use Rattle.nz_spec.specs.Right.{Context, done, IsRightCheck, IsRightCommand, IsRightOutcome, IsRight, IsExit, last_after, effect, effect_of, after}
-use Rattle.nz_sort.specs.Live.{Standing, asserted_by, IsLive, IsChange, GoesOn}
+use Rattle.nz_sort.specs.Live.{Standing, asserted_by, IsLive, IsChange}
 use Rattle.nz_session.specs.Told.{IsTold}
 use Rattle.nz_reply.specs.Replies.{reply_of, cause_of, IsCauseWithin}
 use Rattle.nz_session.specs.Desk.{last_of, BindsConstants, KeepsValues, Holds, IsAnswer, Succeeds}
-use Rattle.nz_session.proofs.Telling.{told_goes_on}
 use Rattle.nz_session.proofs.ValuesKept.{values_stay}
 use Rattle.nz_session.specs.declared.desk.Desk.{Desk}
 use Rattle.nz_session.specs.declared.desk.Answer.{Answer}
@@ -91,10 +90,10 @@ next c s = record { limit = c.limit; before = c.state ∷ c.before; state = s }
 abbrev pub standing : {E : Type 0} → Desk E → List Node → Standing → Desk E
 standing desk ns l = record desk { terms = ns; live = l }
 
--- What holds the table and the assertions of a desk goes on.
+-- The table of a desk goes on, and what is asserted stays.
 pub record Continues {E : Type 0} (old : Desk E) (ns : List Node) (l : Standing) : Type 0 where
   pub terms : IsFrontOfTable old.terms ns
-  pub asserted : GoesOn (asserted_by old.live) (asserted_by l)
+  pub asserted : asserted_by l ≡ asserted_by old.live
 
 module _ {E : Type 0} (levels : E → List (List ℕ)) (table : E → List Node) where
   -- nothing that is held is of the states before
@@ -109,7 +108,7 @@ module _ {E : Type 0} (levels : E → List (List ℕ)) (table : E → List Node)
       record {
         live = live;
         sorted = h.sorted;
-        told = told_goes_on (levels old.engine) old.told (asserted_by old.live) (asserted_by l) on.asserted h.told;
+        told = subst (IsTold (levels old.engine) old.told) (sym on.asserted) h.told;
         front = front_of_more (table old.engine) old.terms ns h.front on.terms;
         last = h.last;
         bound = h.bound;
@@ -130,7 +129,7 @@ module _ {E : Type 0} (levels : E → List (List ℕ)) (table : E → List Node)
       record {
         live = live;
         sorted = h.sorted;
-        told = told_goes_on (levels old.engine) old.told (asserted_by old.live) (asserted_by l) on.asserted h.told;
+        told = subst (IsTold (levels old.engine) old.told) (sym on.asserted) h.told;
         front = front_of_more (table old.engine) old.terms ns h.front on.terms;
         last = h.last;
         bound = binds_still c.state.last c.state c.state.last c.state.last c.state.options (record { prints_success = b }) h.bound;

@@ -5,7 +5,7 @@ use Rattle.std.specs.List.{list_any}
 use Rattle.std.proofs.lemmas.List.Folds.{list_any-append}
 use Rattle.std.proofs.lemmas.List.Elements.{All-head, All-tail, All-append, All-cons, All-nil, All-weaker}
 use Rattle.std.proofs.lemmas.List.{map-append}
-use Rattle.nz_spec.specs.Term.{is_bool, Constant, constant, Term, apply, no_terms, holds_integer}
+use Rattle.nz_spec.specs.Term.{is_int_sort, Constant, constant, Term, apply, no_terms, holds_integer}
 use Rattle.nz_spec.specs.Normal.{normal_of}
 use Rattle.nz_spec.specs.Table.{Node, term_in, TermStays}
 use Rattle.nz_spec.specs.Elaboration.{Definition as SpecDefinition}
@@ -247,19 +247,19 @@ has_assertion stays old new more layer live number t id holds e h within term =
       all = all_last stays old new more layer.accepted live l id (normal_of t) e h.all within term refl;
     }
 
--- whether an item more brings a number
-pub constant_number : (items : List Item) (c : Constant) (x : Typed) (holds : Bool) → items_hold_integers items ≡ holds → sort_of x.sort ≡ c.sort
-    → items_hold_integers (items ++ declared c ∷ []) ≡ (holds || not (is_bool (sort_of x.sort)))
-constant_number items c x holds h sort =
-    integers_last items (declared c) holds (not (is_bool (sort_of x.sort))) h
-    (or_false (not (is_bool c.sort) || false) ∙ or_false (not (is_bool c.sort)) ∙ ap (λ s. not (is_bool s)) (sym sort))
+-- whether an item more brings a unit of sort Int
+pub constant_integer : (items : List Item) (c : Constant) (x : Typed) (holds : Bool) → items_hold_integers items ≡ holds → sort_of x.sort ≡ c.sort
+    → items_hold_integers (items ++ declared c ∷ []) ≡ (holds || is_int_sort (sort_of x.sort))
+constant_integer items c x holds h sort =
+    integers_last items (declared c) holds (is_int_sort (sort_of x.sort)) h
+    (or_false (is_int_sort c.sort || false) ∙ or_false (is_int_sort c.sort) ∙ ap is_int_sort (sym sort))
 
-pub definition_number : (items : List Item) (e : SpecDefinition) (holds : Bool) → items_hold_integers items ≡ holds → items_hold_integers (items ++ defined e ∷ []) ≡ holds
-definition_number items e holds h = integers_last items (defined e) holds false h refl ∙ or_false holds
+pub definition_integer : (items : List Item) (e : SpecDefinition) (holds : Bool) → items_hold_integers items ≡ holds → items_hold_integers (items ++ defined e ∷ []) ≡ holds
+definition_integer items e holds h = integers_last items (defined e) holds false h refl ∙ or_false holds
 
-pub assertion_number : (items : List Item) (t : Term) (holds number : Bool) → items_hold_integers items ≡ holds → number ≡ holds_integer (normal_of t)
+pub assertion_integer : (items : List Item) (t : Term) (holds number : Bool) → items_hold_integers items ≡ holds → number ≡ holds_integer (normal_of t)
     → items_hold_integers (items ++ asserted t ∷ []) ≡ (holds || number)
-assertion_number items t holds number h e = integers_last items (asserted t) holds number h (or_false (holds_integer (normal_of t)) ∙ sym e)
+assertion_integer items t holds number h e = integers_last items (asserted t) holds number h (or_false (holds_integer (normal_of t)) ∙ sym e)
 
 -- where the table grows
 pub items_kept : TermStays → (old new more : List Node) (layer : Layer) (live : List LiveItem) → new ≡ old ++ more → HasItems old layer live → HasItems new layer live

@@ -19,7 +19,6 @@ use Rattle.nz_elaborate.specs.Typed.{Grows, AreTyped}
 use Rattle.nz_sort.specs.declared.acts.Act.{Act}
 use Rattle.nz_sort.specs.Acts.{asked}
 use Rattle.nz_sort.specs.Live.{Standing, asserted_by, IsLive, Leaves, IfSkipped, Moves, show_values}
-use Rattle.nz_sort.proofs.Leveling.{goes_on_same}
 use Rattle.nz_sort.specs.Changes.{Comes, Shows}
 use Rattle.nz_sort.proofs.Living.{kept_where_grown, live_grown}
 use Rattle.nz_sort.proofs.Ruling.{past_names}
@@ -66,7 +65,7 @@ comes_values stays old new standing qs xs act e g companions may =
       unchanged = tt;
       skipped_terms = subst (λ ask. IfSkipped ask (new ≡ old)) (sym e) tt;
       skipped = subst (λ ask. IfSkipped ask (standing ≡ standing)) (sym e) tt;
-      moves = subst (λ ask. Moves ask (asserted_by standing) (asserted_by standing)) (sym e) (goes_on_same (asserted_by standing));
+      moves = subst (λ ask. Moves ask (asserted_by standing) (asserted_by standing)) (sym e) refl;
     }
 
 -- all terms of a list are linear, where all that are numbered so are

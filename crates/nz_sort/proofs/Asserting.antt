@@ -24,7 +24,7 @@ use Rattle.nz_sort.specs.declared.items.Accepted.{Accepted}
 use Rattle.nz_sort.specs.Items.{table_numbers}
 use Rattle.nz_sort.specs.Live.{Standing, asserted_by, IsLevel, IsLive, GoesOn}
 use Rattle.nz_sort.specs.Changes.{Comes, Asserts, layer_with_assertion, with_assertion}
-use Rattle.nz_sort.proofs.Accepting.{has_assertion, assertion_number}
+use Rattle.nz_sort.proofs.Accepting.{has_assertion, assertion_integer}
 use Rattle.nz_sort.proofs.Leveling.{is_live, level_with, goes_on_top}
 use Rattle.nz_sort.proofs.Lists.{take_front}
 use Rattle.nz_sort.proofs.Naming.{scope_by, scope_as, scope_stays}
@@ -36,7 +36,7 @@ use Rattle.nz_sort.proofs.Ruling.{past_names}
 level_asserted : TermStays → (old new : List Node) (more : List Node) (before : Standing) (t : Term) (id : ℕ) (holds : Bool) → new ≡ old ++ more → StandsFor new id (normal_of t)
     → holds ≡ holds_integer (normal_of t) → (number : ℕ) (items : List LiveItem) (older : List (List LiveItem)) → IsLevel old before.names before.top items older
     → IsLevel new before.names (layer_with_assertion before.top number id holds) (items ++ record { number = number; item = asserted t } ∷ []) older
-level_asserted stays old new more before t id holds e stands number_held number items older h =
+level_asserted stays old new more before t id holds e stands integer_held number items older h =
     let l : LiveItem = record { number = number; item = asserted t } in
     let levels = items ∷ older in
     let cs = constants_in (items_of levels) in
@@ -48,7 +48,7 @@ level_asserted stays old new more before t id holds e stands number_held number 
       before = h.before;
       has = has_assertion stays old new more before.top items number t id holds e h.has stands.within stands.term;
       count = h.count ∙ ap length (sym same);
-      numbers = ap items_hold_integers (items_of-with_item levels l) ∙ assertion_number (items_of levels) t before.top.holds_integers holds h.numbers number_held;
+      integers = ap items_hold_integers (items_of-with_item levels l) ∙ assertion_integer (items_of levels) t before.top.holds_integers holds h.integers integer_held;
     }
 
 live_asserted : TermStays → (old new : List Node) (before : Standing) (s : State) (t : Term) (id : ℕ) (holds : Bool) → IsLive old before s → Grows old new

@@ -20,7 +20,7 @@ use Rattle.nz_sort.specs.declared.acts.Act.TheVariants as acts
 use Rattle.nz_sort.specs.Items.{table_numbers}
 use Rattle.nz_sort.specs.Live.{Standing, asserted_by, IsLevel, IsLive, GoesOn}
 use Rattle.nz_sort.specs.Changes.{Comes, constant_of, layer_with_constant, HasAdded, with_constant}
-use Rattle.nz_sort.proofs.Accepting.{has_constant, constant_number}
+use Rattle.nz_sort.proofs.Accepting.{has_constant, constant_integer}
 use Rattle.nz_sort.proofs.Leveling.{is_live, level_with, goes_on_top}
 use Rattle.nz_sort.proofs.Lists.{take_whole}
 use Rattle.nz_sort.proofs.Naming.{scope_by, scope_as, scope_stays, scope_with_constant}
@@ -46,7 +46,7 @@ level_declared stays old new more before c x e fresh within term sort number ite
       before = (let far = length-append before.names ((c.name, kinds.Constant x) ∷ []) in let near = h.before in omega (arith, far, near));
       has = has_constant stays old new more before.top items number c x e h.has within term;
       count = (let longer : length (cs ++ c ∷ []) ≡ length cs + 1 = length-append cs (c ∷ []) in ap (λ n. n + 1) h.count ∙ sym longer ∙ ap length (sym later));
-      numbers = ap items_hold_integers (items_of-with_item levels l) ∙ constant_number (items_of levels) c x before.top.holds_integers h.numbers sort;
+      integers = ap items_hold_integers (items_of-with_item levels l) ∙ constant_integer (items_of levels) c x before.top.holds_integers h.integers sort;
     }
 
 live_declared : TermStays → (old new : List Node) (before after : Standing) (s : State) (name : List ℕ) (sort : Sort) → IsLive old before s

@@ -1,5 +1,6 @@
 -- Definitions: the rules on one, and what it leaves.
-use Rattle.std.proofs.Common.{◌||◌, ◌&&◌, ◌+◌, option_and_then, ◌≡◌, ℕ, suc, List, [], ◌∷◌, ◌++◌, length, map, take, Option, None, Some, IfSome, Result, Ok, Err, IfOk, Bool, true, false, cond, slice_get, refl, sym, ap, ◌∙◌, append-nil, subst, arith}
+use Rattle.std.proofs.Common.{◌||◌, ◌&&◌, ◌+◌, option_and_then, ◌≡◌, ℕ, suc, List, [], ◌∷◌, ◌++◌, length, length-append, map, take, Option, None, Some, IfSome, Result, Ok, Err, IfOk, Bool, true, false, cond, slice_get, refl, sym, ap, ◌∙◌, append-nil, subst, arith}
+use Rattle.std.specs.Prelude.{reverse}
 use Rattle.std.specs.List.{AllByRecursion}
 use Rattle.nz_spec.specs.Term.{Sort, int_sort, real_sort, to_real, Term, no_terms, terms, apply, are_same_sort}
 use Rattle.nz_spec.specs.Normal.{normal_of}
@@ -28,7 +29,7 @@ use Rattle.nz_elaborate.specs.declared.names.Named.TheVariants as kinds
 use Rattle.nz_sort.specs.Live.{Standing, asserted_by, IsLevel, IsLive, GoesOn}
 use Rattle.nz_sort.specs.Acts.{rule_of, redeclared_by}
 use Rattle.nz_sort.specs.Changes.{Comes, Defines, with_definition}
-use Rattle.nz_sort.proofs.Accepting.{has_definition, definition_number}
+use Rattle.nz_sort.proofs.Accepting.{has_definition, definition_integer}
 use Rattle.nz_sort.proofs.Leveling.{is_live, level_with, goes_on_same}
 use Rattle.nz_sort.proofs.Naming.{scope_by, scope_as, scope_stays, scope_with_definition}
 use Rattle.nz_sort.proofs.Living.{constants_with, definitions_with, items_of-with_item, kept_where_grown, next_after}
@@ -52,7 +53,7 @@ level_defined stays old new more before d e grow is fit number items older h =
       before = (let far = length-append before.names ((e.name, kinds.Definition d) ∷ []) in let near = h.before in omega (arith, far, near));
       has = has_definition stays old new more before.top items number e grow h.has;
       count = h.count ∙ ap length (sym same);
-      numbers = ap items_hold_integers (items_of-with_item levels l) ∙ definition_number (items_of levels) e before.top.holds_integers h.numbers;
+      integers = ap items_hold_integers (items_of-with_item levels l) ∙ definition_integer (items_of levels) e before.top.holds_integers h.integers;
     }
 
 live_defined : TermStays → (old new : List Node) (before : Standing) (s : State) (d : code.Definition) (e : Definition) → IsLive old before s → Grows old new

@@ -1,5 +1,5 @@
 -- What is found of assumptions, one after another, and what becomes of a check under them.
-use Rattle.std.proofs.Common.{◌≡◌, ◌||◌, ℕ, List, [], ◌∷◌, ◌++◌, length, take, Option, Some, None, Ok, Err, Bool, true, false, not, is_some, cond, refl, sym, ap, ◌∙◌, subst, append-nil}
+use Rattle.std.proofs.Common.{◌≡◌, ◌||◌, ℕ, List, [], ◌∷◌, ◌++◌, length, take, Option, Some, None, Ok, Err, Bool, true, false, not, is_some, cond, if◌then◌else◌, refl, sym, ap, ◌∙◌, subst, append-nil}
 use Rattle.std.specs.Prelude.{option_and_then}
 use Rattle.std.specs.List.{list_any}
 use Rattle.std.proofs.lemmas.List.Folds.{list_any-append}
@@ -15,6 +15,7 @@ use Rattle.nz_spec.specs.Elaboration.{has_sort, Operator, operator_named, applie
 use Rattle.nz_spec.specs.Live.{State, items_of, items_hold_integers, constants_of, definitions_of}
 use Rattle.nz_spec.specs.Command.{check_sat, Outcome, accepted, refused, not_taken}
 use Rattle.nz_spec.specs.Error.{unknown_symbol, wrong_sort}
+use Rattle.nz_spec.specs.Right.{effect}
 use Rattle.nz_spec.specs.Script.{assumed_term, assumes_unknown, assumes_integer, assumed_literal, assumed_literals, check_under}
 use Rattle.nz_term.specs.Constants.{sort_of}
 use Rattle.nz_elaborate.specs.declared.typed.Typed.{Typed}
@@ -30,9 +31,8 @@ use Rattle.nz_sort.specs.Changes.{Comes}
 use Rattle.nz_sort.specs.Found.{IsFoundLiteral, IsFoundAs, AreFoundLiterals, HasFound, IsWithLiteral, IsWithOne}
 use Rattle.nz_sort.specs.Live.{Standing, asserted_by, IsLive, Leaves, IfSkipped, Moves, check, unsupported}
 use Rattle.nz_base.specs.declared.reply_errors.Error.TheVariants as errors
-use Rattle.nz_sort.proofs.Leveling.{goes_on_same}
 use Rattle.nz_sort.proofs.Ruling.{comes_refused}
-use Rattle.nz_sort.proofs.Living.{kept_where_grown, kept_where_same, live_grown, live_numbers, stands_kept}
+use Rattle.nz_sort.proofs.Living.{kept_where_grown, kept_where_same, live_by_levels, live_grown, live_integers, stands_kept}
 
 -- ---- One assumption
 
@@ -49,9 +49,12 @@ none_assumed s x e = ap (assumed_by x.is_true) e
 none_holds : (s : State) (x : Assumption) → assumed_term s x ≡ None → assumes_integer s x ≡ false
 none_holds s x e = ap (λ (o : Option Term). elim o [ Some t ↦ holds_integer (normal_of t) | None ↦ false ]) e
 
+-- the term of a name that stands for these
+abbrev term_by : Option Operator → Option Constant → Option Definition → Option Term
+term_by o c d = elim o [ Some p ↦ applied p no_terms | None ↦ (elim c [ Some k ↦ Some (apply (constant k) no_terms) | None ↦ option_and_then (λ e. expansion e no_terms) d ]) ]
+
 -- without an operator, a constant and a definition of a name it has no term
-unknown_by : (o : Option Operator) (c : Option Constant) (d : Option Definition) → not (is_some o || is_some c || is_some d) ≡ true
-    → elim o [ Some p ↦ applied p no_terms | None ↦ (elim c [ Some k ↦ Some (apply (constant k) no_terms) | None ↦ option_and_then (λ e. expansion e no_terms) d ]) ] ≡ None
+unknown_by : (o : Option Operator) (c : Option Constant) (d : Option Definition) → not (is_some o || is_some c || is_some d) ≡ true → term_by o c d ≡ None
 unknown_by (Some o) c d e = cc
 unknown_by None (Some c) d e = cc
 unknown_by None None (Some d) e = cc
@@ -65,7 +68,7 @@ unknown_none s x e = unknown_by (operator_named x.name) (constant_named (constan
 pub found_none : (s : State) (x : Assumption) (ns : List Node) (unknown : Bool) → assumes_unknown s x ≡ unknown → assumed_term s x ≡ None
     → IsFoundAs s x ns (record { literal = None; is_unknown = unknown; holds_integer = false })
 found_none s x ns unknown u e =
-    record { number = sym (none_holds s x e); unknown = sym u; literal = subst (IsFoundLiteral ns None) (sym (none_assumed s x e)) tt }
+    record { integer = sym (none_holds s x e); unknown = sym u; literal = subst (IsFoundLiteral ns None) (sym (none_assumed s x e)) tt }
 
 literal_found : (ns : List Node) (b sign : Bool) (t : Term) (id : ℕ) → StandsFor ns id (normal_of t)
     → IsFoundLiteral ns (cond b (Some (record { term = id; is_true = sign })) None) (literal_by b sign t)
@@ -77,7 +80,7 @@ pub found_term : (s : State) (x : Assumption) (ns : List Node) (made : Typed) (b
     → IsFoundAs s x ns (record { literal = cond b (Some (record { term = made.id; is_true = x.is_true })) None; is_unknown = false; holds_integer = holds })
 found_term s x ns made b holds u h e f =
     record {
-      number = f ∙ sym (ap (λ (o : Option Term). elim o [ Some t ↦ holds_integer (normal_of t) | None ↦ false ]) h.is);
+      integer = f ∙ sym (ap (λ (o : Option Term). elim o [ Some t ↦ holds_integer (normal_of t) | None ↦ false ]) h.is);
       unknown = sym u;
       literal = subst (IsFoundLiteral ns (cond b (Some (record { term = made.id; is_true = x.is_true })) None))
           (sym (ap (assumed_by x.is_true) h.is ∙ ap (λ c. literal_by c x.is_true h.term) (ap (are_same_sort bool_sort) (sym h.typed.sort) ∙ e)))
@@ -148,7 +151,7 @@ pub found_with : TermStays → (s : State) (old new : List Node) (xs : List Assu
     → HasFound s xs old before → IsFoundAs s x new one → IsWithOne before one after → HasFound s (xs ++ x ∷ []) new after
 found_with stays s old new xs x before after one g h k w =
     record {
-      numbers = w.numbers ∙ ap (λ b. b || one.holds_integer) h.numbers ∙ ap (λ b. list_any (assumes_integer s) xs || b) k.number ∙ sym (any_last (assumes_integer s) xs x);
+      integers = w.integers ∙ ap (λ b. b || one.holds_integer) h.integers ∙ ap (λ b. list_any (assumes_integer s) xs || b) k.integer ∙ sym (any_last (assumes_integer s) xs x);
       unknown = w.unknown ∙ ap (λ b. b || one.is_unknown) h.unknown ∙ ap (λ b. list_any (assumes_unknown s) xs || b) k.unknown ∙ sym (any_last (assumes_unknown s) xs x);
       literals = subst (AreFoundLiterals new after.is_missorted after.literals.items) (sym (literals_last s xs x))
           (literals_with new before after one.literal (assumed_literals s xs) (assumed_literal s x)
@@ -157,27 +160,27 @@ found_with stays s old new xs x before after one g h k w =
 
 -- ---- What becomes of the check
 
-under_by : (s : State) (xs : List Assumption) (numbers unknown : Bool) (o : Option (List Literal)) → (items_hold_integers (items_of s.levels) || list_any (assumes_integer s) xs) ≡ numbers
+under_by : (s : State) (xs : List Assumption) (integers unknown : Bool) (o : Option (List Literal)) → (items_hold_integers (items_of s.levels) || list_any (assumes_integer s) xs) ≡ integers
     → list_any (assumes_unknown s) xs ≡ unknown → assumed_literals s xs ≡ o
-    → check_under s xs ≡ cond numbers not_taken (cond unknown (refused unknown_symbol) (elim o [ Some ls ↦ accepted (check_sat ls) | None ↦ refused wrong_sort ]))
-under_by s xs numbers unknown o e f g = rw (e, f, g) refl
+    → check_under s xs ≡ cond integers not_taken (cond unknown (refused unknown_symbol) (elim o [ Some ls ↦ accepted (check_sat ls) | None ↦ refused wrong_sort ]))
+under_by s xs integers unknown o e f g = rw (e, f, g) refl
 
 module _ (old : List Node) (standing : Standing) (s : State) (xs : List Assumption) (ns : List Node) (f : FoundAssumptions) (live : IsLive old standing s) (h : HasFound s xs ns f) where
-  numbers_told : (b : Bool) → (standing.top.holds_integers || f.holds_integer) ≡ b → (items_hold_integers (items_of s.levels) || list_any (assumes_integer s) xs) ≡ b
-  numbers_told b e = ap (λ c. c || list_any (assumes_integer s) xs) (live_numbers old standing s live) ∙ ap (λ c. standing.top.holds_integers || c) (sym h.numbers) ∙ e
+  integers_told : (b : Bool) → (standing.top.holds_integers || f.holds_integer) ≡ b → (items_hold_integers (items_of s.levels) || list_any (assumes_integer s) xs) ≡ b
+  integers_told b e = ap (λ c. c || list_any (assumes_integer s) xs) (live_integers old standing s live) ∙ ap (λ c. standing.top.holds_integers || c) (sym h.integers) ∙ e
 
-  pub under_numbers : (standing.top.holds_integers || f.holds_integer) ≡ true → check_under s xs ≡ not_taken
-  under_numbers e = under_by s xs true (list_any (assumes_unknown s) xs) (assumed_literals s xs) (numbers_told true e) refl refl
+  pub under_integers : (standing.top.holds_integers || f.holds_integer) ≡ true → check_under s xs ≡ not_taken
+  under_integers e = under_by s xs true (list_any (assumes_unknown s) xs) (assumed_literals s xs) (integers_told true e) refl refl
 
   pub under_unknown : (standing.top.holds_integers || f.holds_integer) ≡ false → f.is_unknown ≡ true → check_under s xs ≡ refused unknown_symbol
-  under_unknown e u = under_by s xs false true (assumed_literals s xs) (numbers_told false e) (sym h.unknown ∙ u) refl
+  under_unknown e u = under_by s xs false true (assumed_literals s xs) (integers_told false e) (sym h.unknown ∙ u) refl
 
   missorted_none : (o : Option (List Literal)) → AreFoundLiterals ns f.is_missorted f.literals.items o → f.is_missorted ≡ true → o ≡ None
   missorted_none (Some ls) k m = let no : true ≡ false = sym m ∙ k.0 in cc
   missorted_none None k m = refl
 
   pub under_missorted : (standing.top.holds_integers || f.holds_integer) ≡ false → f.is_unknown ≡ false → f.is_missorted ≡ true → check_under s xs ≡ refused wrong_sort
-  under_missorted e u m = under_by s xs false false None (numbers_told false e) (sym h.unknown ∙ u) (missorted_none (assumed_literals s xs) h.literals m)
+  under_missorted e u m = under_by s xs false false None (integers_told false e) (sym h.unknown ∙ u) (missorted_none (assumed_literals s xs) h.literals m)
 
   some_literals : (o : Option (List Literal)) → AreFoundLiterals ns f.is_missorted f.literals.items o → f.is_missorted ≡ false → (ls : List Literal) × (o ≡ Some ls) × AreAssumed ns f.literals.items ls
   some_literals (Some ls) k m = (ls, refl, k.1)
@@ -187,14 +190,14 @@ module _ (old : List Node) (standing : Standing) (s : State) (xs : List Assumpti
       → (ls : List Literal) × (check_under s xs ≡ accepted (check_sat ls)) × AreAssumed ns f.literals.items ls
   under_literals e u m =
       let found = some_literals (assumed_literals s xs) h.literals m in
-      (found.0, under_by s xs false false (Some found.0) (numbers_told false e) (sym h.unknown ∙ u) found.1, found.2)
+      (found.0, under_by s xs false false (Some found.0) (integers_told false e) (sym h.unknown ∙ u) found.1, found.2)
 
   either_left : (a b : Bool) → (a || b) ≡ false → a ≡ false
   either_left true b e = cc
   either_left false b e = refl
 
   pub holds_none : (standing.top.holds_integers || f.holds_integer) ≡ false → items_hold_integers (items_of s.levels) ≡ false
-  holds_none e = live_numbers old standing s live ∙ either_left standing.top.holds_integers f.holds_integer e
+  holds_none e = live_integers old standing s live ∙ either_left standing.top.holds_integers f.holds_integer e
 
 pub comes_under : TermStays → (old mid new : List Node) (standing : Standing) (xs : List Assumption) (f : FoundAssumptions) (act : Act) → asked act ≡ check f.literals.items → Grows old mid → Grows mid new → Grows old new
     → HasCompanions new → ((s : State) → IsLive old standing s → HasFound s xs mid f) → (standing.top.holds_integers || f.holds_integer) ≡ false → f.is_unknown ≡ false → f.is_missorted ≡ false
@@ -209,7 +212,7 @@ comes_under stays old mid new standing xs f act a first then_more whole companio
               command = check_sat h.0;
               is = h.1;
               asks = record { literals = h.0; assumes = all_longer stays mid new then_more f.literals.items h.0 h.2; is = refl };
-              live = λ reply. let kept = live_grown stays old new standing s whole companions live in kept;
+              live = λ reply. live_by_levels new standing s (effect s (check_sat h.0) reply) refl refl (live_grown stays old new standing s whole companions live);
             },
             holds_none old standing s xs mid f live (found s live) e,
           ));
@@ -218,23 +221,23 @@ comes_under stays old mid new standing xs f act a first then_more whole companio
       unchanged = tt;
       skipped_terms = subst (λ ask. IfSkipped ask (new ≡ old)) (sym a) tt;
       skipped = subst (λ ask. IfSkipped ask (standing ≡ standing)) (sym a) tt;
-      moves = subst (λ ask. Moves ask (asserted_by standing) (asserted_by standing)) (sym a) (goes_on_same (asserted_by standing));
+      moves = subst (λ ask. Moves ask (asserted_by standing) (asserted_by standing)) (sym a) refl;
     }
 
-pub comes_of_numbers : (old new : List Node) (standing : Standing) (xs : List Assumption) (mid : List Node) (f : FoundAssumptions) (act : Act) → asked act ≡ unsupported → new ≡ old
+pub comes_of_integers : (old new : List Node) (standing : Standing) (xs : List Assumption) (mid : List Node) (f : FoundAssumptions) (act : Act) → asked act ≡ unsupported → new ≡ old
     → ((s : State) → IsLive old standing s → HasFound s xs mid f) → (standing.top.holds_integers || f.holds_integer) ≡ true
     → Comes old new standing standing (checks_assuming xs) (λ s. check_under s xs) (Ok act)
-comes_of_numbers old new standing xs mid f act a same found e =
+comes_of_integers old new standing xs mid f act a same found e =
     record {
       accepted = λ s live.
           subst (λ ask. Leaves s (checks_assuming xs) (check_under s xs) ask new standing) (sym a)
-          (record { is = under_numbers old standing s xs mid f live (found s live) e; live = subst (λ ns. IsLive ns standing s) (sym same) live });
+          (record { is = under_integers old standing s xs mid f live (found s live) e; live = subst (λ ns. IsLive ns standing s) (sym same) live });
       refused = tt;
       kept = ap (take (length old)) same ∙ kept_where_same old;
       unchanged = tt;
       skipped_terms = subst (λ ask. IfSkipped ask (new ≡ old)) (sym a) same;
       skipped = subst (λ ask. IfSkipped ask (standing ≡ standing)) (sym a) refl;
-      moves = subst (λ ask. Moves ask (asserted_by standing) (asserted_by standing)) (sym a) (goes_on_same (asserted_by standing));
+      moves = subst (λ ask. Moves ask (asserted_by standing) (asserted_by standing)) (sym a) refl;
     }
 
 -- a rule that the check breaks

@@ -44,9 +44,9 @@ module _ (ns : List Node) (names : List (List ℕ × naming.Named)) (l : Layer) 
   top_count [] h = absurd h
   top_count (items ∷ older) h = h.0.count
 
-  pub top_numbers : (levels : List (List LiveItem)) → AreLevels ns names (l ∷ ls) levels → items_hold_integers (items_of levels) ≡ l.holds_integers
-  top_numbers [] h = absurd h
-  top_numbers (items ∷ older) h = h.0.numbers
+  pub top_integers : (levels : List (List LiveItem)) → AreLevels ns names (l ∷ ls) levels → items_hold_integers (items_of levels) ≡ l.holds_integers
+  top_integers [] h = absurd h
+  top_integers (items ∷ older) h = h.0.integers
 
 -- there are as many layers as levels
 pub as_many_levels : (ns : List Node) (names : List (List ℕ × naming.Named)) (ls : List Layer) (levels : List (List LiveItem)) → AreLevels ns names ls levels → length ls ≡ length levels
@@ -60,6 +60,10 @@ levels_pushed ns standing s live =
     let many : suc (length (reverse standing.below)) ≡ length s.levels = as_many_levels ns standing.names (newest_first standing) s.levels live.levels in
     let turned : length (reverse standing.below) ≡ length standing.below = length-reverse standing.below in
     omega (arith, many, turned)
+
+-- there are as many layers below the newest as the code keeps levels there
+pub as_many_below : (items : List Level) (standing : Standing) → map layer_of items ≡ standing.below → length items ≡ length standing.below
+as_many_below items standing e = sym (length-map items layer_of) ∙ ap length e
 
 -- ---- Lists over all levels
 
@@ -148,7 +152,7 @@ levels_stay stays old new more e names (l ∷ ls) (items ∷ older) h = (
     before = h.0.before;
     has = items_kept stays old new more l items e h.0.has;
     count = h.0.count;
-    numbers = h.0.numbers;
+    integers = h.0.integers;
   },
   levels_stay stays old new more e (take l.names_before names) ls older h.1,
 )
@@ -200,7 +204,7 @@ fresh_level ns names top ls levels h =
         before = none;
         has = nothing_in ns (length names) top.constant_count top.holds_integers;
         count = top_count ns names top ls levels h ∙ ap (λ items. length (constants_in items)) (sym same);
-        numbers = ap items_hold_integers same ∙ top_numbers ns names top ls levels h;
+        integers = ap items_hold_integers same ∙ top_integers ns names top ls levels h;
       },
       subst (λ ms. AreLevels ns ms (top ∷ ls) levels) (sym (take_whole names)) h,
     )
@@ -282,7 +286,7 @@ nothing_below (l ∷ ls) e = absurd (omega (arith, e))
 pub first_level : (ns : List Node) (names : List (List ℕ × naming.Named)) → IsScope ns names [] nothing_declared → AreLevels ns names (empty_layer (length names) 0 false ∷ []) ([] ∷ [])
 first_level ns names h =
     let within : length names ≤ length names = omega arith in (
-      record { named = h; before = within; has = nothing_in ns (length names) 0 false; count = refl; numbers = refl },
+      record { named = h; before = within; has = nothing_in ns (length names) 0 false; count = refl; integers = refl },
       subst (λ ms. IsScope ns ms [] nothing_declared) (sym (take_whole names)) h,
     )
 

@@ -27,7 +27,7 @@ use Rattle.nz_sort.specs.Acts.{is_plain}
 use Rattle.nz_sort.proofs.Lists.{take_front}
 use Rattle.nz_sort.proofs.Naming.{are_live}
 use Rattle.nz_sort.proofs.Accepting.{items_in-last, constants_in-append, definitions_in-append}
-use Rattle.nz_sort.proofs.Leveling.{newest_first, is_live, live_longer, top_scope, top_count, top_numbers, first_level}
+use Rattle.nz_sort.proofs.Leveling.{newest_first, is_live, live_longer, top_scope, top_count, top_integers, first_level}
 
 -- ---- Items
 
@@ -51,8 +51,8 @@ next_after n m e = omega (arith, e)
 pub as_many : (ns : List Node) (standing : Standing) (s : State) → IsLive ns standing s → standing.top.constant_count ≡ length (constants_of s)
 as_many ns standing s live = top_count ns standing.names standing.top (reverse standing.below) s.levels live.levels
 
-pub live_numbers : (ns : List Node) (standing : Standing) (s : State) → IsLive ns standing s → items_hold_integers (items_of s.levels) ≡ standing.top.holds_integers
-live_numbers ns standing s live = top_numbers ns standing.names standing.top (reverse standing.below) s.levels live.levels
+pub live_integers : (ns : List Node) (standing : Standing) (s : State) → IsLive ns standing s → items_hold_integers (items_of s.levels) ≡ standing.top.holds_integers
+live_integers ns standing s live = top_integers ns standing.names standing.top (reverse standing.below) s.levels live.levels
 
 -- ---- Tables that are kept
 
@@ -144,7 +144,7 @@ companions_made old mid new mark e g has made = made (subst HasCompanions (sym (
 -- ---- What commands leave that bring no item
 
 -- what is live rests on the levels and the next number alone
-live_by_levels : (ns : List Node) (standing : Standing) (s t : State) → t.levels ≡ s.levels → t.next ≡ s.next → IsLive ns standing s → IsLive ns standing t
+pub live_by_levels : (ns : List Node) (standing : Standing) (s t : State) → t.levels ≡ s.levels → t.next ≡ s.next → IsLive ns standing s → IsLive ns standing t
 live_by_levels ns standing s t e f live =
     is_live ns standing t (subst (AreLevels ns standing.names (newest_first standing)) (sym e) live.levels) live.companions (live.next ∙ sym f)
 

@@ -1,6 +1,6 @@
 -- Levels that are pushed and popped, and resets: the rules on them, and what they leave.
 use Rattle.std.proofs.Common.{◌≡◌, ◌≤◌, ◌<◌, ℕ, List, length, Option, Some, None, Ok, Err, Bool, true, false, nat_lt, cond, refl, sym, ap, ◌∙◌, subst}
-use Rattle.std.proofs.lemmas.Bool.{ltb-false, le-ltb}
+use Rattle.std.proofs.lemmas.Bool.{lt-ltb, le-ltb}
 use Rattle.nz_spec.specs.Table.{Node}
 use Rattle.nz_spec.specs.Request.{pushes, pops, resets, resets_assertions}
 use Rattle.nz_spec.specs.Live.{State, pushed_levels}
@@ -49,7 +49,7 @@ pop_by s n b e = ap (λ c. cond c (refused below_zero) (accepted (pop_levels n))
 
 pop_below_zero : (ns : List Node) (standing : Standing) (s : State) (n : ℕ) → length standing.below < n → IsLive ns standing s → pop_of s (Some n) ≡ refused below_zero
 pop_below_zero ns standing s n few live =
-    pop_by s n true (ap (λ m. nat_lt m n) (sym (levels_pushed ns standing s live)) ∙ le-ltb few)
+    pop_by s n true (ap (λ m. nat_lt m n) (sym (levels_pushed ns standing s live)) ∙ lt-ltb (length standing.below) n few)
 
 pub comes_too_wide : (ns : List Node) (standing : Standing) → Comes ns ns standing standing (pops None) (λ s. pop_of s None) (Err errors.TooWide)
 comes_too_wide ns standing = comes_refused ns ns standing standing (pops None) (λ s. pop_of s None) errors.TooWide (λ s live. refl) (kept_where_same ns) refl
@@ -65,7 +65,7 @@ comes_popped ns before after n enough d =
       accepted = λ s live.
           record {
             command = pop_levels n;
-            is = pop_by s n false (ap (λ m. nat_lt m n) (sym (levels_pushed ns before s live)) ∙ ltb-false enough);
+            is = pop_by s n false (ap (λ m. nat_lt m n) (sym (levels_pushed ns before s live)) ∙ le-ltb (length before.below) n enough);
             asks = (n, refl);
             live = λ reply.
                 is_live ns after (effect s (pop_levels n) reply) (levels_less ns n before after s.levels d live.levels) live.companions (next_dropped n before after d ∙ live.next);

@@ -24,7 +24,7 @@ use Rattle.nz_sort.specs.Acts.{asked, rule_of, is_plain, AsksBy}
 use Rattle.nz_sort.specs.Changes.{Comes, ComesBy}
 use Rattle.nz_sort.specs.Live.{Standing, IsLive, IsCarriedOut, Leaves, Moves, asserted_by, Ask, Asks, changed, popped, cleared, reset, check, show_model, show_values, show_reason, show_info, show_levels, print_success, nothing, echo, leave, unsupported}
 use Rattle.nz_sort.proofs.Leveling.{goes_on_same}
-use Rattle.nz_sort.proofs.Living.{leaves_asked, leaves_by, live_numbers, if_skipped, kept_where_same}
+use Rattle.nz_sort.proofs.Living.{leaves_asked, leaves_by, live_integers, if_skipped, kept_where_same}
 
 pub if_some_weaker : {P Q : spec.Error → Type 0} (o : Option spec.Error) → ((e : spec.Error) → P e → Q e) → IfSome o P → IfSome o Q
 if_some_weaker None f h = tt
@@ -80,6 +80,17 @@ pub within_bounds : (s : State) (t : Tree) (r : Request) → (passes_limit s r |
     → outcome_requested s t r ≡ outcome_by s r
 within_bounds s t r l w = rw (l, w) refl
 
+or_true : (b : Bool) → (b || true) ≡ true
+or_true true = refl
+or_true false = refl
+
+-- a decimal of too many places is past a limit, and so is a command that goes beyond one of its own
+pub breaks_places : (s : State) (t : Tree) (r : Request) → has_token is_long_decimal t ≡ true → outcome_requested s t r ≡ refused past_limit
+breaks_places s t r long = breaks_limit s t r (ap (λ b. passes_limit s r || b) long ∙ or_true (passes_limit s r))
+
+pub breaks_own : (s : State) (t : Tree) (r : Request) → passes_limit s r ≡ true → outcome_requested s t r ≡ refused past_limit
+breaks_own s t r own = breaks_limit s t r (ap (λ b. b || has_token is_long_decimal t) own)
+
 -- ---- What comes of a command
 
 -- a refusal leaves what stood
@@ -126,28 +137,28 @@ plain_stays popped standing e = cc
 plain_stays cleared standing e = tt
 plain_stays reset standing e = tt
 plain_stays (check xs) standing e = cc
-plain_stays show_model standing e = goes_on_same (asserted_by standing)
-plain_stays (show_values xs) standing e = goes_on_same (asserted_by standing)
-plain_stays show_reason standing e = goes_on_same (asserted_by standing)
-plain_stays (show_info i) standing e = goes_on_same (asserted_by standing)
-plain_stays show_levels standing e = goes_on_same (asserted_by standing)
-plain_stays (print_success b) standing e = goes_on_same (asserted_by standing)
-plain_stays nothing standing e = goes_on_same (asserted_by standing)
-plain_stays echo standing e = goes_on_same (asserted_by standing)
-plain_stays leave standing e = goes_on_same (asserted_by standing)
-plain_stays unsupported standing e = goes_on_same (asserted_by standing)
+plain_stays show_model standing e = refl
+plain_stays (show_values xs) standing e = refl
+plain_stays show_reason standing e = refl
+plain_stays (show_info i) standing e = refl
+plain_stays show_levels standing e = refl
+plain_stays (print_success b) standing e = refl
+plain_stays nothing standing e = refl
+plain_stays echo standing e = refl
+plain_stays leave standing e = refl
+plain_stays unsupported standing e = refl
 
 asked_plain : (outcome : Outcome) (act : Act) → AsksBy outcome act → is_plain (asked act) ≡ true
 asked_plain (accepted c) act h = h.plain
 asked_plain (refused e) act h = absurd h
 asked_plain not_taken act h = ap is_plain h
 
-stays_put : (standing : Standing) (act : Act) {becomes : State → Outcome} → ((s : State) → AsksBy (becomes s) act) → Moves (asked act) (asserted_by standing) (asserted_by standing)
-stays_put standing act {becomes = becomes} h = plain_stays (asked act) standing (asked_plain (becomes start) act (h start))
+stays_put : (standing : Standing) (act : Act) (becomes : State → Outcome) → ((s : State) → AsksBy (becomes s) act) → Moves (asked act) (asserted_by standing) (asserted_by standing)
+stays_put standing act becomes h = plain_stays (asked act) standing (asked_plain (becomes start) act (h start))
 
 pub comes_only : (ns : List Node) (standing : Standing) (r : Request) (becomes : State → Outcome) (act : Act) → ((s : State) → AsksBy (becomes s) act)
     → Comes ns ns standing standing r becomes (Ok act)
-comes_only ns standing r becomes act h = comes_by_leaving ns standing r becomes act (stays_put standing act h) (λ s live. leaves_only ns standing s r (becomes s) act (h s) live)
+comes_only ns standing r becomes act h = comes_by_leaving ns standing r becomes act (stays_put standing act becomes h) (λ s live. leaves_only ns standing s r (becomes s) act (h s) live)
 
 pub comes_asked : (ns : List Node) (standing : Standing) (r : Request) (act : Act) (c : Command) → is_plain (asked act) ≡ true → Asks ns (asked act) r c
     → ((s : State) (reply : Reply) → (effect s c reply).levels ≡ s.levels) → ((s : State) (reply : Reply) → (effect s c reply).next ≡ s.next)
@@ -163,9 +174,9 @@ leaves_checked : (ns : List Node) (standing : Standing) (s : State) (act : Act) 
     → Leaves s checks (outcome_by s checks) (asked act) ns standing
 leaves_checked ns standing s act true e a live =
     subst (λ ask. Leaves s checks (outcome_by s checks) ask ns standing) (sym a)
-    (record { is = ap (λ b. cond b not_taken (accepted (check_sat []))) (live_numbers ns standing s live ∙ e); live = live })
+    (record { is = ap (λ b. cond b not_taken (accepted (check_sat []))) (live_integers ns standing s live ∙ e); live = live })
 leaves_checked ns standing s act false e a live =
-    let none = live_numbers ns standing s live ∙ e in
+    let none = live_integers ns standing s live ∙ e in
     subst (λ ask. Leaves s checks (outcome_by s checks) ask ns standing) (sym a)
     ((
       leaves_asked ns standing s checks (outcome_by s checks) (check []) (check_sat []) (ap (λ b. cond b not_taken (accepted (check_sat []))) none)
@@ -174,8 +185,8 @@ leaves_checked ns standing s act false e a live =
     ))
 
 check_stays : (ask : Ask) (standing : Standing) (holds : Bool) (xs : List Assumed) → ask ≡ cond holds unsupported (check xs) → Moves ask (asserted_by standing) (asserted_by standing)
-check_stays ask standing true xs a = subst (λ x. Moves x (asserted_by standing) (asserted_by standing)) (sym a) (goes_on_same (asserted_by standing))
-check_stays ask standing false xs a = subst (λ x. Moves x (asserted_by standing) (asserted_by standing)) (sym a) (goes_on_same (asserted_by standing))
+check_stays ask standing true xs a = subst (λ x. Moves x (asserted_by standing) (asserted_by standing)) (sym a) refl
+check_stays ask standing false xs a = subst (λ x. Moves x (asserted_by standing) (asserted_by standing)) (sym a) refl
 
 pub comes_checked : (ns : List Node) (standing : Standing) (act : Act) → asked act ≡ cond standing.top.holds_integers unsupported (check [])
     → Comes ns ns standing standing checks (λ s. outcome_by s checks) (Ok act)

@@ -196,9 +196,10 @@ pub record IsCutBack (before after : List (List ℕ)) : Type 0 where
   pub some : 0 < length after
   pub front : take (length after) before ≡ after
 
--- What comes of them where a command asks this.
+-- What comes of them where a command asks this: but for items, levels and resets they stay.
 abbrev pub Moves : Ask → List (List ℕ) → List (List ℕ) → Type 0
+Moves changed before after = GoesOn before after
 Moves popped before after = IsCutBack before after
 Moves cleared before after = ⊤
 Moves reset before after = ⊤
-Moves ask before after = GoesOn before after
+Moves ask before after = after ≡ before

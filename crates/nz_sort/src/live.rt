@@ -598,6 +598,7 @@ impl Live {
         ensures accepted { IfOk result (λ xs. (s : State) → IsLive terms.old self.now s → Shows (map question_view questions.now) (values_asked s (map question_view questions.now)) terms.new xs.items) }
         ensures refused { IfErr result (λ refusal. IfSome (rule_of refusal) (λ e. (s : State) → IsLive terms.old self.now s → values_asked s (map question_view questions.now) ≡ refused e)) }
     {
+        grows_twice();
         let mark = terms.mark();
         let values = elaborate_all(self.alloc, &self.names, terms, questions)?;
         if !are_linear(terms, values.as_slice()) {

@@ -17,7 +17,7 @@ pub loop-assumption-preserved : goal.loop-assumption-preserved
 loop-assumption-preserved c =
     let old = c.args.terms.now in
     let mid = c.loop-assumption.terms in
-    let new = c.assumed_term-one.new.terms in
+    let new = c.assumed_term.new.terms in
     let g = c.loop-assumption.invariant.grows in
     let xs = c.args.assumptions.now in
     let i = c.loop-assumption.assumption-index in
