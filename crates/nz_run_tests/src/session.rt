@@ -369,7 +369,7 @@ const DECLARED_AGAIN: Told = Told {
     script: b"(push)(declare-const p Bool)(assert p)(check-sat)(pop)(assert p)
         (declare-const p Real)(assert (< p 1))(check-sat)(assert (> p 1))(check-sat)(pop)",
     ended: Fed::Going,
-    replies: b"sat\n(error \"2 unknown symbol\")\nsat\nunsat\n(error \"6 pop below zero\")\n",
+    replies: b"sat\n(error \"2 unknown symbol\")\nsat\nunsat\n(error \"8 pop below zero\")\n",
 };
 
 #[test]
