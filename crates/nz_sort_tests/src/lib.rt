@@ -2,4 +2,6 @@
 #![tactic(auto)]
 
 #[cfg(test)]
+mod levels;
+#[cfg(test)]
 mod sort;

@@ -18,7 +18,7 @@ use std::process::Abort;
 use std::test::Fail;
 
 /// The two are the same.
-fn is<T: PartialEq + Debug + Drop>(rt: &impl Abort, got: T, want: T, what: &str) {
+pub(crate) fn is<T: PartialEq + Debug + Drop>(rt: &impl Abort, got: T, want: T, what: &str) {
     assert_eq!(rt; got, want, "{what}");
 }
 
@@ -217,7 +217,7 @@ fn commanded(live: &mut Live, terms: &mut Terms, tree: &Tree) -> Result<Act, Err
 }
 
 /// What accepted commands leave.
-fn after(alloc: Global, commands: &[&str]) -> Result<(Live, Terms), Fail>
+pub(crate) fn after(alloc: Global, commands: &[&str]) -> Result<(Live, Terms), Fail>
     ensures live { IfOk result (λ left. (s : State) × IsLive left.1 left.0 s) }
 {
     let mut live = Live::new(alloc)?;
@@ -228,12 +228,12 @@ fn after(alloc: Global, commands: &[&str]) -> Result<(Live, Terms), Fail>
     Ok((live, terms))
 }
 
-fn constants_are(rt: &impl Abort, live: &Live, want: &[Accepted]) {
-    is(rt, live.constants(), want, "constants");
+pub(crate) fn constants_are(rt: &impl Abort, live: &Live, want: &[Accepted]) {
+    is(rt, live.top().constants(), want, "constants");
 }
 
-fn assertions_are(rt: &impl Abort, live: &Live, want: &[Accepted]) {
-    is(rt, live.assertions(), want, "assertions");
+pub(crate) fn assertions_are(rt: &impl Abort, live: &Live, want: &[Accepted]) {
+    is(rt, live.top().assertions(), want, "assertions");
 }
 
 const OF_ALL_KINDS: &[&str] = &[
@@ -263,7 +263,7 @@ fn items_of_all_kinds_share_one_order(rt: HostRuntime) -> Result<(), Fail> {
 }
 
 /// How many terms the table has after the commands, and the list of those that are live.
-fn listed_after(alloc: Global, commands: &[&str]) -> Result<(usize, Vec<TermId>), Fail> {
+pub(crate) fn listed_after(alloc: Global, commands: &[&str]) -> Result<(usize, Vec<TermId>), Fail> {
     let (live, terms) = after(alloc, commands)?;
     let ids = live.term_list(alloc, &terms, &[])?;
     Ok((terms.len(), ids))
@@ -284,7 +284,8 @@ fn a_term_list_has_companions(rt: HostRuntime) -> Result<(), Fail> {
 
 /// How many goals, wishes and levels there are.
 fn counts(live: &Live) -> (usize, usize, usize) {
-    (live.goals().len(), live.wishes().len(), live.levels())
+    let top = live.top();
+    (top.goals().len(), top.wishes().len(), live.levels())
 }
 
 const PLAIN: &[&str] = &["declare-const p Bool", "assert p"];
@@ -311,7 +312,10 @@ fn outcomes(alloc: Global, commands: &[&str]) -> Result<Vec<&'static str>, Fail>
 fn word_of(outcome: &Result<Act, Error>) -> &'static str {
     match outcome {
         Ok(Act::Changed) => "changed",
-        Ok(Act::Check) => "check",
+        Ok(Act::Popped) => "popped",
+        Ok(Act::Cleared) => "cleared",
+        Ok(Act::Reset) => "reset",
+        Ok(Act::Check(_)) => "check",
         Ok(Act::ShowModel) => "model",
         Ok(Act::ShowValues(_)) => "values",
         Ok(Act::ShowReason) => "reason",
@@ -329,13 +333,14 @@ fn word_of(outcome: &Result<Act, Error>) -> &'static str {
         Err(Error::NotLinear) => "4",
         Err(Error::TooWide) => "5",
         Err(Error::Limit) => "6",
+        Err(Error::BelowZero) => "8",
         Err(Error::AlreadyDeclared) => "9",
         Err(_) => "another error",
     }
 }
 
 /// This comes of each of the commands in turn.
-fn come(
+pub(crate) fn come(
     rt: &impl Abort,
     alloc: Global,
     commands: &[&str],
@@ -474,7 +479,7 @@ const ASK: &[&str] = &[
     "get-value ( x )",
     "get-model",
     "echo \"a",
-    "push 1",
+    "minimize x",
     "check-sat",
     "exit",
     "exit now",
