@@ -1,5 +1,5 @@
 -- What becomes of a command, by the rules in their order.
-use Rattle.std.proofs.Common.{◌≡◌, ◌||◌, List, [], ◌∷◌, length, take, Option, Some, None, IfSome, IfErr, IsErrAnd, Result, Ok, Err, Bool, true, false, cond, refl, sym, ap, ◌∙◌, subst}
+use Rattle.std.proofs.Common.{◌≡◌, ◌||◌, List, [], length, take, Option, Some, None, IfSome, IfErr, IsErrAnd, Result, Ok, Err, Bool, true, false, cond, refl, sym, ap, ◌∙◌, subst}
 use Rattle.nz_spec.specs.Tree.{Tree}
 use Rattle.nz_spec.specs.Bounds.{has_token, is_wide_token, is_long_decimal}
 use Rattle.nz_spec.specs.Table.{Node}
