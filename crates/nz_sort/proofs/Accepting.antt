@@ -1,5 +1,5 @@
 -- The live items, one of them more.
-use Rattle.std.proofs.Common.{◌||◌, not, flat_map, ◌≡◌, ℕ, ◌<◌, List, [], ◌∷◌, ◌++◌, length, map, Bool, true, false, cond, All, refl, sym, ap, ◌∙◌, append-nil, length-append, subst, arith}
+use Rattle.std.proofs.Common.{◌||◌, flat_map, ◌≡◌, ℕ, ◌<◌, List, [], ◌∷◌, ◌++◌, length, map, Bool, true, false, cond, All, refl, sym, ap, ◌∙◌, append-nil, length-append, subst, arith}
 use Rattle.std.proofs.lemmas.Grind.{flat_map-append}
 use Rattle.std.specs.List.{list_any}
 use Rattle.std.proofs.lemmas.List.Folds.{list_any-append}
@@ -13,7 +13,6 @@ use Rattle.nz_spec.specs.Live.{LiveItem, Item, cost_of, declared, defined, asser
 use Rattle.nz_spec.specs.Live as live_state
 use Rattle.nz_term.specs.Constants.{sort_of}
 use Rattle.nz_elaborate.specs.declared.typed.Typed.{Typed}
-use Rattle.nz_elaborate.specs.declared.names.Definition.{Definition}
 use Rattle.nz_sort.specs.declared.items.Accepted.{Accepted}
 use Rattle.nz_sort.specs.declared.items.Goal.{Goal}
 use Rattle.nz_sort.specs.declared.items.Wish.{Wish}

@@ -1,5 +1,5 @@
 -- Declarations: the rules on one, and what it leaves.
-use Rattle.std.proofs.Common.{◌||◌, ◌+◌, ◌≤◌, ◌≡◌, ℕ, ◌<◌, List, [], ◌∷◌, ◌++◌, length, length-append, map, take, None, Some, Ok, Bool, true, false, nat_eq, slice_get, refl, sym, ap, ◌∙◌, append-nil, subst, arith}
+use Rattle.std.proofs.Common.{◌||◌, ◌+◌, ◌≡◌, ℕ, ◌<◌, List, [], ◌∷◌, ◌++◌, length, length-append, map, take, None, Some, Ok, true, false, nat_eq, refl, sym, ap, ◌∙◌, append-nil, subst, arith}
 use Rattle.std.specs.Prelude.{reverse}
 use Rattle.std.specs.List.{list_any}
 use Rattle.std.proofs.lemmas.Option.{slice_get_within}

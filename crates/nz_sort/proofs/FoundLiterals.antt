@@ -1,5 +1,5 @@
 -- What is found of assumptions, one after another, and what becomes of a check under them.
-use Rattle.std.proofs.Common.{◌≡◌, ◌||◌, ℕ, List, [], ◌∷◌, ◌++◌, length, take, Option, Some, None, Ok, Err, Bool, true, false, not, is_some, cond, if◌then◌else◌, refl, sym, ap, ◌∙◌, subst, append-nil}
+use Rattle.std.proofs.Common.{◌≡◌, ◌||◌, ℕ, List, [], ◌∷◌, ◌++◌, length, take, Option, Some, None, Ok, Err, Bool, true, false, not, is_some, cond, if◌then◌else◌, refl, sym, ap, ◌∙◌, subst}
 use Rattle.std.specs.Prelude.{option_and_then}
 use Rattle.std.specs.List.{list_any}
 use Rattle.std.proofs.lemmas.List.Folds.{list_any-append}
@@ -13,7 +13,7 @@ use Rattle.nz_spec.specs.Request.{Assumption, checks_assuming}
 use Rattle.nz_spec.specs.Parse.{cons_onto}
 use Rattle.nz_spec.specs.Elaboration.{has_sort, Operator, operator_named, applied, Definition, expansion, constant_named, definition_named}
 use Rattle.nz_spec.specs.Live.{State, items_of, items_hold_integers, constants_of, definitions_of}
-use Rattle.nz_spec.specs.Command.{check_sat, Outcome, accepted, refused, not_taken}
+use Rattle.nz_spec.specs.Command.{check_sat, accepted, refused, not_taken}
 use Rattle.nz_spec.specs.Error.{unknown_symbol, wrong_sort}
 use Rattle.nz_spec.specs.Right.{effect}
 use Rattle.nz_spec.specs.Script.{assumed_term, assumes_unknown, assumes_integer, assumed_literal, assumed_literals, check_under}

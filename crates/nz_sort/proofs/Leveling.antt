@@ -1,5 +1,5 @@
 -- Levels: what holds of all of them, and what their changes leave.
-use Rattle.std.proofs.Common.{◌||◌, ◌+◌, ◌-◌, ◌≤◌, ◌≡◌, ℕ, zero, suc, ◌<◌, List, [], ◌∷◌, ◌++◌, length, map, take, drop, All, Bool, false, refl, sym, ap, ◌∙◌, append_assoc, append-nil, length-append, add-one, subst, arith}
+use Rattle.std.proofs.Common.{◌+◌, ◌-◌, ◌≤◌, ◌≡◌, ℕ, zero, suc, ◌<◌, List, [], ◌∷◌, ◌++◌, length, map, take, drop, All, Bool, false, refl, sym, ap, ◌∙◌, append_assoc, append-nil, length-append, add-one, subst, arith}
 use Rattle.std.specs.Prelude.{flat_map, reverse}
 use Rattle.std.specs.List.{repeat}
 use Rattle.std.proofs.lemmas.Grind.{flat_map-append}
@@ -10,14 +10,13 @@ use Rattle.nz_spec.specs.Normal.{normal_of}
 use Rattle.nz_spec.specs.Table.{Node, term_in, TermStays}
 use Rattle.nz_spec.specs.Order.{HasCompanions}
 use Rattle.nz_spec.specs.Decide.{asserted_numbers}
-use Rattle.nz_spec.specs.Live.{State, LiveItem, Item, numbered_items, items_of, item_terms, items_hold_integers, constants_in, definitions_in, assertions_in, constants_of, definitions_of, assertions_of, with_item, pushed_levels}
+use Rattle.nz_spec.specs.Live.{State, LiveItem, Item, numbered_items, items_of, item_terms, items_hold_integers, constants_in, definitions_in, assertions_in, with_item, pushed_levels}
 use Rattle.nz_elaborate.specs.declared.names.Named as naming
 use Rattle.nz_elaborate.specs.Names.{IsScope, nothing_declared}
-use Rattle.nz_sort.specs.declared.items.Accepted.{Accepted}
 use Rattle.nz_sort.specs.Items.{table_numbers, items_in, StandForAll}
 use Rattle.nz_sort.specs.declared.levels.Level.{Level}
 use Rattle.nz_sort.specs.Layers.{Layer, layer_of, empty_layer}
-use Rattle.nz_sort.specs.Live.{Standing, standing_of, layers_of, asserted_by, constants_by, accepted_by, HasItems, scope_in, IsLevel, AreLevels, IsLive, GoesOn, IsCutBack}
+use Rattle.nz_sort.specs.Live.{Standing, standing_of, layers_of, asserted_by, HasItems, scope_in, IsLevel, AreLevels, IsLive, GoesOn, IsCutBack}
 use Rattle.nz_sort.specs.Changes.{fresh_layer, with_level, with_levels, Drops, DropsMany, IsCleared}
 use Rattle.nz_sort.proofs.Accepting.{constants_in-append, assertions_in-append, items_kept}
 use Rattle.nz_sort.proofs.Naming.{scope_stays}

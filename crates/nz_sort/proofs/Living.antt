@@ -1,5 +1,5 @@
 -- The live state after commands.
-use Rattle.std.proofs.Common.{◌||◌, ◌+◌, ◌-◌, ◌≤◌, ◌≡◌, ◌⊎◌, inl, inr, ℕ, suc, ◌<◌, List, [], ◌∷◌, ◌++◌, length, map, take, All, Option, None, Some, IfSome, IfNone, is_some, true, false, slice_get, refl, sym, ap, ◌∙◌, append_assoc, append-nil, length-append, subst, arith}
+use Rattle.std.proofs.Common.{◌+◌, ◌-◌, ◌≤◌, ◌≡◌, ◌⊎◌, inl, inr, ℕ, suc, ◌<◌, List, [], ◌∷◌, ◌++◌, length, map, take, All, Option, None, Some, IfSome, IfNone, is_some, true, false, slice_get, refl, sym, ap, ◌∙◌, append_assoc, append-nil, length-append, subst, arith}
 use Rattle.std.specs.Prelude.{flat_map, reverse}
 use Rattle.std.proofs.lemmas.List.Elements.{All-cons, All-nil}
 use Rattle.std.specs.List.{AllByRecursion}
@@ -19,7 +19,7 @@ use Rattle.nz_spec.specs.Right.{effect}
 use Rattle.nz_elaborate.specs.declared.names.Named as naming
 use Rattle.nz_elaborate.specs.Names.{IsScope, named_by, nothing_declared}
 use Rattle.nz_elaborate.specs.declared.typed.Typed.{Typed}
-use Rattle.nz_elaborate.specs.Typed.{IsOperator, Grows, StandsFor, IsTyped, AreTyped}
+use Rattle.nz_elaborate.specs.Typed.{Grows, StandsFor, IsTyped, AreTyped}
 use Rattle.nz_sort.specs.Items.{items_in}
 use Rattle.nz_sort.specs.Layers.{Layer, empty_layer}
 use Rattle.nz_sort.specs.Live.{Standing, accepted_by, AreLevels, IsLive, IsAccepted, Leaves, IfSkipped, Ask, Asks, changed, popped, cleared, reset, check, show_model, show_values, show_reason, show_info, show_levels, print_success, nothing, echo, leave, unsupported}

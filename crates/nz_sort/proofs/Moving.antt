@@ -1,5 +1,5 @@
 -- Levels that are pushed and popped, and resets: the rules on them, and what they leave.
-use Rattle.std.proofs.Common.{◌≡◌, ◌≤◌, ◌<◌, ℕ, List, length, Option, Some, None, Ok, Err, Bool, true, false, nat_lt, cond, refl, sym, ap, ◌∙◌, subst}
+use Rattle.std.proofs.Common.{◌≡◌, ◌≤◌, ◌<◌, ℕ, List, length, Some, None, Ok, Err, Bool, true, false, nat_lt, cond, refl, sym, ap, ◌∙◌, subst}
 use Rattle.std.proofs.lemmas.Bool.{lt-ltb, le-ltb}
 use Rattle.nz_spec.specs.Table.{Node}
 use Rattle.nz_spec.specs.Request.{pushes, pops, resets, resets_assertions}
@@ -13,7 +13,7 @@ use Rattle.nz_sort.specs.declared.acts.Act.TheVariants as acts
 use Rattle.nz_spec.specs.Right.{effect}
 use Rattle.nz_sort.specs.Live.{Standing, asserted_by, IsLive, GoesOn}
 use Rattle.nz_sort.specs.Changes.{Comes, with_levels, DropsMany, IsCleared}
-use Rattle.nz_sort.proofs.Leveling.{newest_first, is_live, levels_pushed, levels_more, next_with_levels, levels_less, next_dropped, levels_cleared, goes_on_levels, cut_back_by}
+use Rattle.nz_sort.proofs.Leveling.{is_live, levels_pushed, levels_more, next_with_levels, levels_less, next_dropped, levels_cleared, goes_on_levels, cut_back_by}
 use Rattle.nz_sort.proofs.Living.{kept_where_same}
 use Rattle.nz_sort.proofs.Ruling.{comes_refused}
 

@@ -1,11 +1,11 @@
 -- What becomes of a command, by the rules in their order.
-use Rattle.std.proofs.Common.{◌≡◌, ◌||◌, List, [], ◌∷◌, length, take, Option, Some, None, IfSome, IfErr, IsErrAnd, Result, Ok, Err, Bool, true, false, cond, refl, sym, ap, ◌∙◌, subst}
+use Rattle.std.proofs.Common.{◌≡◌, ◌||◌, ℕ, List, [], length, take, Option, Some, None, IfSome, IfErr, IsErrAnd, Result, Ok, Err, Bool, true, false, cond, refl, sym, ap, ◌∙◌, subst}
 use Rattle.nz_spec.specs.Tree.{Tree}
 use Rattle.nz_spec.specs.Bounds.{has_token, is_wide_token, is_long_decimal}
 use Rattle.nz_spec.specs.Table.{Node}
 use Rattle.nz_spec.specs.Request.{Request, checks, other_request}
 use Rattle.nz_spec.specs.Parse.{request_of}
-use Rattle.nz_spec.specs.Live.{State, start}
+use Rattle.nz_spec.specs.Live.{State, constants_of, pushed_levels, start}
 use Rattle.nz_spec.specs.Limits.{passes_limit}
 use Rattle.nz_spec.specs.Command.{Command, check_sat, Outcome, accepted, refused, not_taken}
 use Rattle.nz_spec.specs.Error as spec
@@ -23,8 +23,8 @@ use Rattle.nz_sort.specs.declared.acts.Assumed.{Assumed}
 use Rattle.nz_sort.specs.Acts.{asked, rule_of, is_plain, AsksBy}
 use Rattle.nz_sort.specs.Changes.{Comes, ComesBy}
 use Rattle.nz_sort.specs.Live.{Standing, IsLive, IsCarriedOut, Leaves, Moves, asserted_by, Ask, Asks, changed, popped, cleared, reset, check, show_model, show_values, show_reason, show_info, show_levels, print_success, nothing, echo, leave, unsupported}
-use Rattle.nz_sort.proofs.Leveling.{goes_on_same}
-use Rattle.nz_sort.proofs.Living.{leaves_asked, leaves_by, live_integers, if_skipped, kept_where_same}
+use Rattle.nz_sort.proofs.Leveling.{goes_on_same, levels_pushed}
+use Rattle.nz_sort.proofs.Living.{as_many, leaves_asked, leaves_by, live_integers, if_skipped, kept_where_same}
 
 pub if_some_weaker : {P Q : spec.Error → Type 0} (o : Option spec.Error) → ((e : spec.Error) → P e → Q e) → IfSome o P → IfSome o Q
 if_some_weaker None f h = tt
@@ -90,6 +90,12 @@ breaks_places s t r long = breaks_limit s t r (ap (λ b. passes_limit s r || b) 
 
 pub breaks_own : (s : State) (t : Tree) (r : Request) → passes_limit s r ≡ true → outcome_requested s t r ≡ refused past_limit
 breaks_own s t r own = breaks_limit s t r (ap (λ b. b || has_token is_long_decimal t) own)
+
+-- what is told of a limit by how many constants and levels are live
+pub limit_told : (ns : List Node) (standing : Standing) (s : State) (r : Request) (count pushed : ℕ) (told : Bool)
+    → ((s : State) → pushed_levels s ≡ pushed → length (constants_of s) ≡ count → told ≡ passes_limit s r) → count ≡ standing.top.constant_count → pushed ≡ length standing.below → IsLive ns standing s
+    → told ≡ passes_limit s r
+limit_told ns standing s r count pushed told tells e f live = tells s (sym (levels_pushed ns standing s live) ∙ sym f) (sym (as_many ns standing s live) ∙ sym e)
 
 -- ---- What comes of a command
 

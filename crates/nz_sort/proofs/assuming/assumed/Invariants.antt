@@ -1,4 +1,4 @@
-use Rattle.std.proofs.Common.{◌≡◌, [], map, take}
+use Rattle.std.proofs.Common.{[], map, take}
 use Rattle.nz_spec.specs.Live.{State}
 use Rattle.nz_spec.specs.Script.{scope_of}
 use Rattle.nz_command.specs.Requests.{assumption_view}

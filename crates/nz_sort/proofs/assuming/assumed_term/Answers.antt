@@ -42,7 +42,7 @@ returns-in-Err-Sort-clause-found c = λ s scope.
     let stop : c.elaborate.result ≡ Err Sort = search rules in
     let x = assumption_view c.args.assumption.now in
     let none = subst (λ (e : Expression). IsWellNamed (is_unknown_in (scope_of s) e) (has_clash e) (term_of (scope_of s) e ≡ None)) (name_view c.args.assumption.now.name)
-        (c.elaborate.ensures.refused stop (scope_of s) scope) in
+    (c.elaborate.ensures.refused stop (scope_of s) scope) in
     subst (λ (f : FoundAssumption). IsFoundAs s x c.elaborate.new.terms f) (sym c.without_term-in-Err-Sort.ensures.found) (found_none s x c.elaborate.new.terms false none.known none.holds)
 
 pub holds_integer-requires : goal.holds_integer-requires
@@ -54,6 +54,6 @@ returns-clause-found c = λ s scope.
     let ns = c.elaborate.new.terms in
     let made = c.in-Ok.made in
     let named = subst (λ (e : Expression). IsWellNamed (is_unknown_in (scope_of s) e) (has_clash e) (StandsAs (term_of (scope_of s) e) ns made)) (name_view c.args.assumption.now.name)
-        (c.in-Ok.ensures.found (scope_of s) scope) in
+    (c.in-Ok.ensures.found (scope_of s) scope) in
     subst (λ (o : Option Assumed). IsFoundAs s x ns (record { literal = o; is_unknown = false; holds_integer = c.holds_integer.result })) (sym c.literal_of.ensures.literal)
     (found_term s x ns made (are_same_sort bool_sort (sort_of made.sort)) c.holds_integer.result named.known named.holds refl (c.holds_integer.ensures.holds ∙ ap holds_integer named.holds.typed.normal))

@@ -16,7 +16,7 @@ use Rattle.nz_sort_tests.proofs.sort.commanded.Goals as goal
 
 -- something is live after a command that isn't refused
 left_live : (s : State) (r : Request) (outcome : Outcome) (ask : Ask) (ns : List Node) (standing : Standing) → Leaves s r outcome ask ns standing → (u : State) × IsLive ns standing u
-left_live s r outcome check ns standing h = (effect s h.0.command quiet, h.0.live quiet)
+left_live s r outcome (check xs) ns standing h = (effect s h.0.command quiet, h.0.live quiet)
 left_live s r outcome unsupported ns standing h = (s, h.live)
 left_live s r outcome ask ns standing h = (effect s h.command quiet, h.live quiet)
 

@@ -1,6 +1,5 @@
-use Rattle.std.proofs.Common.{◌≡◌, ◌∙◌, map, refl, sym, ap}
+use Rattle.std.proofs.Common.{◌∙◌, map, refl, sym, ap}
 use Rattle.nz_command.specs.Requests.{assumption_view}
-use Rattle.nz_spec.specs.Script.{scope_of}
 use Rattle.nz_sort.specs.Live.{Standing}
 use Rattle.nz_sort.proofs.FoundLiterals.{comes_under, comes_of_integers, comes_of_unknown, comes_of_sort}
 use Rattle.nz_sort.proofs.Living.{companions_made, cut_back, kept_where_grown, live_scope}

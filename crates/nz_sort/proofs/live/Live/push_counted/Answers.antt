@@ -4,7 +4,7 @@ use Rattle.nz_spec.specs.Script.{push_of}
 use Rattle.nz_command.specs.Requests.{count_view}
 use Rattle.nz_sort.specs.declared.acts.Act.TheVariants.{Changed}
 use Rattle.nz_sort.specs.Changes.{Comes, with_levels}
-use Rattle.nz_sort.proofs.Moving.{comes_pushed, comes_past_limit}
+use Rattle.nz_sort.proofs.Moving.{comes_pushed}
 use Rattle.nz_sort.proofs.live.Live.push_counted.Goals as goal
 
 pub returns : goal.returns
