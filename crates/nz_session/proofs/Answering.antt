@@ -254,7 +254,15 @@ bound_after c ls r w h = tt
 abbrev pub plainly : said.Reply → Answer
 plainly q = record { reply = q; cause = why.Plain; exits = false }
 
+-- so it is by a desk that is another one
+pub succeeds_too : {E : Type 0} (d e : Desk E) (answer : Answer) → d ≡ e → Succeeds d.prints_success answer → Succeeds e.prints_success answer
+succeeds_too {E} d e answer same h = subst (λ (x : Desk E). Succeeds x.prints_success answer) same h
+
 module _ {E : Type 0} (levels : E → List (List ℕ)) (table : E → List Node) where
+  pub answers_too : (c : Context) (t : Tree) (answer : Answer) (d e : Desk E) → d ≡ e → IsAnswer levels table c (intact t) answer (record e { prints_success = false })
+      → IsAnswer levels table c (intact t) answer (record d { prints_success = false })
+  answers_too c t answer d e same h = subst (λ (x : Desk E). IsAnswer levels table c (intact t) answer (record x { prints_success = false })) (sym same) h
+
   accepted_answer : (c : Context) (t : Tree) (k : Command) (r : Reply) (w : Cause) (answer : Answer) (desk : Desk E)
       → reply_of (intact t) answer.reply ≡ r → cause_of desk.terms answer.cause ≡ w → IsCauseWithin desk.terms answer.cause → TellsNoError r → outcome_of c.state t ≡ accepted k
       → IsRightCommand c k r w → Holds levels table desk (next c (effect c.state k r)) → (answer.exits ≡ true → k ≡ exit) → (answer.exits ≡ false → k ≡ exit → ⊥)

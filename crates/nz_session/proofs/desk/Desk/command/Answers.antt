@@ -16,10 +16,8 @@ use Rattle.nz_sort.specs.Assuming.{AreAssumed}
 use Rattle.nz_sort.specs.Acts.{info_meaning}
 use Rattle.nz_elaborate.specs.declared.typed.Typed.{Typed}
 use Rattle.nz_reply.specs.declared.reply.Reply.TheVariants as code
-use Rattle.nz_session.specs.declared.desk.Desk.{Desk}
-use Rattle.nz_session.specs.Desk.{IsAnswer, Succeeds}
-use Rattle.nz_session.specs.Told.{IsTold}
-use Rattle.nz_session.proofs.Answering.{Continues, accepted_as, change_ends, change_keeps, kept_after, still_as, goes_on_after_echo, goes_on_after_info, goes_on_after_levels, goes_on_after_nothing, goes_on_after_setting, holds_next, holds_set, ended_answer, done_answer, told_answer, exit_answer, tells_done}
+use Rattle.nz_session.specs.Desk.{IsAnswer}
+use Rattle.nz_session.proofs.Answering.{Continues, accepted_as, answers_too, succeeds_too, change_ends, change_keeps, kept_after, still_as, goes_on_after_echo, goes_on_after_info, goes_on_after_levels, goes_on_after_nothing, goes_on_after_setting, holds_next, holds_set, ended_answer, done_answer, told_answer, exit_answer, tells_done}
 use Rattle.nz_session.proofs.Checking.{assumed_taken}
 use Rattle.nz_session.proofs.Telling.{told_count, told_goes_on}
 use Rattle.nz_session.proofs.Valuing.{echo_told}
@@ -74,7 +72,7 @@ returns-in-Ok-ShowValues-clause-right g c x h =
     let r : IsCarriedOut x.state t (show_values c.in-Ok-ShowValues.asked.items) ns l = carried x.state h.live in
     let k = r.leaves in
     let kept = kept_after g.E.Decide.levels g.E.Decide.table c.args.self.now x ns l k.command (still_as k.command (get_value (asked_of k.asks.questions k.asks.terms)) k.asks.is tt) h on k.live in
-    c.show_values.ensures.right x t r.request k.command kept r.parsed k.is (subst (λ (xs : List Typed). AsksValues ns xs r.request k.command) (sym c.deref.ensures.value) k.asks)
+    c.show_values.ensures.right x t r.request k.command kept r.parsed k.is (subst (λ (xs : List Typed). AsksValues ns xs r.request k.command) (sym c.deref-in-Ok-ShowValues.ensures.value) k.asks)
 
 pub returns-in-Ok-ShowInfo-clause-right : goal.returns-in-Ok-ShowInfo-clause-right
 returns-in-Ok-ShowInfo-clause-right g c x h =
@@ -158,8 +156,8 @@ returns-in-Ok-Leave-clause-right g c x h =
     let r : IsCarriedOut x.state t leave ns l = carried x.state h.live in
     let k = r.leaves in
     let kept = kept_after g.E.Decide.levels g.E.Decide.table c.args.self.now x ns l k.command (still_as k.command exit k.asks tt) h on k.live in
-    exit_answer g.E.Decide.levels g.E.Decide.table x t c.done-in-Ok-Leave.result _
-    (tells_done x.state t c.args.self.now.prints_success c.done-in-Ok-Leave.result (c.done-in-Ok-Leave.ensures.done (intact t)) h.success)
+    exit_answer g.E.Decide.levels g.E.Decide.table x t c.done.result _
+    (tells_done x.state t c.args.self.now.prints_success c.done.result (c.done.ensures.done (intact t)) h.success)
     (accepted_as x.state t k.command exit k.is k.asks) kept
 
 pub pop_told-requires : goal.pop_told-requires
@@ -213,8 +211,8 @@ returns-in-Ok-Check-clause-right g c x h =
 pub forget-requires : goal.forget-requires
 forget-requires g c = record { told = told_count (g.E.Decide.levels c.args.self.now.engine) c.args.self.now.told (asserted_by c.args.self.now.live) c.requires.1.told }
 
-pub forget-requires-2 : goal.forget-requires-2
-forget-requires-2 g c = record { told = told_count (g.E.Decide.levels c.args.self.now.engine) c.args.self.now.told (asserted_by c.args.self.now.live) c.requires.1.told }
+pub forget-requires-in-Ok-Reset : goal.forget-requires-in-Ok-Reset
+forget-requires-in-Ok-Reset g c = record { told = told_count (g.E.Decide.levels c.args.self.now.engine) c.args.self.now.told (asserted_by c.args.self.now.live) c.requires.1.told }
 
 pub returns-in-Ok-Cleared-clause-right : goal.returns-in-Ok-Cleared-clause-right
 returns-in-Ok-Cleared-clause-right g c x h =
@@ -227,7 +225,7 @@ returns-in-Ok-Cleared-clause-right g c x h =
     let k = r.leaves in
     let desk = c.forget.new.self in
     let front = subst (λ ms. IsFrontOfTable ms ns) (sym c.forget.ensures.table) (front_of_more (g.E.Decide.table old.engine) old.terms ns h.front c.command.ensures.kept) in
-    let succeeds = subst (λ (d : Desk g.row.E). Succeeds d.prints_success c.succeeded.result) c.forget.ensures.rest c.succeeded.ensures.succeeds in
+    let succeeds = succeeds_too c.forget.new.self _ c.succeeded.result c.forget.ensures.rest c.succeeded.ensures.succeeds in
     subst (IsAnswer g.E.Decide.levels g.E.Decide.table x (intact t) c.succeeded.result) (sym c.forget.ensures.rest)
     (ended_answer g.E.Decide.levels g.E.Decide.table c.states_stay_sorted.ensures.stay x t reset_assertions c.succeeded.result _ h.sorted (accepted_as x.state t k.command reset_assertions k.is k.asks) tt
     succeeds (λ q. subst (λ (d : Command). IsLive ns l (effect x.state d q)) k.asks (k.live q)) (inl c.forget.ensures.told) front refl (λ q. h.success) h.bounded)
@@ -242,6 +240,6 @@ returns-in-Ok-Reset-clause-right g c x h =
     let r : IsCarriedOut x.state t asks.reset ns l = carried x.state h.live in
     let k = r.leaves in
     let front = subst (λ ms. IsFrontOfTable ms ns) (sym c.forget-in-Ok-Reset.ensures.table) (front_of_more (g.E.Decide.table old.engine) old.terms ns h.front c.command.ensures.kept) in
-    subst (λ (d : Desk g.row.E). IsAnswer g.E.Decide.levels g.E.Decide.table x (intact t) c.succeeded-in-Ok-Reset.result (record d { prints_success = false })) (sym c.forget-in-Ok-Reset.ensures.rest)
+    answers_too g.E.Decide.levels g.E.Decide.table x t c.succeeded-in-Ok-Reset.result c.forget-in-Ok-Reset.new.self _ c.forget-in-Ok-Reset.ensures.rest
     (ended_answer g.E.Decide.levels g.E.Decide.table c.states_stay_sorted.ensures.stay x t reset c.succeeded-in-Ok-Reset.result _ h.sorted (accepted_as x.state t k.command reset k.is k.asks) tt
     c.succeeded-in-Ok-Reset.ensures.succeeds (λ q. subst (λ (d : Command). IsLive ns l (effect x.state d q)) k.asks (k.live q)) (inl c.forget-in-Ok-Reset.ensures.told) front refl (λ q. refl) h.bounded)
