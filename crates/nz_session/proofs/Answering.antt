@@ -1,5 +1,5 @@
 -- What the desk holds after a command, and that its answer is right.
-use Rattle.std.proofs.Common.{◌≡◌, inl, ℕ, Bool, true, false, List, ◌∷◌, map, Option, Some, None, option_map, refl, sym, ap, ◌∙◌, subst}
+use Rattle.std.proofs.Common.{◌≡◌, inl, ℕ, Bool, true, false, List, ◌∷◌, Option, Some, None, option_map, refl, sym, ap, ◌∙◌, subst}
 use Rattle.std.specs.Prelude.{⊤, if◌then◌else◌}
 use Rattle.nz_lists.proofs.Fronts.{front_of_more}
 use Rattle.nz_spec.specs.Tree.{Tree}

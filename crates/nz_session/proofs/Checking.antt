@@ -1,5 +1,5 @@
 -- What is asserted and what is assumed are terms that checks take, where no live item holds a unit of sort Int.
-use Rattle.std.proofs.Common.{◌≡◌, ◌<◌, false, ℕ, List, [], ◌∷◌, length, map, sym, ap, ◌∙◌, subst}
+use Rattle.std.proofs.Common.{◌≡◌, false, List, [], ◌∷◌, map, sym, ap, ◌∙◌, subst}
 use Rattle.std.specs.Prelude.{All, flat_map}
 use Rattle.std.specs.List.{AllByRecursion, list_any}
 use Rattle.std.proofs.lemmas.List.Elements.{All-cons, All-from_recursion, All-nil}

@@ -1,16 +1,15 @@
 -- Assumed terms as literals of a table, and such literals that deny each other.
-use Rattle.std.proofs.Common.{◌≡◌, ◌==◌, ◌<◌, ◌≤◌, ◌+◌, inl, inr, ℕ, Bool, true, false, not, cond, IsTrue, List, [], ◌∷◌, ◌++◌, length, map, take, drop, get_or, Option, Some, None, refl, sym, ap, ◌∙◌, subst, arith}
+use Rattle.std.proofs.Common.{◌≡◌, ◌==◌, ◌<◌, ◌+◌, inl, inr, ℕ, Bool, true, false, not, cond, IsTrue, List, [], ◌∷◌, ◌++◌, length, map, take, drop, get_or, Option, Some, None, refl, sym, ap, ◌∙◌, subst, arith}
 use Rattle.std.specs.Prelude.{All, Contains}
-use Rattle.std.specs.List.{AllByRecursion}
 use Rattle.std.proofs.lemmas.Bool.Decides.{eqb_tells}
 use Rattle.std.proofs.lemmas.List.{take-append-drop, take_more}
 use Rattle.std.proofs.lemmas.List.Elements.{All-contains, All-from_recursion, All-map, All-nil, All-push, All-weaker, Contains-append_left, Contains-append_right, Contains-get_or}
 use Rattle.nz_lists.proofs.Elements.{AllByRecursion-map}
-use Rattle.nz_spec.specs.Term.{Term, Assignment, is_true, value_of}
+use Rattle.nz_spec.specs.Term.{Term, is_true, value_of}
 use Rattle.nz_spec.specs.Normal.{NormalKeepsValue}
 use Rattle.nz_spec.specs.Table.{Node, term_in}
 use Rattle.nz_spec.specs.Literal.{Literal, term_literal, is_at_most, is_below, are_same_sign, is_literal_true}
-use Rattle.nz_spec.specs.Model.{IsModel, IsUnsatisfiable}
+use Rattle.nz_spec.specs.Model.{IsUnsatisfiable}
 use Rattle.nz_log.specs.declared.term_lits.TermLit.{TermLit}
 use Rattle.nz_log.specs.TermLits.{turned, literal_of, AreConsistent}
 use Rattle.nz_sort.specs.declared.acts.Assumed.{Assumed}

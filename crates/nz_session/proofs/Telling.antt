@@ -1,5 +1,5 @@
 -- What the engine was told, where the live assertions change.
-use Rattle.std.proofs.Common.{◌≡◌, ◌⊎◌, inl, inr, ℕ, zero, suc, ◌+◌, ◌<◌, ◌≤◌, ◌-◌, List, [], ◌∷◌, ◌++◌, length, map, take, get_or, Some, Result, Ok, Err, OnOk, OnErr, refl, sym, ap, ◌∙◌, subst, arith, length-append, length-take, append_assoc, add-one}
+use Rattle.std.proofs.Common.{◌≡◌, inl, inr, ℕ, zero, suc, ◌+◌, ◌<◌, ◌≤◌, ◌-◌, List, [], ◌∷◌, ◌++◌, length, map, take, get_or, Some, Result, Ok, Err, OnOk, OnErr, refl, sym, ap, ◌∙◌, subst, arith, length-append, length-take, append_assoc, add-one}
 use Rattle.std.proofs.lemmas.List.{map-append, length-map, take-take, take-append-le, take_all}
 use Rattle.std.specs.Prelude.{slice_get}
 use Rattle.std.proofs.Math.Seq.{take-suc}
@@ -11,7 +11,7 @@ use Rattle.nz_sort.specs.Items.{table_numbers}
 use Rattle.nz_sort.specs.Layers.{Layer, layer_of}
 use Rattle.nz_sort.specs.Live.{Standing, layers_of, asserted_by, GoesOn, IsCutBack}
 use Rattle.nz_session.specs.declared.told.Told.{Told}
-use Rattle.nz_session.specs.Told.{IsToldNothing, IsToldFirst, IsTold, IsBegun}
+use Rattle.nz_session.specs.Told.{IsToldFirst, IsTold, IsBegun}
 
 -- as many levels were told as the engine has
 pub told_count : (levels : List (List ℕ)) (t : Told) (asserted : List (List ℕ)) → IsTold levels t asserted → t.levels ≡ length levels

@@ -1,5 +1,5 @@
 use Rattle.std.specs.Prelude.{slice_get}
-use Rattle.nz_session.specs.Completed.{bound_at, completed, completed_values, valued_at}
+use Rattle.nz_session.specs.Completed.{bound_at, valued_at}
 use Rattle.nz_session.proofs.Assigning.{level_more}
 use Rattle.nz_session.proofs.models.bindings_of.Goals as goal
 

@@ -1,7 +1,7 @@
 -- What is bound so far, and then what the constants of the levels that are left are bound to, is all of it below the newest level.
-use Rattle.std.proofs.Common.{◌≡◌, ◌++◌, drop, map}
+use Rattle.std.proofs.Common.{◌≡◌, ◌++◌, drop}
 use Rattle.std.specs.Prelude.{flat_map}
-use Rattle.nz_sort.specs.Layers.{Layer, layer_of}
+use Rattle.nz_sort.specs.Layers.{Layer}
 use Rattle.nz_sort.specs.Items.{table_numbers}
 use Rattle.nz_session.specs.Completed.{completed, completed_values}
 use Rattle.nz_session.proofs.models.bindings_of.Given as goal

@@ -1,4 +1,4 @@
-use Rattle.std.proofs.Common.{◌≡◌, ◌+◌, ◌∙◌, length, ap, refl, arith}
+use Rattle.std.proofs.Common.{◌+◌, ◌∙◌, length, ap, refl, arith}
 use Rattle.nz_sort.specs.Live.{asserted_by}
 use Rattle.nz_sort.specs.Layers.{Layer}
 use Rattle.nz_session.proofs.Telling.{asserted_count, told_count, told_cut, told_popped}

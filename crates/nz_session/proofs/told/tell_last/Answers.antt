@@ -1,4 +1,4 @@
-use Rattle.std.proofs.Common.{◌≡◌, ◌∙◌, [], ◌∷◌, ◌++◌, length, take, get_or, ap, arith, length-append}
+use Rattle.std.proofs.Common.{◌∙◌, [], ◌∷◌, ◌++◌, length, take, get_or, ap, arith, length-append}
 use Rattle.nz_spec.specs.Decide.{with_number}
 use Rattle.nz_sort.specs.Items.{table_numbers}
 use Rattle.nz_session.proofs.Telling.{number_last, numbers_more}

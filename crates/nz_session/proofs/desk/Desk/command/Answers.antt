@@ -1,4 +1,4 @@
-use Rattle.std.proofs.Common.{◌∙◌, false, inl, List, refl, ap, sym, subst}
+use Rattle.std.proofs.Common.{◌∙◌, inl, List, refl, ap, sym, subst}
 use Rattle.std.specs.Prelude.{if◌then◌else◌}
 use Rattle.nz_lists.proofs.Fronts.{front_of_more}
 use Rattle.nz_sexpr.specs.View.{view}

@@ -1,10 +1,10 @@
-use Rattle.std.proofs.Common.{◌≡◌, ◌<◌, List, length, Some, refl, sym, ap, ◌∙◌, subst}
+use Rattle.std.proofs.Common.{◌<◌, List, length, Some, refl, sym, ap, ◌∙◌, subst}
 use Rattle.std.proofs.lemmas.List.Elements.{recursion_from_All}
 use Rattle.nz_spec.specs.Model.{AreModel, Binding, assignment_of}
 use Rattle.nz_spec.specs.Live.{model_found, constants_of, assertions_of}
 use Rattle.nz_sort.specs.Live.{constants_by}
 use Rattle.nz_reply.specs.declared.reply.Reply.TheVariants as code
-use Rattle.nz_session.specs.Completed.{completed, completed_values}
+use Rattle.nz_session.specs.Completed.{completed_values}
 use Rattle.nz_session.proofs.Answering.{checked}
 use Rattle.nz_session.specs.Desk.{AreValuesOf}
 use Rattle.nz_session.proofs.Assigning.{live_model, live_values, values_in}
