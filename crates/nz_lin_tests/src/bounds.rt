@@ -1,39 +1,28 @@
 //! Bounds: tight ones by a table, and each call that takes memory once.
-use crate::terms::form;
+use crate::terms::{Wrong, form};
+use Relation::{AtMost, Below};
 use nz_base::Memory;
 use nz_frac::Frac;
-use nz_lin::{Bound, Form, LinStop, Multiple, lin_difference, sum_of_multiples};
+use nz_lin::{Bound, Form, LinStop, Multiple, sum_of_multiples};
 use nz_term::{NumberSort, Operator, Sort, TermId, Terms};
 use nz_term_samples::{constant, integer, operation};
 use std::alloc::Global;
 use std::test::Fail;
 
-/// Two coefficients, the limit and whether it is strict.
+/// How a sum is bounded.
 #[derive(Clone, Copy)]
-struct Row {
-    first: i64,
-    second: i64,
-    limit: i64,
-    strict: bool,
+enum Relation {
+    AtMost,
+    Below,
 }
 
-/// `first * x + second * y <= limit`.
-fn at_most(first: i64, second: i64, limit: i64) -> Row {
-    Row {
-        first,
-        second,
-        limit,
-        strict: false,
-    }
-}
+/// That `first * x + second * y` is at most a limit, or below it: the coefficients, which of both, and the limit.
+#[derive(Clone, Copy)]
+struct Row(i64, i64, Relation, i64);
 
-/// `first * x + second * y < limit`.
-fn below(first: i64, second: i64, limit: i64) -> Row {
-    Row {
-        first,
-        second,
-        limit,
-        strict: true,
+impl Row {
+    fn is_strict(&self) -> bool {
+        matches!(self.2, Below)
     }
 }
 
@@ -45,10 +34,10 @@ fn times(terms: &mut Terms, n: i64, id: TermId) -> Result<TermId, Memory> {
 
 /// What is at most 0, or below it, where the row's bound holds.
 fn difference(terms: &mut Terms, row: &Row, x: TermId, y: TermId) -> Result<TermId, Memory> {
-    let first = times(terms, row.first, x)?;
-    let second = times(terms, row.second, y)?;
+    let first = times(terms, row.0, x)?;
+    let second = times(terms, row.1, y)?;
     let sum = operation(terms, Operator::Sum(NumberSort::Int), &[first, second])?;
-    let limit = integer(terms, row.limit)?;
+    let limit = integer(terms, row.3)?;
     operation(terms, Operator::Difference(NumberSort::Int), &[sum, limit])
 }
 
@@ -59,14 +48,17 @@ fn row_term(alloc: Global, terms: &mut Terms, sort: Sort, row: &Row) -> Result<T
     difference(terms, row, x, y)
 }
 
-/// The row's bound over two constants of a sort; none where it isn't linear.
-fn bound_of(alloc: Global, sort: Sort, row: &Row) -> Result<Option<Bound>, LinStop> {
+/// The row's bound over two constants of a sort.
+fn bound_in(alloc: Global, terms: &mut Terms, sort: Sort, row: &Row) -> Result<Bound, LinStop> {
+    let difference = row_term(alloc, terms, sort, row)?;
+    let form = form(alloc, terms, difference)?;
+    Ok(bound_on(form, row.is_strict()))
+}
+
+/// The same over terms of its own.
+fn bound_of(alloc: Global, sort: Sort, row: &Row) -> Result<Bound, LinStop> {
     let mut terms = Terms::new(alloc)?;
-    let difference = row_term(alloc, &mut terms, sort, row)?;
-    match form(alloc, &terms, difference) {
-        Some(form) => Ok(Some(bound_on(form?, row.strict))),
-        None => Ok(None),
-    }
+    bound_in(alloc, &mut terms, sort, row)
 }
 
 /// The bound that the form is at most 0, or below it.
@@ -82,165 +74,186 @@ fn bound_on(form: Form, strict: bool) -> Bound {
 fn is_row(bound: &Bound, row: &Row) -> bool {
     match bound.parts() {
         [x, y] => {
-            x.coefficient == Frac::whole(row.first)
-                && y.coefficient == Frac::whole(row.second)
-                && bound.limit() == Frac::whole(row.limit)
-                && bound.is_strict() == row.strict
+            x.coefficient == Frac::whole(row.0)
+                && y.coefficient == Frac::whole(row.1)
+                && bound.limit() == Frac::whole(row.3)
+                && bound.is_strict() == row.is_strict()
         }
         _ => false,
     }
 }
 
-/// Whether the tight bound of one row is that of the other.
-fn is_tight(alloc: Global, sort: Sort, row: &Row, tight: &Row) -> Result<bool, LinStop> {
-    match bound_of(alloc, sort, row)? {
-        Some(bound) => Ok(is_row(&bound.tight(alloc)?, tight)),
-        None => Ok(false),
+/// Fails at this place of a table, where it isn't so.
+fn expect(holds: bool, place: usize) -> Result<(), Fail> {
+    if holds {
+        Ok(())
+    } else {
+        Err(Fail::from(Wrong { place }))
     }
 }
+
+/// Whether a bound's tight one is that of the row.
+fn has_tight(alloc: Global, bound: &Bound, tight: &Row) -> Result<bool, LinStop> {
+    let made = bound.tight(alloc)?;
+    Ok(is_row(&made, tight))
+}
+
+/// Whether the tight bound of one row is that of the other.
+fn is_tight(alloc: Global, sort: Sort, row: &Row, tight: &Row) -> Result<bool, LinStop> {
+    let bound = bound_of(alloc, sort, row)?;
+    has_tight(alloc, &bound, tight)
+}
+
+/// Whether the tight bounds of these rows, over a sort, are those of the others.
+fn are_tight(alloc: Global, sort: Sort, rows: &[(Row, Row)]) -> Result<(), Fail> {
+    for (place, (row, tight)) in rows.iter().enumerate() {
+        expect(is_tight(alloc, sort, row, tight)?, place)?;
+    }
+    Ok(())
+}
+
+const OF_INTEGERS: &[(Row, Row)] = &[
+    // A common divisor goes; the limit is rounded down, also below 0.
+    (Row(2, -4, AtMost, 7), Row(1, -2, AtMost, 3)),
+    (Row(2, -4, AtMost, -7), Row(1, -2, AtMost, -4)),
+    (Row(-6, -4, AtMost, -7), Row(-3, -2, AtMost, -4)),
+    (Row(3, 6, AtMost, -9), Row(1, 2, AtMost, -3)),
+    // What is below an integer is at most the one before.
+    (Row(2, 4, Below, 8), Row(1, 2, AtMost, 3)),
+    (Row(2, 4, Below, -8), Row(1, 2, AtMost, -5)),
+    (Row(3, 6, Below, 7), Row(1, 2, AtMost, 2)),
+    (Row(3, 6, Below, -7), Row(1, 2, AtMost, -3)),
+    (Row(2, 3, Below, 7), Row(2, 3, AtMost, 6)),
+];
 
 #[test]
 fn a_bound_over_integers_is_rounded(rt: HostRuntime) -> Result<(), Fail> {
-    let rows = [
-        // A common divisor goes; the limit is rounded down, also below 0.
-        (at_most(2, -4, 7), at_most(1, -2, 3)),
-        (at_most(2, -4, -7), at_most(1, -2, -4)),
-        (at_most(-6, -4, -7), at_most(-3, -2, -4)),
-        (at_most(3, 6, -9), at_most(1, 2, -3)),
-        // What is below an integer is at most the one before.
-        (below(2, 4, 8), at_most(1, 2, 3)),
-        (below(2, 4, -8), at_most(1, 2, -5)),
-        (below(3, 6, 7), at_most(1, 2, 2)),
-        (below(3, 6, -7), at_most(1, 2, -3)),
-        (below(2, 3, 7), at_most(2, 3, 6)),
-    ];
-    for (row, tight) in rows {
-        assert!(rt; is_tight(rt.alloc(), Sort::Int, &row, &tight)?);
-    }
-    Ok(())
+    are_tight(rt.alloc(), Sort::Int, OF_INTEGERS)
 }
+
+const OF_REALS: &[(Row, Row)] = &[
+    (Row(2, -4, AtMost, -7), Row(2, -4, AtMost, -7)),
+    (Row(2, -4, Below, 8), Row(2, -4, Below, 8)),
+];
 
 #[test]
 fn a_bound_over_reals_stays(rt: HostRuntime) -> Result<(), Fail> {
-    let rows = [at_most(2, -4, -7), below(2, -4, 8)];
-    for row in rows {
-        assert!(rt; is_tight(rt.alloc(), Sort::Real, &row, &row)?);
-    }
-    Ok(())
+    are_tight(rt.alloc(), Sort::Real, OF_REALS)
+}
+
+/// Whether a bound's negation is that of the row.
+fn has_negation(alloc: Global, bound: &Bound, negation: &Row) -> Result<bool, LinStop> {
+    let made = bound.not(alloc)?;
+    Ok(is_row(&made, negation))
 }
 
 /// Whether the negation of one row's bound is that of the other.
 fn is_not(alloc: Global, row: &Row, negation: &Row) -> Result<bool, LinStop> {
-    match bound_of(alloc, Sort::Int, row)? {
-        Some(bound) => Ok(is_row(&bound.not(alloc)?, negation)),
-        None => Ok(false),
-    }
+    let bound = bound_of(alloc, Sort::Int, row)?;
+    has_negation(alloc, &bound, negation)
 }
+
+const NEGATIONS: &[(Row, Row)] = &[
+    (Row(2, -4, AtMost, 7), Row(-2, 4, Below, -7)),
+    (Row(2, -4, Below, 7), Row(-2, 4, AtMost, -7)),
+];
 
 #[test]
 fn a_negation_is_strict_where_the_bound_is_not(rt: HostRuntime) -> Result<(), Fail> {
-    let alloc = rt.alloc();
-    assert!(rt; is_not(alloc, &at_most(2, -4, 7), &below(-2, 4, -7))?);
-    assert!(rt; is_not(alloc, &below(2, -4, 7), &at_most(-2, 4, -7))?);
+    for (place, (row, negation)) in NEGATIONS.iter().enumerate() {
+        expect(is_not(rt.alloc(), row, negation)?, place)?;
+    }
     Ok(())
 }
 
-/// Whether twice one row's bound and then the other row's is the bound of the third.
-fn is_sum(alloc: Global, left: &Row, right: &Row, sum: &Row) -> Result<bool, LinStop> {
-    let Some(left) = bound_of(alloc, Sort::Int, left)? else {
-        return Ok(false);
-    };
-    let Some(right) = bound_of(alloc, Sort::Int, right)? else {
-        return Ok(false);
-    };
-    let mut twice = left.scaled(alloc, Frac::whole(2))?;
-    twice.join(&right)?;
-    let multiples = [
-        Multiple {
-            bound: left,
-            multiplier: Frac::whole(2),
-        },
-        Multiple {
-            bound: right,
-            multiplier: Frac::whole(1),
-        },
-    ];
-    let all = sum_of_multiples(alloc, &multiples)?;
-    Ok(is_row(&twice, sum) && is_row(&all, sum))
+/// Two bounds, and that of twice the first and then the second.
+struct Sum {
+    left: Row,
+    right: Row,
+    sum: Row,
 }
+
+/// Whether twice a bound and then another is that of the row, where they are joined one after the other.
+fn joins(alloc: Global, left: &Bound, right: &Bound, sum: &Row) -> Result<bool, LinStop> {
+    let mut twice = left.scaled(alloc, Frac::whole(2))?;
+    twice.join(right)?;
+    Ok(is_row(&twice, sum))
+}
+
+/// Whether the sum of multiples is the bound of the row.
+fn sums(alloc: Global, multiples: &[Multiple], sum: &Row) -> Result<bool, LinStop> {
+    let made = sum_of_multiples(alloc, multiples)?;
+    Ok(is_row(&made, sum))
+}
+
+/// So many times a bound.
+fn multiple(bound: Bound, number: i64) -> Multiple {
+    Multiple {
+        bound,
+        multiplier: Frac::whole(number),
+    }
+}
+
+/// Whether twice a bound and then another is that of the row, also as a sum of multiples.
+fn are_summed(alloc: Global, left: Bound, right: Bound, sum: &Row) -> Result<bool, LinStop> {
+    let are_joined = joins(alloc, &left, &right, sum)?;
+    let multiples = [multiple(left, 2), multiple(right, 1)];
+    Ok(are_joined && sums(alloc, &multiples, sum)?)
+}
+
+/// Whether it is so of a row's bounds.
+fn is_sum(alloc: Global, row: &Sum) -> Result<bool, LinStop> {
+    let left = bound_of(alloc, Sort::Int, &row.left)?;
+    let right = bound_of(alloc, Sort::Int, &row.right)?;
+    are_summed(alloc, left, right, &row.sum)
+}
+
+const SUMS: &[Sum] = &[
+    Sum {
+        left: Row(2, -4, AtMost, 7),
+        right: Row(1, 1, AtMost, -3),
+        sum: Row(5, -7, AtMost, 11),
+    },
+    Sum {
+        left: Row(2, -4, AtMost, 7),
+        right: Row(1, 1, Below, -3),
+        sum: Row(5, -7, Below, 11),
+    },
+];
 
 #[test]
 fn a_sum_of_multiples_is_strict_where_one_of_them_is(rt: HostRuntime) -> Result<(), Fail> {
-    let alloc = rt.alloc();
-    assert!(rt;
-        is_sum(
-            alloc,
-            &at_most(2, -4, 7),
-            &at_most(1, 1, -3),
-            &at_most(5, -7, 11)
-        )?
-    );
-    assert!(rt;
-        is_sum(
-            alloc,
-            &at_most(2, -4, 7),
-            &below(1, 1, -3),
-            &below(5, -7, 11)
-        )?
-    );
+    for (place, row) in SUMS.iter().enumerate() {
+        expect(is_sum(rt.alloc(), row)?, place)?;
+    }
     Ok(())
 }
 
-/// Whether twice one row's bound and then the other row's is a false bound on 0.
-fn is_clash(alloc: Global, left: &Row, right: &Row) -> Result<bool, LinStop> {
-    let Some(left) = bound_of(alloc, Sort::Real, left)? else {
-        return Ok(false);
-    };
-    let Some(mut right) = bound_of(alloc, Sort::Real, right)? else {
-        return Ok(false);
-    };
-    right.join_multiple(alloc, Frac::whole(2), &left)?;
+/// Whether twice a bound and then another is a false bound on 0.
+fn clash(alloc: Global, left: &Bound, mut right: Bound) -> Result<bool, LinStop> {
+    right.join_multiple(alloc, Frac::whole(2), left)?;
     Ok(right.is_contradiction())
 }
 
+/// Whether it is so of two rows' bounds.
+fn is_clash(alloc: Global, left: &Row, right: &Row) -> Result<bool, LinStop> {
+    let left = bound_of(alloc, Sort::Real, left)?;
+    let right = bound_of(alloc, Sort::Real, right)?;
+    clash(alloc, &left, right)
+}
+
+/// Two bounds, and whether they clash.
+const CLASHES: &[(Row, Row, bool)] = &[
+    (Row(1, -2, AtMost, 3), Row(-2, 4, AtMost, -7), true),
+    (Row(1, -2, AtMost, 3), Row(-2, 4, Below, -6), true),
+    (Row(1, -2, AtMost, 3), Row(-2, 4, AtMost, -6), false),
+    (Row(1, -2, AtMost, 3), Row(-2, 5, AtMost, -7), false),
+];
+
 #[test]
 fn a_false_bound_on_nothing_is_a_contradiction(rt: HostRuntime) -> Result<(), Fail> {
-    let alloc = rt.alloc();
-    assert!(rt; is_clash(alloc, &at_most(1, -2, 3), &at_most(-2, 4, -7))?);
-    assert!(rt; is_clash(alloc, &at_most(1, -2, 3), &below(-2, 4, -6))?);
-    assert!(rt; !is_clash(alloc, &at_most(1, -2, 3), &at_most(-2, 4, -6))?);
-    assert!(rt; !is_clash(alloc, &at_most(1, -2, 3), &at_most(-2, 5, -7))?);
-    Ok(())
-}
-
-/// The difference of two terms; none where one of them isn't linear.
-fn difference_of(
-    alloc: Global,
-    terms: &Terms,
-    left: TermId,
-    right: TermId,
-) -> Result<Option<Form>, LinStop> {
-    if terms.len() <= left || terms.len() <= right {
-        return Ok(None);
+    for (place, (left, right, wanted)) in CLASHES.iter().enumerate() {
+        expect(is_clash(rt.alloc(), left, right)? == *wanted, place)?;
     }
-    if terms.is_linear(left) && terms.is_linear(right) {
-        Ok(Some(lin_difference(alloc, terms, left, right)?))
-    } else {
-        Ok(None)
-    }
-}
-
-#[test]
-fn a_term_less_another_has_their_units(rt: HostRuntime) -> Result<(), Fail> {
-    let alloc = rt.alloc();
-    let mut terms = Terms::new(alloc)?;
-    let x = constant(alloc, &mut terms, b"x", Sort::Int)?;
-    let twice = times(&mut terms, 2, x)?;
-    let Some(form) = difference_of(alloc, &terms, x, twice)? else {
-        assert!(rt; false);
-        return Ok(());
-    };
-    assert_eq!(rt; form.parts().len(), 1);
-    assert!(rt; form.parts()[0].coefficient == Frac::whole(-1));
     Ok(())
 }

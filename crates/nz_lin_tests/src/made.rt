@@ -1,163 +1,191 @@
 //! What forms are made of.
-use crate::terms::form;
+use crate::terms::Term::{self, Constant, Number, Over};
+use crate::terms::{Wrong, form, form_of_last, make_all};
 use nz_base::Memory;
-use nz_lin::Form;
+use nz_frac::Frac;
+use nz_lin::{Form, LinStop, Part, lin_difference};
 use nz_term::{NumberSort, Operator, Sort, TermId, Terms};
-use nz_term_samples::{constant, numeral, operation};
+use nz_term_samples::{constant, operation};
 use std::alloc::Global;
 use std::test::Fail;
 
-/// Whether a part of the form, by its place, has this unit and this coefficient.
-fn has_part(form: &Form, place: usize, unit: TermId, num: i128, den: i128) -> bool {
-    match form.parts().get(place) {
-        Some(part) => {
-            part.unit == unit && part.coefficient.num() == num && part.coefficient.den() == den
+/// A unit by its number, with its sort, and its coefficient's numerator and denominator.
+struct Wanted(TermId, Sort, i128, i128);
+
+/// Terms, and the form of the last one: its parts, and the number that it adds.
+struct Row {
+    terms: &'static [Term],
+    parts: &'static [Wanted],
+    offset: (i128, i128),
+}
+
+fn is_number(number: Frac, num: i128, den: i128) -> bool {
+    number.num() == num && number.den() == den
+}
+
+fn is_part(part: &Part, wanted: &Wanted) -> bool {
+    part.unit == wanted.0
+        && part.sort == wanted.1
+        && is_number(part.coefficient, wanted.2, wanted.3)
+}
+
+/// Fails at the first part that is another. Where their count is another, that is the place of what is missing or too much.
+fn has_parts(parts: &[Part], wanted: &[Wanted]) -> Result<(), Wrong> {
+    for (place, (part, wanted)) in parts.iter().zip(wanted).enumerate() {
+        if !is_part(part, wanted) {
+            return Err(Wrong { place });
         }
-        None => false,
+    }
+    if parts.len() == wanted.len() {
+        Ok(())
+    } else {
+        Err(Wrong {
+            place: parts.len().min(wanted.len()),
+        })
     }
 }
 
-/// Whether the form adds this number.
-fn adds(form: &Form, num: i128, den: i128) -> bool {
-    form.offset().num() == num && form.offset().den() == den
+/// Fails where a form has another part or adds another number.
+fn is_made(form: &Form, parts: &[Wanted], offset: (i128, i128)) -> Result<(), Fail> {
+    has_parts(form.parts(), parts)?;
+    if is_number(form.offset(), offset.0, offset.1) {
+        Ok(())
+    } else {
+        Err(Fail::new("another offset"))
+    }
 }
 
-/// `(+ (* y 2) (/ x 2) 3 x)`.
-fn sum(terms: &mut Terms, x: TermId, y: TermId) -> Result<TermId, Memory> {
-    let two = numeral(terms, 2)?;
-    let three = numeral(terms, 3)?;
-    let twice = operation(terms, Operator::Product(NumberSort::Real), &[y, two])?;
-    let half = operation(terms, Operator::Quotient, &[x, two])?;
-    operation(
-        terms,
-        Operator::Sum(NumberSort::Real),
-        &[twice, half, three, x],
-    )
+/// Fails where the form of the last term is another.
+fn makes(alloc: Global, row: &Row) -> Result<(), Fail> {
+    let mut terms = Terms::new(alloc)?;
+    let form = form_of_last(alloc, &mut terms, row.terms)?;
+    is_made(&form, row.parts, row.offset)
 }
+
+const REAL_SUM: Operator = Operator::Sum(NumberSort::Real);
+
+const REAL_PRODUCT: Operator = Operator::Product(NumberSort::Real);
+
+const REAL_DIFFERENCE: Operator = Operator::Difference(NumberSort::Real);
+
+/// `(+ (* y 2) (/ x 2) 3 x)`.
+const SUM: Row = Row {
+    terms: &[
+        Constant(b'x', Sort::Real),
+        Constant(b'y', Sort::Real),
+        Number(2),
+        Number(3),
+        Over(REAL_PRODUCT, &[1, 2]),
+        Over(Operator::Quotient, &[0, 2]),
+        Over(REAL_SUM, &[4, 5, 3, 0]),
+    ],
+    parts: &[Wanted(0, Sort::Real, 3, 2), Wanted(1, Sort::Real, 2, 1)],
+    offset: (3, 1),
+};
 
 #[test]
 fn a_sum_has_each_unit_once(rt: HostRuntime) -> Result<(), Fail> {
-    let alloc = rt.alloc();
-    let mut terms = Terms::new(alloc)?;
-    let x = constant(alloc, &mut terms, b"x", Sort::Real)?;
-    let y = constant(alloc, &mut terms, b"y", Sort::Real)?;
-    let sum = sum(&mut terms, x, y)?;
-    let Some(form) = form(alloc, &terms, sum) else {
-        assert!(rt; false);
-        return Ok(());
-    };
-    let form = form?;
-    assert_eq!(rt; form.parts().len(), 2);
-    assert!(rt; has_part(&form, 0, x, 3, 2));
-    assert!(rt; has_part(&form, 1, y, 2, 1));
-    assert!(rt; adds(&form, 3, 1));
-    Ok(())
+    makes(rt.alloc(), &SUM)
 }
 
-/// `(- s y y)`.
-fn difference(terms: &mut Terms, s: TermId, y: TermId) -> Result<TermId, Memory> {
-    operation(terms, Operator::Difference(NumberSort::Real), &[s, y, y])
-}
+/// `(- s y y)`, where the first is that sum.
+const DIFFERENCE: Row = Row {
+    terms: &[
+        Constant(b'x', Sort::Real),
+        Constant(b'y', Sort::Real),
+        Number(2),
+        Number(3),
+        Over(REAL_PRODUCT, &[1, 2]),
+        Over(Operator::Quotient, &[0, 2]),
+        Over(REAL_SUM, &[4, 5, 3, 0]),
+        Over(REAL_DIFFERENCE, &[6, 1, 1]),
+    ],
+    parts: &[Wanted(0, Sort::Real, 3, 2)],
+    offset: (3, 1),
+};
 
 #[test]
 fn a_unit_goes_with_the_coefficient_0(rt: HostRuntime) -> Result<(), Fail> {
-    let alloc = rt.alloc();
-    let mut terms = Terms::new(alloc)?;
-    let x = constant(alloc, &mut terms, b"x", Sort::Real)?;
-    let y = constant(alloc, &mut terms, b"y", Sort::Real)?;
-    let sum = sum(&mut terms, x, y)?;
-    let less = difference(&mut terms, sum, y)?;
-    let Some(form) = form(alloc, &terms, less) else {
-        assert!(rt; false);
-        return Ok(());
-    };
-    let form = form?;
-    assert_eq!(rt; form.parts().len(), 1);
-    assert!(rt; has_part(&form, 0, x, 3, 2));
-    assert!(rt; adds(&form, 3, 1));
-    Ok(())
+    makes(rt.alloc(), &DIFFERENCE)
 }
 
-/// `(- (/ (* 2 u 3) (- 4)))` over a unit.
-fn nested(terms: &mut Terms, unit: TermId) -> Result<TermId, Memory> {
-    let two = numeral(terms, 2)?;
-    let three = numeral(terms, 3)?;
-    let four = numeral(terms, 4)?;
-    let less = operation(terms, Operator::Difference(NumberSort::Real), &[four])?;
-    let product = operation(
-        terms,
-        Operator::Product(NumberSort::Real),
-        &[two, unit, three],
-    )?;
-    let quotient = operation(terms, Operator::Quotient, &[product, less])?;
-    operation(terms, Operator::Difference(NumberSort::Real), &[quotient])
-}
-
-/// `(to_real (ite b i j))`, whose unit is the choice; answers both.
-fn choice(terms: &mut Terms, alloc: Global) -> Result<(TermId, TermId), Memory> {
-    let b = constant(alloc, terms, b"b", Sort::Bool)?;
-    let i = constant(alloc, terms, b"i", Sort::Int)?;
-    let j = constant(alloc, terms, b"j", Sort::Int)?;
-    let choice = operation(terms, Operator::Ite(Sort::Int), &[b, i, j])?;
-    let real = operation(terms, Operator::ToReal, &[choice])?;
-    Ok((choice, real))
-}
+/// `(- (/ (* 2 u 3) (- 4)))`, where the unit is the choice in `(to_real (ite b i j))`.
+const CHOICE: Row = Row {
+    terms: &[
+        Constant(b'b', Sort::Bool),
+        Constant(b'i', Sort::Int),
+        Constant(b'j', Sort::Int),
+        Over(Operator::Ite(Sort::Int), &[0, 1, 2]),
+        Over(Operator::ToReal, &[3]),
+        Number(2),
+        Number(3),
+        Number(4),
+        Over(REAL_DIFFERENCE, &[7]),
+        Over(REAL_PRODUCT, &[5, 4, 6]),
+        Over(Operator::Quotient, &[9, 8]),
+        Over(REAL_DIFFERENCE, &[10]),
+    ],
+    parts: &[Wanted(3, Sort::Int, 3, 2)],
+    offset: (0, 1),
+};
 
 #[test]
 fn a_choice_is_a_unit(rt: HostRuntime) -> Result<(), Fail> {
-    let alloc = rt.alloc();
-    let mut terms = Terms::new(alloc)?;
-    let (unit, real) = choice(&mut terms, alloc)?;
-    let nested = nested(&mut terms, real)?;
-    let Some(form) = form(alloc, &terms, nested) else {
-        assert!(rt; false);
-        return Ok(());
-    };
-    let form = form?;
-    assert_eq!(rt; form.parts().len(), 1);
-    assert!(rt; has_part(&form, 0, unit, 3, 2));
-    assert!(rt; form.parts()[0].sort == Sort::Int);
-    assert!(rt; adds(&form, 0, 1));
-    Ok(())
+    makes(rt.alloc(), &CHOICE)
 }
+
+const NEGATED: Row = Row {
+    terms: &[Number(7), Over(Operator::Difference(NumberSort::Int), &[0])],
+    parts: &[],
+    offset: (-7, 1),
+};
 
 #[test]
 fn a_constant_term_is_a_number(rt: HostRuntime) -> Result<(), Fail> {
-    let alloc = rt.alloc();
-    let mut terms = Terms::new(alloc)?;
-    let seven = numeral(&mut terms, 7)?;
-    let negated = operation(&mut terms, Operator::Difference(NumberSort::Int), &[seven])?;
-    let Some(form) = form(alloc, &terms, negated) else {
-        assert!(rt; false);
-        return Ok(());
-    };
-    let form = form?;
-    assert_eq!(rt; form.parts().len(), 0);
-    assert!(rt; adds(&form, -7, 1));
-    Ok(())
+    makes(rt.alloc(), &NEGATED)
 }
 
-/// A chain of sums, each of the one before with itself.
-fn chain(terms: &mut Terms, first: TermId, depth: usize) -> Result<TermId, Memory> {
-    let mut sum = first;
+/// A chain of sums over a constant, each of the one before with itself.
+fn chain(alloc: Global, terms: &mut Terms, depth: usize) -> Result<TermId, Memory> {
+    let mut sum = constant(alloc, terms, b"x", Sort::Real)?;
     for _ in 0..depth {
-        sum = operation(terms, Operator::Sum(NumberSort::Real), &[sum, sum])?;
+        sum = operation(terms, REAL_SUM, &[sum, sum])?;
     }
     Ok(sum)
 }
 
+/// The form of such a chain.
+fn form_of_chain(alloc: Global, terms: &mut Terms, depth: usize) -> Result<Form, LinStop> {
+    let last = chain(alloc, terms, depth)?;
+    form(alloc, terms, last)
+}
+
 #[test]
 fn a_shared_term_is_opened_once(rt: HostRuntime) -> Result<(), Fail> {
-    let alloc = rt.alloc();
-    let mut terms = Terms::new(alloc)?;
-    let x = constant(alloc, &mut terms, b"x", Sort::Real)?;
-    let last = chain(&mut terms, x, 100)?;
-    let Some(form) = form(alloc, &terms, last) else {
-        assert!(rt; false);
-        return Ok(());
-    };
-    let form = form?;
-    assert_eq!(rt; form.parts().len(), 1);
-    assert!(rt; has_part(&form, 0, x, 1 << 100, 1));
-    Ok(())
+    let mut terms = Terms::new(rt.alloc())?;
+    let form = form_of_chain(rt.alloc(), &mut terms, 100)?;
+    is_made(&form, &[Wanted(0, Sort::Real, 1 << 100, 1)], (0, 1))
+}
+
+/// `x` and `2 * x`.
+const TWICE: &[Term] = &[
+    Constant(b'x', Sort::Int),
+    Number(2),
+    Over(Operator::Product(NumberSort::Int), &[1, 0]),
+];
+
+/// The form of `x` less `2 * x`.
+fn difference(alloc: Global, terms: &mut Terms) -> Result<Form, LinStop> {
+    make_all(alloc, terms, TWICE)?;
+    if terms.len() <= 2 || !terms.is_linear(0) || !terms.is_linear(2) {
+        return Err(LinStop::Memory);
+    }
+    lin_difference(alloc, terms, 0, 2)
+}
+
+#[test]
+fn a_term_less_another_has_their_units(rt: HostRuntime) -> Result<(), Fail> {
+    let mut terms = Terms::new(rt.alloc())?;
+    let form = difference(rt.alloc(), &mut terms)?;
+    is_made(&form, &[Wanted(0, Sort::Int, -1, 1)], (0, 1))
 }

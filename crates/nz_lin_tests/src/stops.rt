@@ -1,93 +1,106 @@
 //! The first operation that leaves the numbers.
-use crate::terms::{MOST, form};
-use nz_base::Memory;
+use crate::terms::Term::{self, Constant, Number, Over};
+use crate::terms::{MOST, form_of_last};
 use nz_frac::{Op, Wide};
-use nz_lin::LinStop;
-use nz_term::{NumberSort, Operator, Sort, TermId, Terms};
-use nz_term_samples::{constant, numeral, operation};
+use nz_lin::{Form, LinStop};
+use nz_term::{NumberSort, Operator, Sort, Terms};
 use std::alloc::Global;
 use std::test::Fail;
 
-/// Whether the form of the term stops at this operation.
-fn stops_at(alloc: Global, terms: &Terms, id: TermId, op: Op, left: i128, right: i128) -> bool {
-    match &form(alloc, terms, id) {
-        Some(made) => match made {
-            Err(stop) => is_stop_at(stop, op, left, right),
-            Ok(_) => false,
-        },
-        None => false,
+/// Terms, and the operation at which the form of the last one stops.
+struct Row {
+    terms: &'static [Term],
+    op: Op,
+    left: i128,
+    right: i128,
+}
+
+/// Whether making a form stopped at the operation of the row.
+fn is_wide(made: &Result<Form, LinStop>, row: &Row) -> bool {
+    match made {
+        Err(LinStop::Wide(wide)) => is_at(*wide, row),
+        _ => false,
     }
 }
 
-/// Whether it stopped at this operation.
-fn is_stop_at(stop: &LinStop, op: Op, left: i128, right: i128) -> bool {
-    match stop {
-        LinStop::Wide(wide) => is_at(wide, op, left, right),
-        LinStop::Memory => false,
+/// Whether it is the operation of the row.
+fn is_at(wide: Wide, row: &Row) -> bool {
+    wide.op == row.op && wide.a.num() == row.left && wide.b.num() == row.right
+}
+
+/// Whether the form of the last term stops at the operation of the row.
+fn stops(alloc: Global, terms: &mut Terms, row: &Row) -> bool {
+    let made = form_of_last(alloc, terms, row.terms);
+    is_wide(&made, row)
+}
+
+/// Fails where it doesn't.
+fn stop(alloc: Global, row: &Row) -> Result<(), Fail> {
+    let mut terms = Terms::new(alloc)?;
+    if stops(alloc, &mut terms, row) {
+        Ok(())
+    } else {
+        Err(Fail::new("another operation, or none"))
     }
 }
 
-/// Whether it is this operation.
-fn is_at(wide: &Wide, op: Op, left: i128, right: i128) -> bool {
-    wide.op == op && wide.a.num() == left && wide.b.num() == right
-}
+const REAL_SUM: Operator = Operator::Sum(NumberSort::Real);
 
-/// `(* M u)`.
-fn most_times(terms: &mut Terms, unit: TermId) -> Result<TermId, Memory> {
-    let most = numeral(terms, MOST)?;
-    operation(terms, Operator::Product(NumberSort::Real), &[most, unit])
-}
+const REAL_PRODUCT: Operator = Operator::Product(NumberSort::Real);
 
 /// `(+ t (* 2 u))`, where the first is `(* M u)`.
-fn wide_sum(terms: &mut Terms, unit: TermId) -> Result<TermId, Memory> {
-    let times = most_times(terms, unit)?;
-    let two = numeral(terms, 2)?;
-    let twice = operation(terms, Operator::Product(NumberSort::Real), &[two, unit])?;
-    operation(terms, Operator::Sum(NumberSort::Real), &[times, twice])
-}
+const SUM: Row = Row {
+    terms: &[
+        Constant(b'x', Sort::Real),
+        Number(MOST),
+        Over(REAL_PRODUCT, &[1, 0]),
+        Number(2),
+        Over(REAL_PRODUCT, &[3, 0]),
+        Over(REAL_SUM, &[2, 4]),
+    ],
+    op: Op::Add,
+    left: MOST as i128,
+    right: 2,
+};
 
 #[test]
 fn a_wide_sum_is_told_with_its_operands(rt: HostRuntime) -> Result<(), Fail> {
-    let alloc = rt.alloc();
-    let mut terms = Terms::new(alloc)?;
-    let x = constant(alloc, &mut terms, b"x", Sort::Real)?;
-    let sum = wide_sum(&mut terms, x)?;
-    assert!(rt; stops_at(alloc, &terms, sum, Op::Add, MOST as i128, 2));
-    Ok(())
+    stop(rt.alloc(), &SUM)
 }
 
-/// `(- s s)` and then `(* M M)`, where the first stops at a sum.
-fn stops_twice(terms: &mut Terms, sum: TermId) -> Result<TermId, Memory> {
-    let most = numeral(terms, MOST)?;
-    let square = operation(terms, Operator::Product(NumberSort::Real), &[most, most])?;
-    operation(
-        terms,
-        Operator::Difference(NumberSort::Real),
-        &[sum, square],
-    )
-}
+/// That sum less `(* M M)`, where both stop.
+const BOTH: Row = Row {
+    terms: &[
+        Constant(b'x', Sort::Real),
+        Number(MOST),
+        Over(REAL_PRODUCT, &[1, 0]),
+        Number(2),
+        Over(REAL_PRODUCT, &[3, 0]),
+        Over(REAL_SUM, &[2, 4]),
+        Over(REAL_PRODUCT, &[1, 1]),
+        Over(Operator::Difference(NumberSort::Real), &[5, 6]),
+    ],
+    op: Op::Add,
+    left: MOST as i128,
+    right: 2,
+};
 
 #[test]
 fn the_first_of_two_is_told(rt: HostRuntime) -> Result<(), Fail> {
-    let alloc = rt.alloc();
-    let mut terms = Terms::new(alloc)?;
-    let x = constant(alloc, &mut terms, b"x", Sort::Real)?;
-    let sum = wide_sum(&mut terms, x)?;
-    let both = stops_twice(&mut terms, sum)?;
-    assert!(rt; stops_at(alloc, &terms, both, Op::Add, MOST as i128, 2));
-    Ok(())
+    stop(rt.alloc(), &BOTH)
 }
+
+const SQUARE: Row = Row {
+    terms: &[
+        Number(MOST),
+        Over(Operator::Product(NumberSort::Int), &[0, 0]),
+    ],
+    op: Op::Mul,
+    left: MOST as i128,
+    right: MOST as i128,
+};
 
 #[test]
 fn a_product_of_constants_may_stop(rt: HostRuntime) -> Result<(), Fail> {
-    let alloc = rt.alloc();
-    let mut terms = Terms::new(alloc)?;
-    let most = numeral(&mut terms, MOST)?;
-    let square = operation(
-        &mut terms,
-        Operator::Product(NumberSort::Int),
-        &[most, most],
-    )?;
-    assert!(rt; stops_at(alloc, &terms, square, Op::Mul, MOST as i128, MOST as i128));
-    Ok(())
+    stop(rt.alloc(), &SQUARE)
 }

@@ -1,15 +1,63 @@
-//! Forms of terms to try.
+//! Terms to try and their forms: terms are told by tables, so that one loop makes them, and a test is cheap to prove.
+use nz_base::Memory;
 use nz_lin::{Form, LinStop, lin};
-use nz_term::{TermId, Terms};
+use nz_term::{Operator, Sort, TermId, Terms};
+use nz_term_samples::{constant, numeral, operation};
 use std::alloc::Global;
 
 /// The largest number.
 pub(crate) const MOST: u128 = 170141183460469231731687303715884105727;
 
-/// The form of a term; none where it isn't linear.
-pub(crate) fn form(alloc: Global, terms: &Terms, id: TermId) -> Option<Result<Form, LinStop>> {
-    if terms.len() <= id || !terms.is_linear(id) {
-        return None;
+/// A term of a list, in which each has its place as its number: no term stands in it twice.
+pub(crate) enum Term {
+    /// The constant of this letter and sort.
+    Constant(u8, Sort),
+    Number(u128),
+    /// An operator over terms before it.
+    Over(Operator, &'static [TermId]),
+}
+
+/// Another outcome than was wanted, and at which place of a table.
+#[derive(Clone, Copy, Debug)]
+pub(crate) struct Wrong {
+    pub(crate) place: usize,
+}
+
+/// Makes a term.
+fn make(alloc: Global, terms: &mut Terms, term: &Term) -> Result<TermId, Memory> {
+    match term {
+        Term::Constant(letter, sort) => constant(alloc, terms, &[*letter], *sort),
+        Term::Number(number) => numeral(terms, *number),
+        Term::Over(operator, arguments) => operation(terms, *operator, arguments),
     }
-    Some(lin(alloc, terms, id))
+}
+
+/// Makes the terms of a list. Answers the number of the last one, and fails where some term isn't new.
+pub(crate) fn make_all(alloc: Global, terms: &mut Terms, list: &[Term]) -> Result<TermId, Memory> {
+    let mut last = 0;
+    for (place, term) in list.iter().enumerate() {
+        last = make(alloc, terms, term)?;
+        if last != place {
+            return Err(Memory);
+        }
+    }
+    Ok(last)
+}
+
+/// The form of a linear term. One that isn't linear fails the test.
+pub(crate) fn form(alloc: Global, terms: &Terms, id: TermId) -> Result<Form, LinStop> {
+    if terms.len() <= id || !terms.is_linear(id) {
+        return Err(LinStop::Memory);
+    }
+    lin(alloc, terms, id)
+}
+
+/// The form of the last term of a list.
+pub(crate) fn form_of_last(
+    alloc: Global,
+    terms: &mut Terms,
+    list: &[Term],
+) -> Result<Form, LinStop> {
+    let last = make_all(alloc, terms, list)?;
+    form(alloc, terms, last)
 }

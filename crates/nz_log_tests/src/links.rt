@@ -1,12 +1,11 @@
 //! The clauses of the link table, against all small assignments.
-use crate::terms::{MOST, complete};
+use crate::terms::Term::{self, Constant, Number, Over};
+use crate::terms::{MOST, complete, expect, make_all};
 use crate::values::{Values, are_true, halves, is_wide};
-use nz_base::Memory;
 use nz_frac::{Frac, Op, Wide};
 use nz_lin::LinStop;
 use nz_log::{Lit, Log, link_count};
 use nz_term::{NumberSort, Operator, Sort, TermId, Terms};
-use nz_term_samples::{constant, numeral, operation};
 use std::alloc::Global;
 use std::test::Fail;
 
@@ -29,19 +28,47 @@ fn links(
     Ok(clauses)
 }
 
-/// The table has an integer `x` (0), another `y` (1), and a comparison of the two (2).
-fn compare(terms: &mut Terms, alloc: Global, operator: Operator) -> Result<(), Memory> {
-    let x = constant(alloc, terms, b"x", Sort::Int)?;
-    let y = constant(alloc, terms, b"y", Sort::Int)?;
-    operation(terms, operator, &[x, y])?;
-    Ok(())
+/// What the clauses of a term of a list say.
+fn links_in(
+    alloc: Global,
+    log: &mut Log,
+    terms: &mut Terms,
+    list: &[Term],
+    term: TermId,
+) -> Result<Vec<Vec<Lit>>, LinStop> {
+    make_all(alloc, terms, list)?;
+    links(alloc, log, terms, term)
 }
 
-/// The clauses of the comparison.
-fn compared(alloc: Global, log: &mut Log, operator: Operator) -> Result<Vec<Vec<Lit>>, LinStop> {
+/// The same over terms of its own.
+fn links_of(
+    alloc: Global,
+    log: &mut Log,
+    list: &[Term],
+    term: TermId,
+) -> Result<Vec<Vec<Lit>>, LinStop> {
     let mut terms = Terms::new(alloc)?;
-    compare(&mut terms, alloc, operator)?;
-    links(alloc, log, &mut terms, 2)
+    links_in(alloc, log, &mut terms, list, term)
+}
+
+/// A comparison, and its truths for a smaller number and a greater one, for two that are the same, and for a greater one and a smaller.
+struct Comparison {
+    /// An integer `x` (0), another `y` (1), and the comparison of the two (2).
+    terms: &'static [Term],
+    truths: [bool; 3],
+}
+
+impl Comparison {
+    /// Whether it is true of these numbers.
+    fn holds(&self, a: i64, b: i64) -> bool {
+        if a < b {
+            self.truths[0]
+        } else if a == b {
+            self.truths[1]
+        } else {
+            self.truths[2]
+        }
+    }
 }
 
 /// Whether the clauses are true where `x` is `a`, `y` is `b`, and the comparison has its truth, and else are false.
@@ -58,43 +85,69 @@ fn tell(log: &Log, clauses: &[Vec<Lit>], a: i64, b: i64, holds: bool) -> Result<
     Ok(are_true(&right, log, clauses)? && !are_true(&wrong, log, clauses)?)
 }
 
-/// Whether the clauses of a comparison are true just where it has its truth, for each two numbers from -1 to 1. Its
-/// truths are told for a smaller number and a greater one, for two that are the same, and for a greater one and a smaller.
-fn agree(alloc: Global, operator: Operator, truths: [bool; 3]) -> Result<bool, LinStop> {
-    let mut log = Log::new(alloc)?;
-    let clauses = compared(alloc, &mut log, operator)?;
+/// Whether the clauses are true just where the comparison has its truth, for each two numbers from -1 to 1.
+fn tell_all(log: &Log, clauses: &[Vec<Lit>], comparison: &Comparison) -> Result<bool, Wide> {
     let mut agree = clauses.len() >= 2;
     for a in -1..2 {
         for b in -1..2 {
-            let holds = if a < b {
-                truths[0]
-            } else if a == b {
-                truths[1]
-            } else {
-                truths[2]
-            };
-            agree = agree && tell(&log, &clauses, a, b, holds)?;
+            agree = agree && tell(log, clauses, a, b, comparison.holds(a, b))?;
         }
     }
     Ok(agree)
 }
 
-#[test]
-fn comparisons_are_tied_to_bounds(rt: HostRuntime) -> Result<(), Fail> {
-    assert!(rt; agree(rt.alloc(), Operator::Less, [true, false, false])?);
-    assert!(rt; agree(rt.alloc(), Operator::AtMost, [true, true, false])?);
-    assert!(rt; agree(rt.alloc(), Operator::Equal, [false, true, false])?);
-    Ok(())
+/// Whether the clauses of a comparison are so.
+fn agree(alloc: Global, log: &mut Log, comparison: &Comparison) -> Result<bool, LinStop> {
+    let clauses = links_of(alloc, log, comparison.terms, 2)?;
+    Ok(tell_all(log, &clauses, comparison)?)
 }
 
-/// The clauses of the test whether rounding changes `r` (0), with the rounded number (2).
-fn tested(alloc: Global, log: &mut Log) -> Result<Vec<Vec<Lit>>, LinStop> {
-    let mut terms = Terms::new(alloc)?;
-    let r = constant(alloc, &mut terms, b"r", Sort::Real)?;
-    let test = operation(&mut terms, Operator::IsInt, &[r])?;
-    operation(&mut terms, Operator::ToInt, &[r])?;
-    links(alloc, log, &mut terms, test)
+const LESS: Comparison = Comparison {
+    terms: &[
+        Constant(b'x', Sort::Int),
+        Constant(b'y', Sort::Int),
+        Over(Operator::Less, &[0, 1]),
+    ],
+    truths: [true, false, false],
+};
+
+const AT_MOST: Comparison = Comparison {
+    terms: &[
+        Constant(b'x', Sort::Int),
+        Constant(b'y', Sort::Int),
+        Over(Operator::AtMost, &[0, 1]),
+    ],
+    truths: [true, true, false],
+};
+
+const EQUAL: Comparison = Comparison {
+    terms: &[
+        Constant(b'x', Sort::Int),
+        Constant(b'y', Sort::Int),
+        Over(Operator::Equal, &[0, 1]),
+    ],
+    truths: [false, true, false],
+};
+
+/// The same of a log of its own.
+fn agrees(alloc: Global, comparison: &Comparison) -> Result<bool, LinStop> {
+    let mut log = Log::new(alloc)?;
+    agree(alloc, &mut log, comparison)
 }
+
+#[test]
+fn comparisons_are_tied_to_bounds(rt: HostRuntime) -> Result<(), Fail> {
+    expect(agrees(rt.alloc(), &LESS)?, "less")?;
+    expect(agrees(rt.alloc(), &AT_MOST)?, "at most")?;
+    expect(agrees(rt.alloc(), &EQUAL)?, "equal")
+}
+
+/// The test (1) whether rounding changes `r` (0), and the rounded number (2).
+const ROUNDED: &[Term] = &[
+    Constant(b'r', Sort::Real),
+    Over(Operator::IsInt, &[0]),
+    Over(Operator::ToInt, &[0]),
+];
 
 /// Whether the clauses are true where `r` is this number and the test has its truth, and else are false.
 fn tell_rounded(log: &Log, clauses: &[Vec<Lit>], number: Frac) -> Result<bool, Wide> {
@@ -120,35 +173,37 @@ fn rounds(log: &Log, clauses: &[Vec<Lit>]) -> Result<bool, Wide> {
     Ok(rounds)
 }
 
+/// Fails unless the clauses of the test are so.
+fn is_tied(alloc: Global, log: &mut Log) -> Result<(), Fail> {
+    let clauses = links_of(alloc, log, ROUNDED, 1)?;
+    expect(rounds(log, &clauses)?, "the test of rounding")
+}
+
 #[test]
 fn a_test_of_rounding_is_tied_to_bounds(rt: HostRuntime) -> Result<(), Fail> {
     let mut log = Log::new(rt.alloc())?;
-    let clauses = tested(rt.alloc(), &mut log)?;
-    assert!(rt; rounds(&log, &clauses)?);
-    Ok(())
+    is_tied(rt.alloc(), &mut log)
 }
 
 /// `(< (* M x) (* -1 x))`, whose difference has a coefficient that leaves the numbers.
-fn wide(terms: &mut Terms, alloc: Global) -> Result<TermId, Memory> {
-    let x = constant(alloc, terms, b"x", Sort::Int)?;
-    let most = numeral(terms, MOST)?;
-    let one = numeral(terms, 1)?;
-    let less = operation(terms, Operator::Difference(NumberSort::Int), &[one])?;
-    let left = operation(terms, Operator::Product(NumberSort::Int), &[most, x])?;
-    let right = operation(terms, Operator::Product(NumberSort::Int), &[less, x])?;
-    operation(terms, Operator::Less, &[left, right])
-}
+const WIDE: &[Term] = &[
+    Constant(b'x', Sort::Int),
+    Number(MOST),
+    Number(1),
+    Over(Operator::Difference(NumberSort::Int), &[2]),
+    Over(Operator::Product(NumberSort::Int), &[1, 0]),
+    Over(Operator::Product(NumberSort::Int), &[3, 0]),
+    Over(Operator::Less, &[4, 5]),
+];
 
-/// Its clauses.
-fn wide_links(alloc: Global) -> Result<Vec<Vec<Lit>>, LinStop> {
-    let mut terms = Terms::new(alloc)?;
-    let term = wide(&mut terms, alloc)?;
-    let mut log = Log::new(alloc)?;
-    links(alloc, &mut log, &mut terms, term)
+/// Fails unless that operation is named.
+fn is_named(alloc: Global, log: &mut Log) -> Result<(), Fail> {
+    let made = links_of(alloc, log, WIDE, 6);
+    expect(is_wide(&made, Op::Sub, MOST as i128, -1), "the operation")
 }
 
 #[test]
 fn a_wide_link_is_named(rt: HostRuntime) -> Result<(), Fail> {
-    assert!(rt; is_wide(&wide_links(rt.alloc()), Op::Sub, MOST as i128, -1));
-    Ok(())
+    let mut log = Log::new(rt.alloc())?;
+    is_named(rt.alloc(), &mut log)
 }

@@ -1,10 +1,11 @@
 //! Atoms and clauses on terms: each public call once on its happy path.
 ghost use Rattle.nz_log.specs.Logs.{IsLive};
 
+use crate::terms::Term::{self, Constant, Over};
+use crate::terms::{expect, make_all};
 use nz_base::Memory;
 use nz_log::{Atom, AtomId, ClauseId, Link, Lit, Literal, Log, Step, TermLit, gate_count};
 use nz_term::{Operator, Sort, TermId, Terms};
-use nz_term_samples::{constant, operation};
 use std::alloc::Global;
 use std::test::Fail;
 
@@ -105,46 +106,65 @@ fn refuted(
     tell(alloc, log, empty)
 }
 
-/// A constant (0), and its negation (1).
-fn oppose(terms: &mut Terms, alloc: Global) -> Result<(), Memory> {
-    let p = constant(alloc, terms, b"p", Sort::Bool)?;
-    operation(terms, Operator::Not, &[p])?;
-    Ok(())
+/// A constant, and its negation.
+const OPPOSITES: &[Term] = &[Constant(b'p', Sort::Bool), Over(Operator::Not, &[0])];
+
+/// Their refutation in a log of its own.
+fn refutation_over(alloc: Global, terms: &Terms) -> Result<Told, Memory> {
+    let mut log = Log::new(alloc)?;
+    refuted(alloc, &mut log, terms, 0, 1)
 }
 
-/// The refutation of a constant and its negation.
+/// The same over terms of its own.
 fn refutation(alloc: Global) -> Result<Told, Memory> {
     let mut terms = Terms::new(alloc)?;
-    oppose(&mut terms, alloc)?;
-    let mut log = Log::new(alloc)?;
-    refuted(alloc, &mut log, &terms, 0, 1)
+    make_all(alloc, &mut terms, OPPOSITES)?;
+    refutation_over(alloc, &terms)
+}
+
+const WANTED: &[TermStep] = &[
+    TermStep::Given(0),
+    TermStep::Given(1),
+    TermStep::Gate(1, 0),
+    TermStep::Resolve(
+        1,
+        2,
+        TermLit {
+            term: 1,
+            sign: true,
+        },
+    ),
+    TermStep::Resolve(
+        0,
+        3,
+        TermLit {
+            term: 0,
+            sign: true,
+        },
+    ),
+];
+
+/// Fails unless it is the empty clause by the steps that are wanted.
+fn is_empty_clause(told: &Told) -> Result<(), Fail> {
+    expect(told.literals.is_empty(), "the literals")?;
+    expect(told.level == 1, "the level")?;
+    expect(told.steps.as_slice() == WANTED, "the steps")
 }
 
 #[test]
 fn opposites_are_refuted(rt: HostRuntime) -> Result<(), Fail> {
     let empty = refutation(rt.alloc())?;
-    let wanted = [
-        TermStep::Given(0),
-        TermStep::Given(1),
-        TermStep::Gate(1, 0),
-        TermStep::Resolve(1, 2, TermLit::holds(1)),
-        TermStep::Resolve(0, 3, TermLit::holds(0)),
-    ];
-    assert!(rt; empty.literals.is_empty());
-    assert!(rt; empty.level == 1);
-    assert!(rt; empty.steps.as_slice() == wanted.as_slice());
-    Ok(())
+    is_empty_clause(&empty)
 }
 
 /// Three constants, their disjunction (3), and that the first two are equal (4).
-fn fill(terms: &mut Terms, alloc: Global) -> Result<(), Memory> {
-    let p = constant(alloc, terms, b"p", Sort::Bool)?;
-    let q = constant(alloc, terms, b"q", Sort::Bool)?;
-    let r = constant(alloc, terms, b"r", Sort::Bool)?;
-    operation(terms, Operator::Or, &[p, q, r])?;
-    operation(terms, Operator::Equal, &[p, q])?;
-    Ok(())
-}
+const CHAINED: &[Term] = &[
+    Constant(b'p', Sort::Bool),
+    Constant(b'q', Sort::Bool),
+    Constant(b'r', Sort::Bool),
+    Over(Operator::Or, &[0, 1, 2]),
+    Over(Operator::Equal, &[0, 1]),
+];
 
 /// A chain of two links, and that of the same two and a third.
 fn chains(alloc: Global, log: &mut Log, terms: &Terms) -> Result<(Told, Told), Memory> {
@@ -172,24 +192,36 @@ fn chains(alloc: Global, log: &mut Log, terms: &Terms) -> Result<(Told, Told), M
     Ok((tell(alloc, log, short)?, tell(alloc, log, long)?))
 }
 
-/// Both chains over their terms.
+/// Both chains in a log of its own.
+fn chains_over(alloc: Global, terms: &Terms) -> Result<(Told, Told), Memory> {
+    let mut log = Log::new(alloc)?;
+    chains(alloc, &mut log, terms)
+}
+
+/// The same over terms of its own.
 fn chains_of_terms(alloc: Global) -> Result<(Told, Told), Memory> {
     let mut terms = Terms::new(alloc)?;
-    fill(&mut terms, alloc)?;
-    let mut log = Log::new(alloc)?;
-    chains(alloc, &mut log, &terms)
+    make_all(alloc, &mut terms, CHAINED)?;
+    chains_over(alloc, &terms)
+}
+
+/// Fails unless both are the wanted ones of the clauses `not 3, p, q, r`, `3`, `not 4, not p, q` and `4`. What two of them have stands where it
+/// was, and once.
+fn are_chains(short: &Told, long: &Told) -> Result<(), Fail> {
+    let wanted = [TermLit::holds(1), TermLit::holds(2), TermLit::fails(4)];
+    expect(
+        short.literals.as_slice() == wanted.as_slice(),
+        "the short one",
+    )?;
+    expect(short.level == 1, "the level of the short one")?;
+    expect(long.literals.as_slice() == &wanted[..2], "the long one")?;
+    expect(long.level == 2, "the level of the long one")
 }
 
 #[test]
 fn a_chain_is_resolved_link_by_link(rt: HostRuntime) -> Result<(), Fail> {
     let (short, long) = chains_of_terms(rt.alloc())?;
-    // Of the clauses `not 3, p, q, r`, `3`, `not 4, not p, q` and `4`. What both have stands where it was, and once.
-    let wanted = [TermLit::holds(1), TermLit::holds(2), TermLit::fails(4)];
-    assert!(rt; short.literals.as_slice() == wanted.as_slice());
-    assert!(rt; short.level == 1);
-    assert!(rt; long.literals.as_slice() == &wanted[..2]);
-    assert!(rt; long.level == 2);
-    Ok(())
+    are_chains(&short, &long)
 }
 
 /// Whether the atom of this number is that the term is true.
@@ -197,16 +229,21 @@ fn is_of_term(log: &Log, id: AtomId, term: TermId) -> bool {
     id < log.atom_count() && matches!(log.atom(id), Atom::Term(own) if *own == term)
 }
 
-#[test]
-fn an_atom_has_one_number(rt: HostRuntime) -> Result<(), Fail> {
-    let mut log = Log::new(rt.alloc())?;
+/// Fails where an atom has two numbers, or isn't found just where there is one.
+fn have_one_number(log: &mut Log) -> Result<(), Fail> {
     let seven = log.term_atom(7)?;
     let five = log.term_atom(5)?;
     let again = log.term_atom(7)?;
-    assert!(rt; again == seven && log.atom_count() == 2);
-    assert!(rt; log.find_term(5) == Some(five) && log.find_term(6) == None);
-    assert!(rt; is_of_term(&log, seven, 7));
-    Ok(())
+    expect(again == seven && log.atom_count() == 2, "the number")?;
+    expect(log.find_term(5) == Some(five), "an atom that is there")?;
+    expect(log.find_term(6) == None, "no atom")?;
+    expect(is_of_term(log, seven, 7), "the term")
+}
+
+#[test]
+fn an_atom_has_one_number(rt: HostRuntime) -> Result<(), Fail> {
+    let mut log = Log::new(rt.alloc())?;
+    have_one_number(&mut log)
 }
 
 /// An assertion's clause, and its level.
@@ -215,14 +252,21 @@ fn given(log: &mut Log, k: usize, term: TermId, level: usize) -> Result<(ClauseI
     Ok((id, log.level(id)))
 }
 
+/// Fails unless what is above a level goes, so that its number comes again.
+fn drops(log: &mut Log) -> Result<(), Fail> {
+    log.place(3, 2)?;
+    let (_, low) = given(log, 0, 5, 1)?;
+    log.given(1, 3, 1)?;
+    log.drop_above(1);
+    let (next, level) = given(log, 1, 3, 1)?;
+    expect(
+        low == 1 && next == 1 && level == 1,
+        "the number or the level",
+    )
+}
+
 #[test]
 fn what_is_above_a_level_goes(rt: HostRuntime) -> Result<(), Fail> {
     let mut log = Log::new(rt.alloc())?;
-    log.place(3, 2)?;
-    let (_, low) = given(&mut log, 0, 5, 1)?;
-    log.given(1, 3, 1)?;
-    log.drop_above(1);
-    let (next, level) = given(&mut log, 1, 3, 1)?;
-    assert!(rt; low == 1 && next == 1 && level == 1);
-    Ok(())
+    drops(&mut log)
 }

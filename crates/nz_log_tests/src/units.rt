@@ -1,12 +1,11 @@
 //! The clauses of the unit table, against all small assignments.
-use crate::terms::{MOST, complete};
+use crate::terms::Term::{self, Constant, Number, Over};
+use crate::terms::{MOST, complete, expect, make_all};
 use crate::values::{Values, are_true, halves, is_wide};
-use nz_base::Memory;
 use nz_frac::{Frac, Op, Wide};
 use nz_lin::LinStop;
 use nz_log::{Lit, Log, unit_count};
 use nz_term::{NumberSort, Operator, Sort, TermId, Terms};
-use nz_term_samples::{constant, integer, numeral, operation};
 use std::alloc::Global;
 use std::test::Fail;
 
@@ -29,48 +28,114 @@ fn units(
     Ok(clauses)
 }
 
-/// The table has an integer `x` (0), and what an operator makes of it and 3 or -3; the answer is that, and the quotient.
-fn divide(
-    terms: &mut Terms,
-    alloc: Global,
-    operator: Operator,
-    negative: bool,
-) -> Result<(TermId, TermId), Memory> {
-    let x = constant(alloc, terms, b"x", Sort::Int)?;
-    let divisor = integer(terms, if negative { -3 } else { 3 })?;
-    let unit = operation(terms, operator, &[x, divisor])?;
-    let quotient = operation(terms, Operator::Div, &[x, divisor])?;
-    Ok((unit, quotient))
-}
-
-/// A unit, the quotient beside it, and the unit's clauses.
-#[derive(Debug, Drop)]
-struct Division {
-    unit: TermId,
-    quotient: TermId,
-    clauses: Vec<Vec<Lit>>,
-}
-
-/// What an operator makes of an integer and 3 or -3.
-fn divided(
+/// What the clauses of a unit of a list say.
+fn units_in(
     alloc: Global,
     log: &mut Log,
-    operator: Operator,
-    negative: bool,
-) -> Result<Division, LinStop> {
-    let mut terms = Terms::new(alloc)?;
-    let (unit, quotient) = divide(&mut terms, alloc, operator, negative)?;
-    let clauses = units(alloc, log, &mut terms, unit)?;
-    Ok(Division {
-        unit,
-        quotient,
-        clauses,
-    })
+    terms: &mut Terms,
+    list: &[Term],
+    unit: TermId,
+) -> Result<Vec<Vec<Lit>>, LinStop> {
+    make_all(alloc, terms, list)?;
+    units(alloc, log, terms, unit)
 }
 
+/// The same over terms of its own.
+fn units_of(
+    alloc: Global,
+    log: &mut Log,
+    list: &[Term],
+    unit: TermId,
+) -> Result<Vec<Vec<Lit>>, LinStop> {
+    let mut terms = Terms::new(alloc)?;
+    units_in(alloc, log, &mut terms, list, unit)
+}
+
+/// What an operator makes of an integer `x` (0) and 3 or -3.
+struct Division {
+    terms: &'static [Term],
+    unit: TermId,
+    quotient: TermId,
+    is_negative: bool,
+}
+
+const QUOTIENT: Division = Division {
+    terms: &[
+        Constant(b'x', Sort::Int),
+        Number(3),
+        Over(Operator::Div, &[0, 1]),
+    ],
+    unit: 2,
+    quotient: 2,
+    is_negative: false,
+};
+
+const NEGATIVE_QUOTIENT: Division = Division {
+    terms: &[
+        Constant(b'x', Sort::Int),
+        Number(3),
+        Over(Operator::Difference(NumberSort::Int), &[1]),
+        Over(Operator::Div, &[0, 2]),
+    ],
+    unit: 3,
+    quotient: 3,
+    is_negative: true,
+};
+
+const REMAINDER: Division = Division {
+    terms: &[
+        Constant(b'x', Sort::Int),
+        Number(3),
+        Over(Operator::Mod, &[0, 1]),
+        Over(Operator::Div, &[0, 1]),
+    ],
+    unit: 2,
+    quotient: 3,
+    is_negative: false,
+};
+
+const NEGATIVE_REMAINDER: Division = Division {
+    terms: &[
+        Constant(b'x', Sort::Int),
+        Number(3),
+        Over(Operator::Difference(NumberSort::Int), &[1]),
+        Over(Operator::Mod, &[0, 2]),
+        Over(Operator::Div, &[0, 2]),
+    ],
+    unit: 3,
+    quotient: 4,
+    is_negative: true,
+};
+
+/// Integers with their quotients by 3 and their remainders.
+const CASES: &[(i64, i64, i64)] = &[
+    (-7, -3, 2),
+    (-6, -2, 0),
+    (-5, -2, 1),
+    (-4, -2, 2),
+    (-3, -1, 0),
+    (-2, -1, 1),
+    (-1, -1, 2),
+    (0, 0, 0),
+    (1, 0, 1),
+    (2, 0, 2),
+    (3, 1, 0),
+    (4, 1, 1),
+    (5, 1, 2),
+    (6, 2, 0),
+    (7, 2, 1),
+];
+
 /// Whether the clauses are true just where the unit has this value, of the numbers from -4 to 4, where `x` is `a` and the quotient `whole`.
-fn tell(log: &Log, division: &Division, a: i64, whole: Frac, value: Frac) -> Result<bool, Wide> {
-    let mut tell = division.clauses.len() >= 2;
+fn tell(
+    log: &Log,
+    clauses: &[Vec<Lit>],
+    division: &Division,
+    a: i64,
+    whole: Frac,
+    value: Frac,
+) -> Result<bool, Wide> {
+    let mut tell = true;
     for b in -4..5 {
         let number = Frac::whole(b);
         // The first number that is told of a term stands, also where the unit is the quotient.
@@ -82,46 +147,47 @@ fn tell(log: &Log, division: &Division, a: i64, whole: Frac, value: Frac) -> Res
             ],
             truths: &[],
         };
-        tell = tell && are_true(&values, log, &division.clauses)? == (number == value);
+        tell = tell && are_true(&values, log, clauses)? == (number == value);
+    }
+    Ok(tell)
+}
+
+/// Whether they are so of an integer, its quotient by 3 and its remainder.
+fn tell_case(
+    log: &Log,
+    clauses: &[Vec<Lit>],
+    division: &Division,
+    case: (i64, i64, i64),
+) -> Result<bool, Wide> {
+    let (a, quotient, remainder) = case;
+    let whole = signed(Frac::whole(quotient), division.is_negative);
+    let value = if division.unit == division.quotient {
+        whole
+    } else {
+        Frac::whole(remainder)
+    };
+    tell(log, clauses, division, a, whole, value)
+}
+
+/// Whether they are so of each integer.
+fn tell_all(log: &Log, clauses: &[Vec<Lit>], division: &Division) -> Result<bool, Wide> {
+    let mut tell = clauses.len() >= 2;
+    for case in CASES {
+        tell = tell && tell_case(log, clauses, division, *case)?;
     }
     Ok(tell)
 }
 
 /// Whether the clauses of an operator over an integer and a divisor are true just where the unit has its value.
-fn divides(alloc: Global, operator: Operator, negative: bool) -> Result<bool, LinStop> {
-    let is_quotient = matches!(operator, Operator::Div);
+fn divide(alloc: Global, log: &mut Log, division: &Division) -> Result<bool, LinStop> {
+    let clauses = units_of(alloc, log, division.terms, division.unit)?;
+    Ok(tell_all(log, &clauses, division)?)
+}
+
+/// The same of a log of its own.
+fn divides(alloc: Global, division: &Division) -> Result<bool, LinStop> {
     let mut log = Log::new(alloc)?;
-    let division = divided(alloc, &mut log, operator, negative)?;
-    // Integers with their quotients by 3 and their remainders.
-    let cases = [
-        (-7, -3, 2),
-        (-6, -2, 0),
-        (-5, -2, 1),
-        (-4, -2, 2),
-        (-3, -1, 0),
-        (-2, -1, 1),
-        (-1, -1, 2),
-        (0, 0, 0),
-        (1, 0, 1),
-        (2, 0, 2),
-        (3, 1, 0),
-        (4, 1, 1),
-        (5, 1, 2),
-        (6, 2, 0),
-        (7, 2, 1),
-    ];
-    let mut divides = true;
-    for i in 0..cases.len() {
-        let (a, quotient, remainder) = cases[i];
-        let whole = signed(Frac::whole(quotient), negative);
-        let value = if is_quotient {
-            whole
-        } else {
-            Frac::whole(remainder)
-        };
-        divides = divides && tell(&log, &division, a, whole, value)?;
-    }
-    Ok(divides)
+    divide(alloc, &mut log, division)
 }
 
 /// The number, or its negative.
@@ -131,12 +197,10 @@ fn signed(number: Frac, negative: bool) -> Frac {
 
 #[test]
 fn quotients_and_remainders_are_bounded(rt: HostRuntime) -> Result<(), Fail> {
-    let alloc = rt.alloc();
-    assert!(rt; divides(alloc, Operator::Div, false)?);
-    assert!(rt; divides(alloc, Operator::Div, true)?);
-    assert!(rt; divides(alloc, Operator::Mod, false)?);
-    assert!(rt; divides(alloc, Operator::Mod, true)?);
-    Ok(())
+    expect(divides(rt.alloc(), &QUOTIENT)?, "by 3")?;
+    expect(divides(rt.alloc(), &NEGATIVE_QUOTIENT)?, "by -3")?;
+    expect(divides(rt.alloc(), &REMAINDER)?, "modulo 3")?;
+    expect(divides(rt.alloc(), &NEGATIVE_REMAINDER)?, "modulo -3")
 }
 
 /// Whether the clauses are true just where this unit has this value, of the numbers from -3 to 3, beside what is told of two terms and of the
@@ -162,13 +226,8 @@ fn are_just(
     Ok(just)
 }
 
-/// The clauses of the size (1) of an integer (0).
-fn sizes(alloc: Global, log: &mut Log) -> Result<Vec<Vec<Lit>>, LinStop> {
-    let mut terms = Terms::new(alloc)?;
-    let x = constant(alloc, &mut terms, b"x", Sort::Int)?;
-    let unit = operation(&mut terms, Operator::Abs, &[x])?;
-    units(alloc, log, &mut terms, unit)
-}
+/// The size (1) of an integer (0).
+const SIZE: &[Term] = &[Constant(b'x', Sort::Int), Over(Operator::Abs, &[0])];
 
 /// Whether they are true just where the integer has its size.
 fn are_sizes(log: &Log, clauses: &[Vec<Lit>]) -> Result<bool, Wide> {
@@ -183,29 +242,25 @@ fn are_sizes(log: &Log, clauses: &[Vec<Lit>]) -> Result<bool, Wide> {
     Ok(sizes)
 }
 
+/// Fails unless the clauses of a size are so.
+fn bounds_a_size(alloc: Global, log: &mut Log) -> Result<(), Fail> {
+    let clauses = units_of(alloc, log, SIZE, 1)?;
+    expect(are_sizes(log, &clauses)?, "the size")
+}
+
 #[test]
 fn a_size_is_bounded(rt: HostRuntime) -> Result<(), Fail> {
     let mut log = Log::new(rt.alloc())?;
-    let clauses = sizes(rt.alloc(), &mut log)?;
-    assert!(rt; are_sizes(&log, &clauses)?);
-    Ok(())
+    bounds_a_size(rt.alloc(), &mut log)
 }
 
-/// The clauses of the choice (3) between two integers (1, 2) by a Boolean constant (0).
-fn choices(alloc: Global, log: &mut Log) -> Result<Vec<Vec<Lit>>, LinStop> {
-    let mut terms = Terms::new(alloc)?;
-    choose(&mut terms, alloc)?;
-    units(alloc, log, &mut terms, 3)
-}
-
-/// Its terms.
-fn choose(terms: &mut Terms, alloc: Global) -> Result<(), Memory> {
-    let c = constant(alloc, terms, b"c", Sort::Bool)?;
-    let x = constant(alloc, terms, b"x", Sort::Int)?;
-    let y = constant(alloc, terms, b"y", Sort::Int)?;
-    operation(terms, Operator::Ite(Sort::Int), &[c, x, y])?;
-    Ok(())
-}
+/// The choice (3) between two integers (1, 2) by a Boolean constant (0).
+const CHOICE: &[Term] = &[
+    Constant(b'c', Sort::Bool),
+    Constant(b'x', Sort::Int),
+    Constant(b'y', Sort::Int),
+    Over(Operator::Ite(Sort::Int), &[0, 1, 2]),
+];
 
 /// The integers: 0 and 1.
 fn branches() -> [(TermId, Frac); 2] {
@@ -219,21 +274,20 @@ fn are_choices(log: &Log, clauses: &[Vec<Lit>]) -> Result<bool, Wide> {
     Ok(clauses.len() == 4 && first && second)
 }
 
+/// Fails unless the clauses of a choice are so.
+fn ties_a_choice(alloc: Global, log: &mut Log) -> Result<(), Fail> {
+    let clauses = units_of(alloc, log, CHOICE, 3)?;
+    expect(are_choices(log, &clauses)?, "the choice")
+}
+
 #[test]
 fn a_choice_is_one_of_its_branches(rt: HostRuntime) -> Result<(), Fail> {
     let mut log = Log::new(rt.alloc())?;
-    let clauses = choices(rt.alloc(), &mut log)?;
-    assert!(rt; are_choices(&log, &clauses)?);
-    Ok(())
+    ties_a_choice(rt.alloc(), &mut log)
 }
 
-/// The clauses of a rounded number (1) of a real one (0).
-fn roundings(alloc: Global, log: &mut Log) -> Result<Vec<Vec<Lit>>, LinStop> {
-    let mut terms = Terms::new(alloc)?;
-    let r = constant(alloc, &mut terms, b"r", Sort::Real)?;
-    let unit = operation(&mut terms, Operator::ToInt, &[r])?;
-    units(alloc, log, &mut terms, unit)
-}
+/// A rounded number (1) of a real one (0).
+const ROUNDED: &[Term] = &[Constant(b'r', Sort::Real), Over(Operator::ToInt, &[0])];
 
 /// Whether they are true just where the number is rounded, for each half from -2 to 2.
 fn are_roundings(log: &Log, clauses: &[Vec<Lit>]) -> Result<bool, Wide> {
@@ -246,33 +300,35 @@ fn are_roundings(log: &Log, clauses: &[Vec<Lit>]) -> Result<bool, Wide> {
     Ok(rounded)
 }
 
+/// Fails unless the clauses of a rounded number are so.
+fn bounds_a_rounded_number(alloc: Global, log: &mut Log) -> Result<(), Fail> {
+    let clauses = units_of(alloc, log, ROUNDED, 1)?;
+    expect(are_roundings(log, &clauses)?, "the rounded number")
+}
+
 #[test]
 fn a_rounded_number_is_bounded(rt: HostRuntime) -> Result<(), Fail> {
     let mut log = Log::new(rt.alloc())?;
-    let clauses = roundings(rt.alloc(), &mut log)?;
-    assert!(rt; are_roundings(&log, &clauses)?);
-    Ok(())
+    bounds_a_rounded_number(rt.alloc(), &mut log)
 }
 
 /// `(abs (+ (* M x) x))`, in whose argument a coefficient leaves the numbers.
-fn wide(terms: &mut Terms, alloc: Global) -> Result<TermId, Memory> {
-    let x = constant(alloc, terms, b"x", Sort::Int)?;
-    let most = numeral(terms, MOST)?;
-    let times = operation(terms, Operator::Product(NumberSort::Int), &[most, x])?;
-    let sum = operation(terms, Operator::Sum(NumberSort::Int), &[times, x])?;
-    operation(terms, Operator::Abs, &[sum])
-}
+const WIDE: &[Term] = &[
+    Constant(b'x', Sort::Int),
+    Number(MOST),
+    Over(Operator::Product(NumberSort::Int), &[1, 0]),
+    Over(Operator::Sum(NumberSort::Int), &[2, 0]),
+    Over(Operator::Abs, &[3]),
+];
 
-/// Its clauses.
-fn wide_units(alloc: Global) -> Result<Vec<Vec<Lit>>, LinStop> {
-    let mut terms = Terms::new(alloc)?;
-    let unit = wide(&mut terms, alloc)?;
-    let mut log = Log::new(alloc)?;
-    units(alloc, &mut log, &mut terms, unit)
+/// Fails unless that operation is named.
+fn is_named(alloc: Global, log: &mut Log) -> Result<(), Fail> {
+    let made = units_of(alloc, log, WIDE, 4);
+    expect(is_wide(&made, Op::Add, MOST as i128, 1), "the operation")
 }
 
 #[test]
 fn a_wide_unit_is_named(rt: HostRuntime) -> Result<(), Fail> {
-    assert!(rt; is_wide(&wide_units(rt.alloc()), Op::Add, MOST as i128, 1));
-    Ok(())
+    let mut log = Log::new(rt.alloc())?;
+    is_named(rt.alloc(), &mut log)
 }

@@ -155,13 +155,36 @@ fn other_words_are_not_taken(rt: HostRuntime) -> Result<(), Fail> {
 const UNDECIDED: &[u8] = b"(declare-const p Bool)(declare-const q Bool)(assert (or p q))
         (check-sat)(get-info :reason-unknown)";
 
+/// A run whose checks may use no unit answers so many things heard by these bytes.
+fn writes_without_units(
+    rt: &impl Abort,
+    alloc: Global,
+    script: &[u8],
+    count: usize,
+    wanted: &[u8],
+) -> Result<(), Memory> {
+    let mut input = source_of(alloc, script, 43)?;
+    let mut out = sink_with(alloc, ROOM)?;
+    let words = &["nuz", "solve", "--work", "0"];
+    let ended = run_words(alloc, words, &mut input, &mut out)?;
+    has_ended(rt, &ended, DONE, count);
+    sink_is(rt, &out, wanted);
+    Ok(())
+}
+
 #[test]
 fn a_check_uses_no_more_units_than_the_words_allow(rt: HostRuntime) -> Result<(), Fail> {
-    let mut input = source_of(rt.alloc(), UNDECIDED, 43)?;
-    let mut out = sink_with(rt.alloc(), ROOM)?;
-    let words = &["nuz", "solve", "--work", "0"];
-    let ended = run_words(rt.alloc(), words, &mut input, &mut out)?;
-    has_ended(&rt, &ended, DONE, 5);
-    sink_is(&rt, &out, b"unknown\n(:reason-unknown (spent 0))\n");
+    let wanted = b"unknown\n(:reason-unknown (spent 0))\n";
+    writes_without_units(&rt, rt.alloc(), UNDECIDED, 5, wanted)?;
+    Ok(())
+}
+
+// Each of the two bounds that are excluded is false by propagation alone.
+const EXCLUDED: &[u8] = b"(declare-const x Real)(assert (or (< x 1.0) (< x 2.0)))
+        (assert (>= x 3.0))(check-sat)";
+
+#[test]
+fn a_bound_excludes_others_of_its_form_without_a_unit(rt: HostRuntime) -> Result<(), Fail> {
+    writes_without_units(&rt, rt.alloc(), EXCLUDED, 4, b"unsat\n")?;
     Ok(())
 }

@@ -2,6 +2,10 @@
 #![tactic(auto)]
 
 #[cfg(test)]
+mod acts;
+#[cfg(test)]
 mod calls;
 #[cfg(test)]
 mod term;
+#[cfg(test)]
+mod values;

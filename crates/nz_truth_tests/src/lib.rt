@@ -2,4 +2,10 @@
 #![tactic(auto)]
 
 #[cfg(test)]
+mod acts;
+#[cfg(test)]
+mod calls;
+#[cfg(test)]
+mod numbers;
+#[cfg(test)]
 mod truth;
