@@ -1,6 +1,6 @@
 //! What forms are made of.
 use crate::terms::Term::{self, Constant, Number, Over};
-use crate::terms::{Wrong, form, form_of_last, make_all};
+use crate::terms::{Wrong, form, form_among, make_all};
 use nz_base::Memory;
 use nz_frac::Frac;
 use nz_lin::{Form, LinStop, Part, lin_difference};
@@ -12,9 +12,10 @@ use std::test::Fail;
 /// A unit by its number, with its sort, and its coefficient's numerator and denominator.
 struct Wanted(TermId, Sort, i128, i128);
 
-/// Terms, and the form of the last one: its parts, and the number that it adds.
+/// Terms, and the form of one of them: its parts, and the number that it adds.
 struct Row {
     terms: &'static [Term],
+    of: TermId,
     parts: &'static [Wanted],
     offset: (i128, i128),
 }
@@ -55,10 +56,10 @@ fn is_made(form: &Form, parts: &[Wanted], offset: (i128, i128)) -> Result<(), Fa
     }
 }
 
-/// Fails where the form of the last term is another.
+/// Fails where the form of the row's term is another.
 fn makes(alloc: Global, row: &Row) -> Result<(), Fail> {
     let mut terms = Terms::new(alloc)?;
-    let form = form_of_last(alloc, &mut terms, row.terms)?;
+    let form = form_among(alloc, &mut terms, row.terms, row.of)?;
     is_made(&form, row.parts, row.offset)
 }
 
@@ -68,17 +69,21 @@ const REAL_PRODUCT: Operator = Operator::Product(NumberSort::Real);
 
 const REAL_DIFFERENCE: Operator = Operator::Difference(NumberSort::Real);
 
-/// `(+ (* y 2) (/ x 2) 3 x)`.
+/// `(+ (* y 2) (/ x 2) 3 x)` (6), and that less y twice (7).
+const SUMS: &[Term] = &[
+    Constant(b'x', Sort::Real),
+    Constant(b'y', Sort::Real),
+    Number(2),
+    Number(3),
+    Over(REAL_PRODUCT, &[1, 2]),
+    Over(Operator::Quotient, &[0, 2]),
+    Over(REAL_SUM, &[4, 5, 3, 0]),
+    Over(REAL_DIFFERENCE, &[6, 1, 1]),
+];
+
 const SUM: Row = Row {
-    terms: &[
-        Constant(b'x', Sort::Real),
-        Constant(b'y', Sort::Real),
-        Number(2),
-        Number(3),
-        Over(REAL_PRODUCT, &[1, 2]),
-        Over(Operator::Quotient, &[0, 2]),
-        Over(REAL_SUM, &[4, 5, 3, 0]),
-    ],
+    terms: SUMS,
+    of: 6,
     parts: &[Wanted(0, Sort::Real, 3, 2), Wanted(1, Sort::Real, 2, 1)],
     offset: (3, 1),
 };
@@ -88,18 +93,9 @@ fn a_sum_has_each_unit_once(rt: HostRuntime) -> Result<(), Fail> {
     makes(rt.alloc(), &SUM)
 }
 
-/// `(- s y y)`, where the first is that sum.
 const DIFFERENCE: Row = Row {
-    terms: &[
-        Constant(b'x', Sort::Real),
-        Constant(b'y', Sort::Real),
-        Number(2),
-        Number(3),
-        Over(REAL_PRODUCT, &[1, 2]),
-        Over(Operator::Quotient, &[0, 2]),
-        Over(REAL_SUM, &[4, 5, 3, 0]),
-        Over(REAL_DIFFERENCE, &[6, 1, 1]),
-    ],
+    terms: SUMS,
+    of: 7,
     parts: &[Wanted(0, Sort::Real, 3, 2)],
     offset: (3, 1),
 };
@@ -125,6 +121,7 @@ const CHOICE: Row = Row {
         Over(Operator::Quotient, &[9, 8]),
         Over(REAL_DIFFERENCE, &[10]),
     ],
+    of: 11,
     parts: &[Wanted(3, Sort::Int, 3, 2)],
     offset: (0, 1),
 };
@@ -136,6 +133,7 @@ fn a_choice_is_a_unit(rt: HostRuntime) -> Result<(), Fail> {
 
 const NEGATED: Row = Row {
     terms: &[Number(7), Over(Operator::Difference(NumberSort::Int), &[0])],
+    of: 1,
     parts: &[],
     offset: (-7, 1),
 };

@@ -1,15 +1,16 @@
 //! The first operation that leaves the numbers.
 use crate::terms::Term::{self, Constant, Number, Over};
-use crate::terms::{MOST, form_of_last};
+use crate::terms::{MOST, form_among};
 use nz_frac::{Op, Wide};
 use nz_lin::{Form, LinStop};
-use nz_term::{NumberSort, Operator, Sort, Terms};
+use nz_term::{NumberSort, Operator, Sort, TermId, Terms};
 use std::alloc::Global;
 use std::test::Fail;
 
-/// Terms, and the operation at which the form of the last one stops.
+/// Terms, and the operation at which the form of one of them stops.
 struct Row {
     terms: &'static [Term],
+    of: TermId,
     op: Op,
     left: i128,
     right: i128,
@@ -28,9 +29,9 @@ fn is_at(wide: Wide, row: &Row) -> bool {
     wide.op == row.op && wide.a.num() == row.left && wide.b.num() == row.right
 }
 
-/// Whether the form of the last term stops at the operation of the row.
+/// Whether the form of the row's term stops at the operation of the row.
 fn stops(alloc: Global, terms: &mut Terms, row: &Row) -> bool {
-    let made = form_of_last(alloc, terms, row.terms);
+    let made = form_among(alloc, terms, row.terms, row.of);
     is_wide(&made, row)
 }
 
@@ -48,16 +49,21 @@ const REAL_SUM: Operator = Operator::Sum(NumberSort::Real);
 
 const REAL_PRODUCT: Operator = Operator::Product(NumberSort::Real);
 
-/// `(+ t (* 2 u))`, where the first is `(* M u)`.
+/// `(+ (* M u) (* 2 u))` (5), and that less `(* M M)` (7), where both stop.
+const SUMS: &[Term] = &[
+    Constant(b'x', Sort::Real),
+    Number(MOST),
+    Over(REAL_PRODUCT, &[1, 0]),
+    Number(2),
+    Over(REAL_PRODUCT, &[3, 0]),
+    Over(REAL_SUM, &[2, 4]),
+    Over(REAL_PRODUCT, &[1, 1]),
+    Over(Operator::Difference(NumberSort::Real), &[5, 6]),
+];
+
 const SUM: Row = Row {
-    terms: &[
-        Constant(b'x', Sort::Real),
-        Number(MOST),
-        Over(REAL_PRODUCT, &[1, 0]),
-        Number(2),
-        Over(REAL_PRODUCT, &[3, 0]),
-        Over(REAL_SUM, &[2, 4]),
-    ],
+    terms: SUMS,
+    of: 5,
     op: Op::Add,
     left: MOST as i128,
     right: 2,
@@ -68,18 +74,9 @@ fn a_wide_sum_is_told_with_its_operands(rt: HostRuntime) -> Result<(), Fail> {
     stop(rt.alloc(), &SUM)
 }
 
-/// That sum less `(* M M)`, where both stop.
 const BOTH: Row = Row {
-    terms: &[
-        Constant(b'x', Sort::Real),
-        Number(MOST),
-        Over(REAL_PRODUCT, &[1, 0]),
-        Number(2),
-        Over(REAL_PRODUCT, &[3, 0]),
-        Over(REAL_SUM, &[2, 4]),
-        Over(REAL_PRODUCT, &[1, 1]),
-        Over(Operator::Difference(NumberSort::Real), &[5, 6]),
-    ],
+    terms: SUMS,
+    of: 7,
     op: Op::Add,
     left: MOST as i128,
     right: 2,
@@ -95,6 +92,7 @@ const SQUARE: Row = Row {
         Number(MOST),
         Over(Operator::Product(NumberSort::Int), &[0, 0]),
     ],
+    of: 1,
     op: Op::Mul,
     left: MOST as i128,
     right: MOST as i128,

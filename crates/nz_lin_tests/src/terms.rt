@@ -52,12 +52,13 @@ pub(crate) fn form(alloc: Global, terms: &Terms, id: TermId) -> Result<Form, Lin
     lin(alloc, terms, id)
 }
 
-/// The form of the last term of a list.
-pub(crate) fn form_of_last(
+/// The form of a term of a list.
+pub(crate) fn form_among(
     alloc: Global,
     terms: &mut Terms,
     list: &[Term],
+    id: TermId,
 ) -> Result<Form, LinStop> {
-    let last = make_all(alloc, terms, list)?;
-    form(alloc, terms, last)
+    make_all(alloc, terms, list)?;
+    form(alloc, terms, id)
 }

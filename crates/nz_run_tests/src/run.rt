@@ -155,17 +155,18 @@ fn other_words_are_not_taken(rt: HostRuntime) -> Result<(), Fail> {
 const UNDECIDED: &[u8] = b"(declare-const p Bool)(declare-const q Bool)(assert (or p q))
         (check-sat)(get-info :reason-unknown)";
 
-/// A run whose checks may use no unit answers so many things heard by these bytes.
-fn writes_without_units(
+/// A run whose checks may use so many units answers so many things heard by these bytes.
+fn writes_within(
     rt: &impl Abort,
     alloc: Global,
+    units: &str,
     script: &[u8],
     count: usize,
     wanted: &[u8],
 ) -> Result<(), Memory> {
     let mut input = source_of(alloc, script, 43)?;
     let mut out = sink_with(alloc, ROOM)?;
-    let words = &["nuz", "solve", "--work", "0"];
+    let words = &["nuz", "solve", "--work", units];
     let ended = run_words(alloc, words, &mut input, &mut out)?;
     has_ended(rt, &ended, DONE, count);
     sink_is(rt, &out, wanted);
@@ -175,7 +176,7 @@ fn writes_without_units(
 #[test]
 fn a_check_uses_no_more_units_than_the_words_allow(rt: HostRuntime) -> Result<(), Fail> {
     let wanted = b"unknown\n(:reason-unknown (spent 0))\n";
-    writes_without_units(&rt, rt.alloc(), UNDECIDED, 5, wanted)?;
+    writes_within(&rt, rt.alloc(), "0", UNDECIDED, 5, wanted)?;
     Ok(())
 }
 
@@ -185,6 +186,17 @@ const EXCLUDED: &[u8] = b"(declare-const x Real)(assert (or (< x 1.0) (< x 2.0))
 
 #[test]
 fn a_bound_excludes_others_of_its_form_without_a_unit(rt: HostRuntime) -> Result<(), Fail> {
-    writes_without_units(&rt, rt.alloc(), EXCLUDED, 4, b"unsat\n")?;
+    writes_within(&rt, rt.alloc(), "0", EXCLUDED, 4, b"unsat\n")?;
+    Ok(())
+}
+
+// Two forms leave their bounds, so two exchanges decide it; nothing is decided by the search.
+const CHAIN: &[u8] = b"(declare-const x Real)(declare-const y Real)(declare-const z Real)
+        (assert (<= (+ x 1.0) y))(assert (<= (+ y 1.0) z))(check-sat)";
+
+#[test]
+fn a_conjunction_takes_units_for_exchanges_alone(rt: HostRuntime) -> Result<(), Fail> {
+    writes_within(&rt, rt.alloc(), "1", CHAIN, 6, b"unknown\n")?;
+    writes_within(&rt, rt.alloc(), "2", CHAIN, 6, b"sat\n")?;
     Ok(())
 }
