@@ -46,13 +46,13 @@ impl Cover {
         })
     }
 
-    /// Covers a term at a level. Answers how many clauses that adds, how many terms are covered then, and how many bounds are listed.
+    /// Covers a term at a level. Answers how many clauses that adds.
     pub(crate) fn add(
         &mut self,
         alloc: Global,
         id: TermId,
         level: usize,
-    ) -> Result<[usize; 3], FormStop> {
+    ) -> Result<usize, FormStop> {
         if !self.is_known || level < self.level || self.terms.len() <= id {
             return Err(FormStop::Memory);
         }
@@ -63,19 +63,14 @@ impl Cover {
             .form
             .add_term(alloc, &mut self.log, &self.terms, id, level)?;
         self.is_known = true;
-        Ok([
-            clauses.len(),
-            self.form.terms().len(),
-            self.form.bounds().len(),
-        ])
+        Ok(clauses.len())
     }
 
-    /// Takes back what is above a level. Answers how many terms are covered then.
-    pub(crate) fn cut(&mut self, level: usize) -> usize {
+    /// Takes back what is above a level.
+    pub(crate) fn cut(&mut self, level: usize) {
         covers_stay();
         self.log.drop_above(level);
         self.form.cut(level);
-        self.form.terms().len()
     }
 
     /// The log.

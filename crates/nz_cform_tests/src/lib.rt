@@ -2,8 +2,14 @@
 #![tactic(auto)]
 
 #[cfg(test)]
+mod acts;
+#[cfg(test)]
+mod bounds;
+#[cfg(test)]
 mod cover;
 #[cfg(test)]
 mod form;
 #[cfg(test)]
 mod rows;
+#[cfg(test)]
+mod terms;

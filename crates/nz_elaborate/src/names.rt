@@ -1,5 +1,5 @@
 //! The live names: those of the operators, which are declared from the start, and those of the constants and definitions.
-ghost use Rattle.std.specs.Prelude.{◌≡◌, List, [], ◌∷◌, ◌++◌, None, Some, IfOk, IfSome, IfNone, OnOk, OnErr};
+ghost use Rattle.std.specs.Prelude.{◌≡◌, List, [], ◌∷◌, ◌++◌, length, take, None, Some, IfOk, IfSome, IfNone, OnOk, OnErr};
 ghost use Rattle.nz_spec.specs.Table.{Node};
 ghost use Rattle.nz_elaborate.specs.Names.{named_by, is_operator_entry, nothing_declared, IsScope};
 
@@ -78,6 +78,20 @@ impl Names {
             Some(_) => false,
             None => false,
         }
+    }
+
+    /// How many names there are.
+    pub fn count(&self) -> usize
+        ensures count { result ≡ length self.now }
+    {
+        self.entries.len()
+    }
+
+    /// Keeps the first names, so many of them. Takes no memory.
+    pub fn truncate(&mut self, count: usize)
+        ensures kept { self.new ≡ take count self.old }
+    {
+        self.entries.truncate(count);
     }
 
     /// Adds a name that isn't there yet.

@@ -1,9 +1,9 @@
 -- A theory that learns of atoms, one after another.
-use Rattle.std.proofs.Common.{◌≡◌, inl, inr, ℕ, ◌+◌, ◌<◌, ◌++◌, true, List, [], ◌∷◌, length, get_or, take, Some, refl, sym, ap, subst, ◌∙◌, append-nil, append_assoc}
-use Rattle.std.specs.Prelude.{All, slice_get}
+use Rattle.std.proofs.Common.{◌≡◌, inl, inr, ℕ, ◌+◌, ◌<◌, ◌++◌, true, List, [], ◌∷◌, length, get_or, map, take, Some, refl, sym, ap, subst, ◌∙◌, append-nil, append_assoc}
+use Rattle.std.specs.Prelude.{All, Contains, slice_get}
 use Rattle.std.proofs.lemmas.List.{map-append, take_more}
 use Rattle.std.proofs.lemmas.Option.{get_or_from_slice_get, slice_get-get_or}
-use Rattle.std.proofs.lemmas.List.Elements.{All-contains}
+use Rattle.std.proofs.lemmas.List.Elements.{All-contains, All-from_get_or, Contains-get_or}
 use Rattle.nz_spec.specs.Legal.{Task}
 use Rattle.nz_spec.specs.Table.{Node, IsTable}
 use Rattle.nz_spec.specs.Work.{WorkList, NoteLine, with_line}
@@ -15,22 +15,28 @@ use Rattle.nz_log.specs.declared.stop.Stop.{Stop}
 use Rattle.nz_log.specs.Atoms.{IsAtomIn, IsLitIn}
 use Rattle.nz_log.specs.Standing.{Stands}
 use Rattle.nz_reals.specs.Joins.{IsAtomFor, IsNumberIn, MayLearn, NotesForm}
-use Rattle.nz_reals.specs.Stands.{HasTold, IsAt, IsOf, IsOver}
+use Rattle.nz_reals.specs.Stands.{HasTold, IsAt, IsKnownAtom, IsOf, IsOver}
 use Rattle.nz_reals.specs.State.{Theory, empty_theory}
 use Rattle.nz_sat.specs.Numbers.{IsAtomAt}
 use Rattle.nz_engine.specs.Checking.{AreLearnable, AreNumbered, EndsWith, IsLearnable, IsNonzero, NotesForms, form_lines}
+use Rattle.nz_engine.specs.Joining.{AreNumbersBelow}
 use Rattle.nz_engine.proofs.Naming.{numbered_still}
 use Rattle.nz_engine.proofs.Placing.{stands_there}
+use Rattle.nz_engine.proofs.RowFacts.{contains_map}
 
--- It was told nothing, knows the first so many atoms, and stands where the list leads, to which notes of forms were added.
-pub record IsBeginning (all : List Atom) (ids : List ℕ) (n : ℕ) (old work : WorkList Note) (t : Theory) : Type 0 where
+-- the atoms of these places
+abbrev pub atoms_at : List ℕ → List ℕ → List ℕ
+atoms_at ids places = map (λ (k : ℕ). get_or ids k 0) places
+
+-- It was told nothing, knows the atoms of these places, and stands where the list leads, to which notes of forms were added.
+pub record IsBeginning (all : List Atom) (ids places : List ℕ) (old work : WorkList Note) (t : Theory) : Type 0 where
   pub untold : HasTold t []
-  pub of : IsOf t all (take n ids)
+  pub of : IsOf t all (atoms_at ids places)
   pub over : (ns : List Node) → IsTable ns → All (IsAtomAt ns all) ids → IsOver t ns
   pub forms : NotesForms old work
   pub stands : (ns : List Node) (q : Task) → IsTable ns → All (IsAtomAt ns all) ids → AreNumbered ns all ids old → Stands (IsAt empty_theory ns) ns q old → Stands (IsAt t ns) ns q work
 
-pub begins : (all : List Atom) (ids : List ℕ) (work : WorkList Note) → IsOf empty_theory all [] → IsBeginning all ids 0 work work empty_theory
+pub begins : (all : List Atom) (ids : List ℕ) (work : WorkList Note) → IsOf empty_theory all [] → IsBeginning all ids [] work work empty_theory
 begins all ids work of =
     record {
       untold = refl;
@@ -38,6 +44,16 @@ begins all ids work of =
       over = λ ns table within. record { table = table; units = tt };
       forms = record { forms = []; noted = ap (λ ls. record work { lines = ls }) (sym (append-nil work.lines)) };
       stands = λ ns q table within numbered h. h;
+    }
+
+-- Where each place is among these, it knows all atoms.
+pub of_all : (t : Theory) (all : List Atom) (ids places : List ℕ) → AreNumbersBelow (length ids) places → IsOf t all (atoms_at ids places) → IsOf t all ids
+of_all t all ids places listed of =
+    let is_known : ℕ → Type 0 = λ id. (a : Atom) × (slice_get all id ≡ Some a) × IsKnownAtom t id a in
+    record {
+      all = All-from_get_or is_known ids 0
+          (λ k below. All-contains is_known (atoms_at ids places) (get_or ids k 0) of.all (contains_map (λ (j : ℕ). get_or ids j 0) places k (listed.each k below)));
+      right = of.right;
     }
 
 -- notes of forms, and then one more at most
@@ -52,9 +68,18 @@ more_forms number old work new forms (inr one) =
           ∙ ap (λ ls. old.lines ++ ls) (sym (map-append (λ (k : ℕ). NoteLine (notes.Form k)) forms.forms (number ∷ []))));
     }
 
-module _ (all : List Atom) (ids : List ℕ) (n : ℕ) (old work : WorkList Note) (t : Theory) (h : IsBeginning all ids n old work t) (id d : ℕ) (below : n < length ids) (is : id ≡ get_or ids n d) where
+-- The next place is n, and the atom there id.
+module _ (all : List Atom) (ids places : List ℕ) (i : ℕ) (old work : WorkList Note) (t : Theory) (h : IsBeginning all ids (take i places) old work t) (listed : AreNumbersBelow (length ids) places)
+    (inside : i < length places) (n id : ℕ) (next : n ≡ get_or places i 0) (is : id ≡ get_or ids n 0) where
   at_number : slice_get ids n ≡ Some id
-  at_number = slice_get-get_or ids n d below ∙ ap Some (sym is)
+  at_number = slice_get-get_or ids n 0 (listed.below n (subst (Contains places) (sym next) (Contains-get_or places i 0 inside))) ∙ ap Some (sym is)
+
+  -- the atom comes behind those before it
+  one_more : atoms_at ids (take i places) ++ id ∷ [] ≡ atoms_at ids (take (i + 1) places)
+  one_more =
+      ap (λ (x : ℕ). atoms_at ids (take i places) ++ x ∷ []) (is ∙ ap (λ (k : ℕ). get_or ids k 0) next)
+      ∙ sym (map-append (λ (k : ℕ). get_or ids k 0) (take i places) (get_or places i 0 ∷ []))
+      ∙ ap (atoms_at ids) (sym (take_more places i 0 inside))
 
   within_here : (ns : List Node) → All (IsAtomAt ns all) ids → IsLitIn ns all (record { atom = id; sign = true })
   within_here ns within = All-contains (IsAtomAt ns all) ids id within (stands_there ids n id at_number)
@@ -78,13 +103,13 @@ module _ (all : List Atom) (ids : List ℕ) (n : ℕ) (old work : WorkList Note)
 
   -- and then it knows one more
   module _ (new : Theory) (after : WorkList Note) (lines : NotesForm n work after) where
-    pub learns : HasTold new [] → IsOf new all (take n ids ++ id ∷ []) → ((ns : List Node) → IsLitIn ns all (record { atom = id; sign = true }) → IsOver t ns → IsOver new ns)
+    pub learns : HasTold new [] → IsOf new all (atoms_at ids (take i places) ++ id ∷ []) → ((ns : List Node) → IsLitIn ns all (record { atom = id; sign = true }) → IsOver t ns → IsOver new ns)
         → ((ns : List Node) (q : Task) → IsLitIn ns all (record { atom = id; sign = true }) → IsNumberIn ns all id n work → Stands (IsAt t ns) ns q work → Stands (IsAt new ns) ns q after)
-        → IsBeginning all ids (n + 1) old after new
+        → IsBeginning all ids (take (i + 1) places) old after new
     learns untold of over stands =
         record {
           untold = untold;
-          of = subst (IsOf new all) (ap (λ (x : ℕ). take n ids ++ x ∷ []) is ∙ sym (take_more ids n d below)) of;
+          of = subst (IsOf new all) one_more of;
           over = λ ns table within. over ns (within_here ns within) (h.over ns table within);
           forms = more_forms n old work after h.forms lines;
           stands = λ ns q table within numbered first. stands ns q (within_here ns within) (number_here ns numbered) (h.stands ns q table within numbered first);

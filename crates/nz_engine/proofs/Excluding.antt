@@ -1,6 +1,7 @@
 -- A search over what is prepared may begin where clauses for bounds that exclude each other are held too.
-use Rattle.std.proofs.Common.{◌≡◌, ℕ, List, [], ◌∷◌, map, Option, Some, None, get_or, refl, sym, ap, subst, ◌∙◌}
-use Rattle.std.specs.Prelude.{All, Contains}
+use Rattle.std.proofs.Common.{◌≡◌, ℕ, List, [], ◌∷◌, ◌++◌, map, Option, Some, None, get_or, refl, sym, ap, subst, ◌∙◌}
+use Rattle.std.specs.Prelude.{All, Contains, OnOk, Result, Ok, Err}
+use Rattle.std.proofs.lemmas.List.{map-append}
 use Rattle.std.proofs.lemmas.List.Elements.{All-append, All-contains, All-from_recursion, All-map, All-weaker, Contains-get_or}
 use Rattle.nz_spec.specs.Table.{Node}
 use Rattle.nz_log.specs.declared.lits.Lit.{Lit}
@@ -9,12 +10,13 @@ use Rattle.nz_log.specs.Lits.{negated_lit}
 use Rattle.nz_log.specs.Logs.{Entry, IsLive, LogState, level_at, literals_at}
 use Rattle.nz_cform.specs.Forms.{FormState}
 use Rattle.nz_cform.specs.Listings.{IsListing}
-use Rattle.nz_reals.specs.Exclusions.{IsExclusion, Keeps}
+use Rattle.nz_reals.specs.Exclusions.{AddsOn, HasNeighbours, IsExclusion, Keeps}
+use Rattle.nz_reals.specs.State.{Theory}
 use Rattle.nz_sat.specs.declared.clauses.Held.{Held}
-use Rattle.nz_sat.specs.Sats.{AreHeld, AreOn, HoldsMore, held_of}
+use Rattle.nz_sat.specs.Sats.{AreHeld, AreOn, HoldsMore, SatState, held_of}
 use Rattle.nz_engine.specs.declared.prepared.Prepared.TheInside.{Inside}
 use Rattle.nz_engine.specs.Checking.{IsPosed, IsReady}
-use Rattle.nz_engine.specs.Preparing.{Excludes, PreparedState}
+use Rattle.nz_engine.specs.Preparing.{Excludes, PreparedState, ids_held}
 use Rattle.nz_engine.specs.SearchLaws.{SearchLaws}
 use Rattle.nz_engine.proofs.Solving.{are_named, ids_told, ids_within, named_have, named_ids, named_lits, named_searched, posed_after}
 
@@ -44,7 +46,37 @@ module _ (old new : LogState) (keeps : Keeps old new) (held : List Held) (were :
       let same : level_at new h.id ≡ level_at old h.id = ap (λ (o : Option Entry). elim o [ None ↦ 0 | Some e ↦ e.level ]) (keeps.kept h.id was.0) in
       (keeps.live h.id was.0, same ∙ was.1)
 
-module _ {p : PreparedState} {atoms : List ℕ} (q : PreparedState) (x : Excludes p atoms q) (were : AreHeld p.log p.sat.clauses) where
+-- ---- What is held then
+
+ids_of_held : (log : LogState) (ids : List ℕ) → ids_held (map (held_of log) ids) ≡ ids
+ids_of_held log [] = refl
+ids_of_held log (i ∷ ids) = λ k. i ∷ ids_of_held log ids k
+
+-- the clauses that were held, and those that are put, by their numbers
+pub held_with : (log : LogState) (held : List Held) (ids : List ℕ) → ids_held (held ++ map (held_of log) ids) ≡ ids_held held ++ ids
+held_with log held ids = map-append (λ (h : Held). h.id) held (map (held_of log) ids) ∙ ap (λ (is : List ℕ). ids_held held ++ is) (ids_of_held log ids)
+
+pub live_ids : (log : LogState) (held : List Held) → AreHeld log held → All (IsLive log) (ids_held held)
+live_ids log held are = All-map (IsLive log) (λ (h : Held). h.id) held (λ k d below. (are k d below).0)
+
+-- what comes of a fact on a success
+pub ok_then : {T E P Q : Type 0} (r : Result T E) → (P → Q) → OnOk r P → OnOk r Q
+ok_then (Ok x) f p = f p
+ok_then (Err e) f p = tt
+
+-- The clauses that were put are held, and each two neighbouring bounds have theirs.
+pub excludes_by : (theory : Theory) (old : PreparedState) (atoms : List ℕ) (log : LogState) (sat : SatState Theory) (cs : List ℕ) → AddsOn atoms old.log log → All (IsExclusion log atoms) cs
+    → sat.clauses ≡ old.sat.clauses ++ map (held_of log) cs → HasNeighbours theory log atoms (ids_held old.sat.clauses ++ cs) → Excludes theory old atoms (record old { log = log; sat = sat })
+excludes_by theory old atoms log sat cs adds all joined neighbours = record {
+  rest = refl;
+  adds = adds;
+  ids = cs;
+  exclusions = all;
+  joined = joined;
+  neighbours = subst (HasNeighbours theory log atoms) (sym (ap ids_held joined ∙ held_with log old.sat.clauses cs)) neighbours;
+}
+
+module _ {theory : Theory} {p : PreparedState} {atoms : List ℕ} (q : PreparedState) (x : Excludes theory p atoms q) (were : AreHeld p.log p.sat.clauses) where
   holds_exclusions : HoldsMore q.log p.sat.clauses q.sat.clauses
   holds_exclusions =
       record {
@@ -64,9 +96,9 @@ module _ {p : PreparedState} {atoms : List ℕ} (q : PreparedState) (x : Exclude
       (All-map P (held_of q.log) x.ids (All-weaker (IsExclusion q.log atoms) (λ id. All (λ (l : Lit). Contains atoms l.atom) (literals_at q.log id)) (on_atoms q.log atoms) x.ids x.exclusions)))
 
 pub ready_excluded : SearchLaws → {ns : List Node} {assumed : List TermLit} {old p : PreparedState} {ids : List ℕ} {lits : List Lit} → IsReady ns assumed old p ids lits
-    → {was q s : PreparedState} → p ≡ was → Excludes was ids q → s ≡ q → IsReady ns assumed old s ids lits
-ready_excluded laws {ns} {assumed} {old} {p} {ids} {lits} r {was} {q} {s} same excludes view =
-    let x : Excludes p ids q = subst (λ (z : PreparedState). Excludes z ids q) (sym same) excludes in
+    → {theory : Theory} {was q s : PreparedState} → p ≡ was → Excludes theory was ids q → s ≡ q → IsReady ns assumed old s ids lits
+ready_excluded laws {ns} {assumed} {old} {p} {ids} {lits} r {theory} {was} {q} {s} same excludes view =
+    let x : Excludes theory p ids q = subst (λ (z : PreparedState). Excludes theory z ids q) (sym same) excludes in
     let n = r.handed in
     let form : q.form ≡ p.form = ap (λ (s : PreparedState). s.form) x.rest in
     let given : q.given ≡ p.given = ap (λ (s : PreparedState). s.given) x.rest in

@@ -9,6 +9,7 @@ pub mod Leveling
 pub mod Modeling
 pub mod Naming
 pub mod Onces
+pub mod Ordering
 pub mod Placing
 pub mod Posing
 pub mod Putting

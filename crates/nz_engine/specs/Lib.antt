@@ -1,5 +1,6 @@
 pub mod Checking
 pub mod Engines
+pub mod Joining
 pub mod Levels
 pub mod Preparing
 pub mod SearchLaws

@@ -12,14 +12,17 @@ use Rattle.nz_log.specs.Leveled.{IsLeveled}
 use Rattle.nz_log.specs.Atoms.{HasTerm, lit_of, term_place}
 use Rattle.nz_log.specs.Logs.{LogState, empty_log, literals_at, told_level, Drops}
 use Rattle.nz_log.specs.Sound.{IsLog, live_at}
+use Rattle.nz_log.specs.Theories.{Grows}
 use Rattle.nz_log.specs.TermLits.{yes}
 use Rattle.nz_cform.specs.Covering.{AreAdded, Covers, IsRowAt, Keeps}
-use Rattle.nz_cform.specs.Forms.{FormState, Cuts, Grows, covered_at, empty_form}
+use Rattle.nz_cform.specs.Forms as form
+use Rattle.nz_cform.specs.Forms.{FormState, Cuts, covered_at, empty_form}
 use Rattle.nz_cform.specs.Listings.{listed_at}
-use Rattle.nz_reals.specs.Exclusions.{AddsOn, IsExclusion}
+use Rattle.nz_reals.specs.Exclusions.{AddsOn, HasNeighbours, IsExclusion}
+use Rattle.nz_reals.specs.Stands.{HasTold, IsOf}
 use Rattle.nz_reals.specs.State.{Theory, empty_theory}
 use Rattle.nz_sat.specs.declared.clauses.Held.{Held}
-use Rattle.nz_sat.specs.Sats.{SatState, AreHeld, held_of, held_up_to}
+use Rattle.nz_sat.specs.Sats.{SatState, AreHeld, HoldsMore, held_of, held_up_to}
 use Rattle.nz_engine.specs.Levels.{count_in, count_of}
 
 -- The log, the terms that have their gates in it, the search, how many assertions have their clause, and whether terms are covered for assumed literals
@@ -125,7 +128,7 @@ pub record IsAssumable (ns : List Node) (levels : List (List ℕ)) (more : List 
 pub record CoversAlso (ns : List Node) (old : PreparedState) (t level : ℕ) (new : PreparedState) : Type 0 where
   pub covers : Covers ns new.log new.form
   pub kept : Keeps old.log new.log
-  pub grown : Grows old.form level new.form
+  pub grown : form.Grows old.form level new.form
   pub made : (u : ℕ) → covered_at old.form u ≡ None → IsSome (covered_at new.form u) → Contains (post_order (term_in ns t)) (term_in ns u)
   pub here : IsSome (covered_at new.form t)
   pub ids : List ℕ
@@ -135,13 +138,30 @@ pub record CoversAlso (ns : List Node) (old : PreparedState) (t level : ℕ) (ne
   pub sound : (levels : List (List ℕ)) → IsLog ns levels old.log → IsLog ns levels new.log
   pub given : new.given ≡ old.given
 
--- Clauses that bounds on these atoms exclude each other are put and held.
-pub record Excludes (old : PreparedState) (atoms : List ℕ) (new : PreparedState) : Type 0 where
+-- the numbers of clauses that are held
+abbrev pub ids_held : List Held → List ℕ
+ids_held held = map (λ (h : Held). h.id) held
+
+-- Clauses for neighbouring bounds on these atoms are put and held, so that each two have theirs, unless their sum leaves the numbers.
+pub record Excludes (theory : Theory) (old : PreparedState) (atoms : List ℕ) (new : PreparedState) : Type 0 where
   pub rest : new ≡ record old { log = new.log; sat = new.sat }
   pub adds : AddsOn atoms old.log new.log
   pub ids : List ℕ
   pub exclusions : All (IsExclusion new.log atoms) ids
   pub joined : new.sat.clauses ≡ old.sat.clauses ++ map (held_of new.log) ids
+  pub neighbours : HasNeighbours theory new.log atoms (ids_held new.sat.clauses)
+
+-- When the search began, and the theory had been told nothing, each two neighbouring bounds of one form had their clause among those held, unless their sum
+-- leaves the numbers. What is held besides was learned since.
+pub record BeganExcluded (ns : List Node) (new : PreparedState) : Type 0 where
+  pub theory : Theory
+  pub untold : HasTold theory []
+  pub log : LogState
+  pub of : IsOf theory log.atoms (atoms_of ns new)
+  pub held : List Held
+  pub neighbours : HasNeighbours theory log (atoms_of ns new) (ids_held held)
+  pub grown : Grows log new.log
+  pub learned : HoldsMore new.log held new.sat.clauses
 
 -- What is above a level is taken back, and the count is no more than what stands up to it.
 pub record CutsTo (old : PreparedState) (level count : ℕ) (new : PreparedState) : Type 0 where

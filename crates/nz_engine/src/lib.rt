@@ -3,6 +3,7 @@
 
 mod check;
 mod engine;
+mod joining;
 mod levels;
 mod prepared;
 

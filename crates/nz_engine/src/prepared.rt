@@ -24,13 +24,14 @@ ghost use Rattle.nz_reals.specs.Chosen.{HasWorths};
 ghost use Rattle.nz_reals.specs.Stands.{HasTold, IsAt, IsFeasible, IsOf, IsOver};
 ghost use Rattle.nz_reals.specs.State.{empty_theory};
 ghost use Rattle.nz_sat.specs.Numbers.{IsAtomAt};
-ghost use Rattle.nz_sat.specs.Sats.{held_of};
+ghost use Rattle.nz_sat.specs.Sats.{AreHeld, held_of};
 ghost use Rattle.nz_engine.specs.Checking.{AreCovered, AreHanded, AreLearnable, AreNumbered, AreTakenAt, EndsWith, HasBegun, HasFound, IsPosed, IsReady, IsRootStop, IsStopOf, IsTermStop, MayBegin, NotesAll, NotesFirst, NotesForms, Works, atom_lines, note_of, terms_named, truth_in, value_at};
 ghost use Rattle.nz_engine.specs.Engines.{literals_in};
 ghost use Rattle.nz_engine.specs.Levels.{IsPlaced, count_of};
 ghost use Rattle.nz_engine.specs.SearchLaws.{SearchLaws};
-ghost use Rattle.nz_engine.specs.Preparing.{CoversAlso, CutsTo, Excludes, IsAssumable, IsPrepared, IsStanding, KeepsBounds, boolean_term, boolean_terms, nothing_prepared};
+ghost use Rattle.nz_engine.specs.Preparing.{BeganExcluded, CoversAlso, CutsTo, Excludes, IsAssumable, IsPrepared, IsStanding, KeepsBounds, boolean_term, boolean_terms, nothing_prepared};
 
+use crate::joining::joining_order;
 use crate::levels::Levels;
 use nz_base::{Memory, Work};
 use nz_cform::laws::{covers_stay, rows_name_covered};
@@ -38,7 +39,7 @@ use nz_cform::{ClauseForm, FormStop};
 use nz_log::laws::{atoms_of_terms, logs_stay, logs_stay_leveled, tells_lits};
 use nz_log::{Atom, AtomId, ClauseId, Lit, Log, Note, Place, Site, Step, Stop, TermLit};
 use nz_reals::Reals;
-use nz_sat::Sat;
+use nz_sat::{Held, Sat};
 use nz_spec::deciding::taken_terms_are_in_order;
 use nz_spec::derivation::tells_literals;
 use nz_spec::form::forms_are_sums;
@@ -59,8 +60,6 @@ pub struct Prepared {
     given: usize,
     // Whether terms are covered for assumed literals alone.
     above: bool,
-    // Neighbouring bounds with lower numbers have their clauses.
-    excluded: AtomId,
 }
 
 /// The atoms of a search, and the literals that it assumes.
@@ -90,7 +89,6 @@ impl Prepared {
             sat: Sat::new(alloc, Reals::new(alloc)),
             given: 0,
             above: false,
-            excluded: 0,
         })
     }
 
@@ -245,6 +243,7 @@ impl Prepared {
         ensures ends { (levels : List (List ℕ)) → IsPosed terms.now levels assumed.now self.old → Ends (IsAt self.new.sat.theory terms.now) terms.now (task_in terms.now levels assumed.now) work.new result }
         ensures works { Works terms.now work.old work.new }
         ensures spent { IfErr result (λ s. OnSpent s (IsSpent work.new)) }
+        ensures excluded { OnOk result (BeganExcluded terms.now self.new) }
     {
         search_laws();
         let named = self.ready(terms, assumed)?;
@@ -256,15 +255,15 @@ impl Prepared {
         self.sat.solve(&mut self.log, atoms, literals, work)
     }
 
-    /// Adds the clauses for neighbouring bounds among these atoms, which a theory has learned of, and holds them. Two that had theirs get none.
+    /// Adds the clauses for neighbouring bounds among these atoms, which a theory has learned of, and holds them. Two whose clause is held get none.
     fn exclude(&mut self, theory: &Reals, atoms: &[AtomId]) -> Result<(), Memory>
         requires of { IsOf theory.now self.old.log.atoms atoms.now }
-        ensures excludes { OnOk result (Excludes self.old atoms.now self.new) }
+        requires held { AreHeld self.old.log self.old.sat.clauses }
+        ensures excludes { OnOk result (Excludes theory.now self.old atoms.now self.new) }
     {
-        let clauses = theory.exclusions(&mut self.log, atoms, self.excluded)?;
-        hold(&mut self.sat, &self.log, &clauses)?;
-        self.excluded = self.log.atom_count();
-        Ok(())
+        let held = ids_of(self.alloc, self.sat.clauses())?;
+        let exclusions = theory.exclusions(&mut self.log, atoms, &held)?;
+        hold(&mut self.sat, &self.log, &exclusions)
     }
 
     /// Names what a search is handed, which may begin then.
@@ -347,6 +346,17 @@ fn search_laws()
     covers_stay();
     forms_are_sums();
     operands_are_sorted();
+}
+
+/// The numbers of clauses that are held.
+fn ids_of(alloc: Global, held: &[Held]) -> Result<Vec<ClauseId>, Memory>
+    ensures ids { IfOk result (λ ids. ids.items ≡ map (λ h. h.id) held.now) }
+{
+    let mut ids = Vec::with_capacity(alloc, held.len())?;
+    for one in held {
+        ids.push(one.id)?;
+    }
+    Ok(ids)
 }
 
 /// Holds these clauses too.
@@ -453,9 +463,10 @@ fn reals_of(
     ensures stopped { IfErr result (λ e. (ns : List Node) (q : Task) → IsTable ns → All (IsAtomAt ns log.now.atoms) atoms.now → AreNumbered ns log.now.atoms atoms.now work.old → Stands (IsAt empty_theory ns) ns q work.old → EndsWith ns q work.new e) }
     ensures unspent { IfErr result (λ e. e ≡ stop.Spent → ⊥) }
 {
+    let order = joining_order(alloc, log, atoms)?;
     let mut reals = Reals::new(alloc);
-    for number in 0..atoms.len() {
-        reals.add_atom(log, atoms[number], number, work)?;
+    for number in order.as_slice() {
+        reals.add_atom(log, atoms[*number], *number, work)?;
     }
     Ok(reals)
 }

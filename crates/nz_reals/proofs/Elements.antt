@@ -22,6 +22,11 @@ push_new ys x new h i j z at to =
       ]
     ]
 
+-- two that differ
+pub two_once : {X : Type 0} (x y : X) → (x ≡ y → ⊥) → StandOnce (x ∷ y ∷ [])
+two_once x y two =
+    push_new (x ∷ []) y (λ has. elim (Contains-push_cases [] x y has) [ inl none ↦ has_none y none | inr is ↦ two is ]) (push_new [] x (has_none x) (λ i j z at to. cc))
+
 module _ {X : Type 0} (same : X → X → Bool) (tells : (x y : X) → same x y ≡ true → x ≡ y) (one : (x : X) → same x x ≡ true) where
   tells_any : (x : X) (ys : List X) → Contains ys x → list_any (same x) ys ≡ true
   tells_any x ys h = list_any_at (same x) ys h.0 x h.1 (ap (same x) h.2 ∙ one x)

@@ -1,10 +1,11 @@
 -- Clauses that bounds of one form exclude each other: what the log has then.
-use Rattle.std.proofs.Common.{◌≡◌, ℕ, ◌+◌, ◌-◌, ◌<◌, ◌≤◌, inl, inr, List, [], ◌∷◌, ◌++◌, get_or, length, map, Option, Some, None, refl, sym, ap, ◌∙◌, subst, arith, true}
-use Rattle.std.specs.Prelude.{All, Contains, IsSome, slice_index_or}
+use Rattle.std.proofs.Common.{◌≡◌, ℕ, ◌+◌, ◌-◌, ◌<◌, ◌≤◌, Bool, ◌⊎◌, inl, inr, zero, suc, List, [], ◌∷◌, ◌++◌, get_or, length, map, Option, Some, None, refl, sym, ap, ◌∙◌, subst, arith, true}
+use Rattle.std.specs.Prelude.{All, Contains, IsSome, set, slice_get, slice_index_or}
 use Rattle.std.specs.List.{AllAdjacentBelow}
-use Rattle.std.proofs.lemmas.List.Elements.{All-contains, All-from_recursion, All-push, All-weaker}
+use Rattle.std.proofs.lemmas.List.Elements.{All-contains, All-from_recursion, All-push, All-weaker, Contains-append_cases, Contains-append_left, Contains-append_right}
+use Rattle.std.proofs.lemmas.Option.{get_or_from_slice_get}
 use Rattle.std.proofs.lemmas.List.Sorted.{all_adjacent_more}
-use Rattle.nz_lists.proofs.Members.{map_has}
+use Rattle.nz_lists.proofs.Members.{has_first, has_more, map_has}
 use Rattle.nz_spec.specs.Literal.{StandOnce}
 use Rattle.nz_spec.specs.Table.{Node}
 use Rattle.nz_log.specs.declared.atoms.Atom.{Atom}
@@ -14,16 +15,17 @@ use Rattle.nz_log.specs.Atoms.{IsLitIn}
 use Rattle.nz_log.specs.Axioms.{AreMultiplesIn}
 use Rattle.nz_log.specs.Leveled.{AreTold, AreToldAtoms, Names}
 use Rattle.nz_log.specs.Lits.{negated_lit}
-use Rattle.nz_log.specs.Logs.{Entry, LogState, Puts, literals_at, told_of}
+use Rattle.nz_log.specs.Logs.{Entry, IsLive, LogState, Puts, literals_at, told_of}
 use Rattle.nz_log.specs.Sound.{IsLog}
 use Rattle.nz_log.specs.Theories.{Grows, IsClash}
 use Rattle.nz_reals.specs.declared.neighbours.Lower as code
-use Rattle.nz_reals.specs.Exclusions.{AddsOn, AreAtomsOver, AreExcluded, AreLowers, HasNeighbours, IsExclusion, Keeps, lits_of}
+use Rattle.nz_reals.specs.Exclusions.{AddsOn, AreAtomsOver, AreExcluded, AreJoined, AreLowers, HasNeighbours, IsExclusion, Joins, Keeps, lits_of}
 use Rattle.nz_reals.specs.Stands.{IsOf}
 use Rattle.nz_reals.specs.State.{Theory}
 use Rattle.nz_reals.specs.Tells.{both, literals_of}
+use Rattle.nz_reals.proofs.Elements.{two_once}
 use Rattle.nz_reals.proofs.Lowering.{adjacent_map, opposed}
-use Rattle.nz_reals.proofs.Refuting.{grows_same}
+use Rattle.nz_reals.proofs.Refuting.{grows_same, lit_back}
 
 -- ---- What the log keeps
 
@@ -124,31 +126,108 @@ exclusions_more old new ids cs l other id on other_on adds all clash =
 -- ---- Neighbours
 
 -- they have their clause still, where there are more
-pub excluded_kept : (t : Theory) (old new : LogState) (from : ℕ) (cs ds : List ℕ) (l other : Lit) → Keeps old new → ((id : ℕ) → Contains cs id → Contains ds id)
-    → AreExcluded t old from cs l other → AreExcluded t new from ds l other
-excluded_kept t old new from cs ds l other keeps more is = λ late opposed.
-    elim (is late opposed) [ inl c ↦ inl (c.0, more c.0 c.1, clash_kept old new (l ∷ other ∷ []) c.0 keeps c.2) | inr none ↦ inr none ]
+pub excluded_kept : (t : Theory) (old new : LogState) (cs ds : List ℕ) (l other : Lit) → Keeps old new → ((id : ℕ) → Contains cs id → Contains ds id)
+    → AreExcluded t old cs l other → AreExcluded t new ds l other
+excluded_kept t old new cs ds l other keeps more is = λ opposed.
+    elim (is opposed) [ inl c ↦ inl (c.0, more c.0 c.1, clash_kept old new (l ∷ other ∷ []) c.0 keeps c.2) | inr none ↦ inr none ]
+
+-- a clause of two literals whose negations are among those told
+pair_clash : (log : LogState) (id : ℕ) → IsLive log id → (told : List Lit) (l m : Lit) → literals_at log id ≡ l ∷ m ∷ [] → (l ≡ m → ⊥) → Contains told (negated_lit l) → Contains told (negated_lit m)
+    → IsClash log told id
+pair_clash log id live told l m is two has_l has_m =
+    let P : Lit → Type 0 = λ k. Contains told (negated_lit k) in
+    record {
+      live = live;
+      once = subst StandOnce (sym is) (two_once l m two);
+      negations = λ k has. All-contains P (l ∷ m ∷ []) k (All-from_recursion P (l ∷ m ∷ []) (has_l, (has_m, tt))) (subst (λ ks. Contains ks k) is has);
+    }
+
+-- the clause of a pair says that the bound and the negation of the one before it aren't both true
+pub clash_of_pair : (log : LogState) (xs : List code.Lower) (i id : ℕ) → IsLive log id → Joins xs i (literals_at log id) → (d e : code.Lower)
+    → IsClash log ((get_or xs i d).literal ∷ negated_lit (get_or xs (i - 1) e).literal ∷ []) id
+clash_of_pair log xs i id live (l, m, pair, same) d e =
+    let strong : get_or xs i d ≡ pair.stronger = get_or_from_slice_get xs i pair.stronger d pair.at in
+    let weak : get_or xs (i - 1) e ≡ pair.before = get_or_from_slice_get xs (i - 1) pair.before e pair.at_before in
+    let first : negated_lit l ≡ (get_or xs i d).literal = ap negated_lit pair.first ∙ lit_back pair.stronger.literal ∙ ap (λ (x : code.Lower). x.literal) (sym strong) in
+    let second : negated_lit m ≡ negated_lit (get_or xs (i - 1) e).literal = ap negated_lit (pair.second ∙ ap (λ (x : code.Lower). x.literal) (sym weak)) in
+    let told = (get_or xs i d).literal ∷ negated_lit (get_or xs (i - 1) e).literal ∷ [] in
+    let told_first : Contains told (negated_lit l) = subst (Contains told) (sym first) (has_first (get_or xs i d).literal (negated_lit (get_or xs (i - 1) e).literal ∷ [])) in
+    let told_second : Contains told (negated_lit m) = subst (Contains told) (sym second) (has_more (get_or xs i d).literal (negated_lit (get_or xs (i - 1) e).literal) (negated_lit (get_or xs (i - 1) e).literal ∷ []) (has_first (negated_lit (get_or xs (i - 1) e).literal) [])) in
+    elim same [
+      | inl is ↦ pair_clash log id live told l m is (λ e. pair.two (sym e)) told_first told_second
+      | inr is ↦ pair_clash log id live told m l is pair.two told_second told_first
+    ]
+
+marked_more : (marks : List Bool) (place i : ℕ) → slice_get (set marks place true) i ≡ Some true → (i ≡ place) ⊎ (slice_get marks i ≡ Some true)
+marked_more [] place i at = inr at
+marked_more (b ∷ bs) zero zero at = inl refl
+marked_more (b ∷ bs) zero (suc i) at = inr at
+marked_more (b ∷ bs) (suc place) zero at = inr at
+marked_more (b ∷ bs) (suc place) (suc i) at = elim (marked_more bs place i at) [ inl e ↦ inl (ap suc e) | inr was ↦ inr was ]
+
+-- one place more is marked
+pub joined_too : (log : LogState) (held : List ℕ) (xs : List code.Lower) (marks : List Bool) (place id : ℕ) → AreJoined log held xs marks → Contains held id → IsLive log id
+    → Joins xs place (literals_at log id) → AreJoined log held xs (set marks place true)
+joined_too log held xs marks place id are has live joins i at =
+    elim (marked_more marks place i at) [
+      | inl e ↦ (id, has, live, subst (λ k. Joins xs k (literals_at log id)) (sym e) joins)
+      | inr was ↦ are i was
+    ]
+
+-- the clauses that are held, and those that are new
+pub excluded_held : (t : Theory) (log new : LogState) (held cs : List ℕ) (xs : List code.Lower) (marks : List Bool) (i : ℕ) → Keeps log new → AreJoined log held xs marks → slice_get marks i ≡ Some true
+    → (d e : code.Lower) → AreExcluded t new (held ++ cs) (get_or xs i d).literal (negated_lit (get_or xs (i - 1) e).literal)
+excluded_held t log new held cs xs marks i keeps are at d e = λ opposed.
+    let c = are i at in
+    inl (c.0, Contains-append_left held cs c.0 c.1, clash_kept log new _ c.0 keeps (clash_of_pair log xs i c.0 c.2 c.3 d e))
 
 -- each of the first bounds has its clause with the one before it
-abbrev pub AreJoinedBelow : Theory → LogState → ℕ → List ℕ → List code.Lower → ℕ → Type 0
-AreJoinedBelow t log from cs xs i = AllAdjacentBelow (λ (x y : code.Lower). AreExcluded t log from cs y.literal (negated_lit x.literal)) xs i
+abbrev pub AreJoinedBelow : Theory → LogState → List ℕ → List code.Lower → ℕ → Type 0
+AreJoinedBelow t log cs xs i = AllAdjacentBelow (λ (x y : code.Lower). AreExcluded t log cs y.literal (negated_lit x.literal)) xs i
 
-pub joined_more : (t : Theory) (old new : LogState) (from : ℕ) (cs ds : List ℕ) (xs : List code.Lower) (i : ℕ) → 0 < i → Keeps old new → ((id : ℕ) → Contains cs id → Contains ds id)
-    → AreJoinedBelow t old from cs xs i → ((d : code.Lower) → AreExcluded t new from ds (get_or xs i d).literal (negated_lit (get_or xs (i - 1) d).literal)) → AreJoinedBelow t new from ds xs (i + 1)
-joined_more t old new from cs ds xs i first keeps more joined one =
-    all_adjacent_more xs (λ (x y : code.Lower). AreExcluded t new from ds y.literal (negated_lit x.literal)) i first
-    (λ k d less. excluded_kept t old new from cs ds (get_or xs (k + 1) d).literal (negated_lit (get_or xs k d).literal) keeps more (joined k d less)) one
+pub joined_more : (t : Theory) (old new : LogState) (cs ds : List ℕ) (xs : List code.Lower) (i : ℕ) → 0 < i → Keeps old new → ((id : ℕ) → Contains cs id → Contains ds id)
+    → AreJoinedBelow t old cs xs i → ((d : code.Lower) → AreExcluded t new ds (get_or xs i d).literal (negated_lit (get_or xs (i - 1) d).literal)) → AreJoinedBelow t new ds xs (i + 1)
+joined_more t old new cs ds xs i first keeps more joined one =
+    all_adjacent_more xs (λ (x y : code.Lower). AreExcluded t new ds y.literal (negated_lit x.literal)) i first
+    (λ k d less. excluded_kept t old new cs ds (get_or xs (k + 1) d).literal (negated_lit (get_or xs k d).literal) keeps more (joined k d less)) one
 
-pub neighbours_joined : (t : Theory) (atoms : List Atom) (some : List ℕ) → IsOf t atoms some → (log : LogState) (ids : List ℕ) (from : ℕ) (cs : List ℕ) (xs : List code.Lower) (i : ℕ) → length xs ≤ i
-    → AreLowers t ids (lits_of xs) → AreJoinedBelow t log from cs xs i → HasNeighbours t log ids from cs
-neighbours_joined t atoms some of log ids from cs xs i all are joined =
+-- where a loop over the bounds stands: what it put, and that each of the first bounds has its clause with the one before it
+pub record IsExcluding (t : Theory) (start log : LogState) (atoms held cs : List ℕ) (xs : List code.Lower) (i : ℕ) : Type 0 where
+  pub clauses : All (IsExclusion log atoms) cs
+  pub adds : AddsOn atoms start log
+  pub joined : AreJoinedBelow t log (held ++ cs) xs i
+
+module _ (t : Theory) (start log : LogState) (atoms held cs : List ℕ) (xs : List code.Lower) (i : ℕ) (first : 0 < i) (was : IsExcluding t start log atoms held cs xs i) where
+  -- the clause was held
+  pub excluding_held : (first_log : LogState) (marks : List Bool) → Keeps first_log log → AreJoined first_log held xs marks → slice_get marks i ≡ Some true
+      → IsExcluding t start log atoms held cs xs (i + 1)
+  excluding_held first_log marks keeps are at = record {
+    clauses = was.clauses;
+    adds = was.adds;
+    joined = joined_more t log log (held ++ cs) (held ++ cs) xs i first (keeps_same log) (λ id has. has) was.joined (λ d. excluded_held t first_log log held cs xs marks i keeps are at d d);
+  }
+
+  -- it is put
+  pub excluding_more : (new : LogState) (ds : List ℕ) → AddsOn atoms log new → ((id : ℕ) → Contains cs id → Contains ds id) → All (IsExclusion new atoms) ds
+      → ((d : code.Lower) → AreExcluded t new ds (get_or xs i d).literal (negated_lit (get_or xs (i - 1) d).literal)) → IsExcluding t start new atoms held ds xs (i + 1)
+  excluding_more new ds adds more all here = record {
+    clauses = all;
+    adds = adds_more atoms start log new was.adds adds;
+    joined = joined_more t log new (held ++ cs) (held ++ ds) xs i first adds.keeps
+        (λ id has. elim (Contains-append_cases held cs id has) [ inl a ↦ Contains-append_left held ds id a | inr b ↦ Contains-append_right held ds id (more id b) ]) was.joined
+        (λ d. excluded_kept t new new ds (held ++ ds) (get_or xs i d).literal (negated_lit (get_or xs (i - 1) d).literal) (keeps_same new) (λ id b. Contains-append_right held ds id b) (here d));
+  }
+
+pub neighbours_joined : (t : Theory) (atoms : List Atom) (some : List ℕ) → IsOf t atoms some → (log : LogState) (ids : List ℕ) (cs : List ℕ) (xs : List code.Lower) (i : ℕ) → length xs ≤ i
+    → AreLowers t ids (lits_of xs) → AreJoinedBelow t log cs xs i → HasNeighbours t log ids cs
+neighbours_joined t atoms some of log ids cs xs i all are joined =
     let ls = lits_of xs in
-    let excluded : AllAdjacentBelow (λ (l m : Lit). AreExcluded t log from cs m (negated_lit l)) ls (length ls) =
-    adjacent_map (λ (x : code.Lower). x.literal) (λ (l m : Lit). AreExcluded t log from cs m (negated_lit l)) xs (λ k d less. joined k d (omega (arith, less, all))) in
+    let excluded : AllAdjacentBelow (λ (l m : Lit). AreExcluded t log cs m (negated_lit l)) ls (length ls) =
+    adjacent_map (λ (x : code.Lower). x.literal) (λ (l m : Lit). AreExcluded t log cs m (negated_lit l)) xs (λ k d less. joined k d (omega (arith, less, all))) in
     record {
       lowers = ls;
       are = are;
-      joined = λ k d less late one.
-          excluded k d less (elim late [ inl first ↦ inr first | inr second ↦ inl second ])
+      joined = λ k d less one.
+          excluded k d less
           (opposed t atoms some of (get_or ls k d) (get_or ls (k + 1) d) (are.right k d (omega (arith, less))).1 (are.right (k + 1) d less).1 (are.weaker_first k d less) one);
     }

@@ -1,5 +1,5 @@
 -- Bounds of one form that exclude each other, and the clauses that say so.
-use Rattle.std.specs.Prelude.{◌≡◌, ℕ, ◌<◌, ◌≤◌, ◌⊎◌, List, [], ◌∷◌, length, map, All, Contains, Some, IsSome, true}
+use Rattle.std.specs.Prelude.{◌≡◌, ◌≢◌, ℕ, ◌<◌, ◌≤◌, ◌-◌, ◌⊎◌, Bool, List, [], ◌∷◌, length, map, All, Contains, Some, IsSome, slice_get, true}
 use Rattle.std.specs.List.{AllAdjacentBelow}
 use Rattle.std.specs.declared.cmp.Ordering.TheVariants.{Greater}
 use Rattle.nz_spec.specs.Infinitesimal.{infinitesimal_cmp, ◌≤δ◌}
@@ -12,7 +12,7 @@ use Rattle.nz_log.specs.declared.place.Place.{Place}
 use Rattle.nz_log.specs.Atoms.{IsLitIn}
 use Rattle.nz_log.specs.Leveled.{AreToldAtoms}
 use Rattle.nz_log.specs.Lits.{negated_lit}
-use Rattle.nz_log.specs.Logs.{IsLive, LogState, entry_at}
+use Rattle.nz_log.specs.Logs.{IsLive, LogState, entry_at, literals_at}
 use Rattle.nz_log.specs.Sound.{IsLog}
 use Rattle.nz_log.specs.Theories.{Grows, IsClash}
 use Rattle.nz_reals.specs.declared.neighbours.Lower as code
@@ -112,16 +112,15 @@ pub record AreOfOneForm (t : Theory) (l other : Lit) : Type 0 where
   pub knows_other : known_at t other.atom ≡ Some second
   pub form : first.form ≡ second.form
 
--- The lower bounds that these atoms say are listed. Of two neighbours of one form, of whose atoms one has at least this number, the stronger one has its clause
--- with the negation of the weaker one.
-pub record HasNeighbours (t : Theory) (log : LogState) (ids : List ℕ) (from : ℕ) (cs : List ℕ) : Type 0 where
+-- The lower bounds that these atoms say are listed. Of two neighbours of one form the stronger one has its clause with the negation of the weaker one.
+pub record HasNeighbours (t : Theory) (log : LogState) (ids : List ℕ) (cs : List ℕ) : Type 0 where
   pub lowers : List Lit
   pub are : AreLowers t ids lowers
-  pub joined : AllAdjacentBelow (λ (l m : Lit). (from ≤ l.atom) ⊎ (from ≤ m.atom) → AreOfOneForm t l m → HasClause t log cs m (negated_lit l)) lowers (length lowers)
+  pub joined : AllAdjacentBelow (λ (l m : Lit). AreOfOneForm t l m → HasClause t log cs m (negated_lit l)) lowers (length lowers)
 
--- two literals have their clause where their bounds leave a form no value, and one of their atoms has at least this number
-abbrev pub AreExcluded : Theory → LogState → ℕ → List ℕ → Lit → Lit → Type 0
-AreExcluded t log from cs l other = (from ≤ l.atom) ⊎ (from ≤ other.atom) → AreOpposed t l other → HasClause t log cs l other
+-- two literals have their clause where their bounds leave a form no value
+abbrev pub AreExcluded : Theory → LogState → List ℕ → Lit → Lit → Type 0
+AreExcluded t log cs l other = AreOpposed t l other → HasClause t log cs l other
 
 -- ---- Lower bounds as the code lists them
 
@@ -134,3 +133,21 @@ pub record IsSaidLower (t : Theory) (x : code.Lower) : Type 0 where
   pub knows : known_at t x.literal.atom ≡ Some known
   pub form : x.var ≡ known.form
   pub says : said_by known x.literal.sign ≡ said_on Lower (infinitesimal_of x.value)
+
+-- The one literal is the negation of the bound of a place, the other one is the bound before it, and they are two.
+pub record IsPair (xs : List code.Lower) (i : ℕ) (negated weaker : Lit) : Type 0 where
+  pub stronger : code.Lower
+  pub at : slice_get xs i ≡ Some stronger
+  pub before : code.Lower
+  pub at_before : slice_get xs (i - 1) ≡ Some before
+  pub first : negated ≡ negated_lit stronger.literal
+  pub second : weaker ≡ before.literal
+  pub two : weaker ≢ negated
+
+-- a clause has just these two literals
+abbrev pub Joins : List code.Lower → ℕ → List Lit → Type 0
+Joins xs i c = (l m : Lit) × IsPair xs i l m × ((c ≡ l ∷ m ∷ []) ⊎ (c ≡ m ∷ l ∷ []))
+
+-- where a place is marked, one of the clauses joins its bound with the one before
+abbrev pub AreJoined : LogState → List ℕ → List code.Lower → List Bool → Type 0
+AreJoined log held xs marks = (i : ℕ) → slice_get marks i ≡ Some true → (id : ℕ) × Contains held id × IsLive log id × Joins xs i (literals_at log id)

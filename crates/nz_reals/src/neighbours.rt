@@ -1,9 +1,10 @@
 //! Clauses by which neighbouring bounds of one form know each other: one that is true makes the weaker ones true, and those against it false.
-ghost use Rattle.std.specs.Prelude.{◌≡◌, ℕ, List, [], ◌∷◌, All, Contains, IfOk, IfSome, IsSome, None, OnOk, option_map, true, false};
+ghost use Rattle.std.specs.Prelude.{◌≡◌, ◌<◌, ◌++◌, ℕ, List, [], ◌∷◌, All, Contains, IfOk, IfSome, IsSome, None, OnOk, length, option_map, true, false};
 ghost use Rattle.nz_log.specs.declared.atoms.Atom.{Atom};
 ghost use Rattle.nz_log.specs.declared.lits.Lit.{Lit};
+ghost use Rattle.nz_log.specs.Logs.{IsLive};
 ghost use Rattle.nz_log.specs.Theories.{IsClash};
-ghost use Rattle.nz_reals.specs.Exclusions.{AddsOn, AreExcluded, AreLowers, AreOpposed, HasNeighbours, HasNoSum, IsExclusion, IsKnownOn, IsLower, IsSaidLower, lits_of};
+ghost use Rattle.nz_reals.specs.Exclusions.{AddsOn, AreExcluded, AreJoined, AreLowers, AreOpposed, HasNeighbours, HasNoSum, IsExclusion, IsKnownOn, IsLower, IsPair, IsSaidLower, Joins, lits_of};
 ghost use Rattle.nz_reals.specs.Known.{known_of};
 ghost use Rattle.nz_reals.specs.Stands.{IsOf};
 ghost use Rattle.nz_reals.specs.State.{known_at};
@@ -19,6 +20,7 @@ use nz_simplex::laws::{clashes_contradict, literals_say_bounds, sums_stay};
 use nz_spec::derivation::tells_literals;
 use nz_spec::form::term_has_its_number;
 use nz_trail::Var;
+use std::alloc::Global;
 
 /// A lower bound of a form, and the literal that says it.
 #[derive(Clone, Copy, Debug)]
@@ -29,8 +31,8 @@ struct Lower {
 }
 
 impl Reals {
-    /// Adds the clauses that a lower bound of a form and the negation of the next weaker one aren't both true, for the bounds that these atoms say, where
-    /// one of the two atoms has at least this number. Two whose sum leaves the numbers have no clause.
+    /// Adds the clauses that a lower bound of a form and the negation of the next weaker one aren't both true, for the bounds that these atoms say. Two
+    /// that have theirs among the clauses that are held get none, nor do two whose sum leaves the numbers.
     ///
     /// # Errors
     ///
@@ -39,18 +41,22 @@ impl Reals {
         &self,
         log: &mut Log,
         atoms: &[AtomId],
-        from: AtomId,
+        held: &[ClauseId],
     ) -> Result<Vec<ClauseId>, Memory>
         requires of { (ids : List ℕ) × IsOf self.now log.old.atoms ids }
+        requires held { All (IsLive log.old) held.now }
         ensures clauses { IfOk result (λ cs. All (IsExclusion log.new atoms.now) cs.items) }
         ensures adds { AddsOn atoms.now log.old log.new }
-        ensures neighbours { IfOk result (λ cs. HasNeighbours self.now log.new atoms.now from cs.items) }
+        ensures neighbours { IfOk result (λ cs. HasNeighbours self.now log.new atoms.now (held.now ++ cs.items)) }
     {
         let lowers = self.lowers(atoms)?;
+        let joined = joined(self.alloc, log, held, &lowers)?;
         let mut clauses = Vec::new(self.alloc);
         for i in 1..lowers.len() {
-            let weaker = lowers[i - 1].literal;
-            self.add_exclusion(log, lowers[i].literal, weaker.not(), from, &mut clauses)?;
+            if !joined[i] {
+                let weaker = lowers[i - 1].literal;
+                self.add_exclusion(log, lowers[i].literal, weaker.not(), &mut clauses)?;
+            }
         }
         Ok(clauses)
     }
@@ -97,13 +103,12 @@ impl Reals {
         }
     }
 
-    /// Adds the clause that two literals aren't both true, where their bounds leave a form no value, and one of their atoms has at least this number.
+    /// Adds the clause that two literals aren't both true, where their bounds leave a form no value.
     fn add_exclusion(
         &self,
         log: &mut Log,
         literal: Lit,
         other: Lit,
-        from: AtomId,
         clauses: &mut Vec<ClauseId>,
     ) -> Result<(), Memory>
         requires of { (ids : List ℕ) × IsOf self.now log.old.atoms ids }
@@ -111,11 +116,8 @@ impl Reals {
         ensures clauses { (ids : List ℕ) → Contains ids literal.atom → Contains ids other.atom → All (IsExclusion log.old ids) clauses.old.items → OnOk result (All (IsExclusion log.new ids) clauses.new.items) }
         ensures adds { (ids : List ℕ) → Contains ids literal.atom → Contains ids other.atom → AddsOn ids log.old log.new }
         ensures kept { (id : ℕ) → Contains clauses.old.items id → Contains clauses.new.items id }
-        ensures excluded { OnOk result (AreExcluded self.now log.new from clauses.new.items literal other) }
+        ensures excluded { OnOk result (AreExcluded self.now log.new clauses.new.items literal other) }
     {
-        if literal.atom < from && other.atom < from {
-            return Ok(());
-        }
         if let Some(clause) = self.exclusion(log, literal, other)? {
             clauses.push(clause)?;
         }
@@ -158,4 +160,68 @@ impl Reals {
         let high = self.known(other.atom);
         low.var == high.var && low.said(literal.sign).is_above(&high.said(other.sign))
     }
+}
+
+/// Which of these lower bounds have their clause with the one before them among these clauses.
+fn joined(
+    alloc: Global,
+    log: &Log,
+    held: &[ClauseId],
+    lowers: &[Lower],
+) -> Result<Vec<bool>, Memory>
+    requires live { All (IsLive log.now) held.now }
+    ensures long { IfOk result (λ v. length v.items ≡ length lowers.now) }
+    ensures joined { IfOk result (λ v. AreJoined log.now held.now lowers.now v.items) }
+{
+    let places = places_of(alloc, log, lowers)?;
+    let mut joined = Vec::new(alloc);
+    joined.resize(lowers.len(), false)?;
+    for id in held {
+        if let Some(place) = place_of(lowers, &places, log.clause(*id)) {
+            joined[place] = true;
+        }
+    }
+    Ok(joined)
+}
+
+/// By the numbers of atoms, where the bounds stand that they say.
+fn places_of(alloc: Global, log: &Log, lowers: &[Lower]) -> Result<Vec<usize>, Memory> {
+    let mut places = Vec::new(alloc);
+    if lowers.len() > 1 {
+        places.resize(log.atom_count(), 0)?;
+    }
+    for (place, lower) in lowers.iter().enumerate() {
+        if let Some(at) = places.get_mut(lower.literal.atom) {
+            *at = place;
+        }
+    }
+    Ok(places)
+}
+
+/// Of which of these bounds a clause says that it and the negation of the one before it aren't both true.
+fn place_of(lowers: &[Lower], places: &[usize], clause: &[Lit]) -> Option<usize>
+    ensures within { IfSome result (λ i. i < length lowers.now) }
+    ensures joins { IfSome result (λ i. Joins lowers.now i clause.now) }
+{
+    let [first, second] = clause else {
+        return None;
+    };
+    match place_by(lowers, places, *first, *second) {
+        Some(place) => Some(place),
+        None => place_by(lowers, places, *second, *first),
+    }
+}
+
+/// The place of a bound, where the one literal is its negation, and the other one says the bound before it.
+fn place_by(lowers: &[Lower], places: &[usize], negated: Lit, weaker: Lit) -> Option<usize>
+    ensures within { IfSome result (λ i. i < length lowers.now) }
+    ensures pair { IfSome result (λ i. IsPair lowers.now i negated weaker) }
+{
+    let place = *places.get(negated.atom)?;
+    let stronger = lowers.get(place)?;
+    let before = lowers.get(place.checked_sub(1)?)?;
+    let is_pair = negated == stronger.literal.not()
+        && weaker == before.literal
+        && weaker != negated;
+    if is_pair { Some(place) } else { None }
 }

@@ -26,7 +26,7 @@ pub enum Act {
     Told(usize),
     /// It takes back all but so many literals.
     Undo(usize),
-    /// Neighbouring bounds, of which one at least stands at this place or behind it: just these aren't true together.
+    /// Where the first so many clauses for neighbouring bounds are held, those are added by which just these aren't true together.
     Excludes(usize, &'static [&'static [Number]]),
 }
 
@@ -102,14 +102,14 @@ fn clashes(alloc: Global, system: &mut System, numbers: &[Number]) -> Result<boo
     Ok(is_refuted(alloc, system, clause, numbers)?)
 }
 
-/// Whether the clauses for neighbouring bounds are just that these aren't true together, in this order.
+/// Whether the clauses for neighbouring bounds that are added, where the first so many are held, are just that these aren't true together, in this order.
 fn excludes(
     alloc: Global,
     system: &mut System,
-    from: usize,
+    held: usize,
     pairs: &[&'static [Number]],
 ) -> Result<bool, Fail> {
-    let clauses = system.exclusions(from)?;
+    let clauses = system.exclusions(held)?;
     if clauses.len() != pairs.len() {
         return Ok(false);
     }
@@ -136,7 +136,7 @@ fn is_done(alloc: Global, system: &mut System, act: &Act) -> Result<bool, Fail> 
             system.undo(*mark);
             Ok(true)
         }
-        Act::Excludes(from, pairs) => excludes(alloc, system, *from, pairs),
+        Act::Excludes(held, pairs) => excludes(alloc, system, *held, pairs),
     }
 }
 

@@ -80,7 +80,8 @@ fn a_bound_is_refused(rt: HostRuntime) -> Result<(), Fail> {
 // Lower bounds of x, the weakest first: above 1, at least 2, above 5; of x - z: above 0, at least 1.
 const NEIGHBOURS: &[Act] = &[
     Act::Excludes(0, &[&[5, 6], &[-9, -5], &[3, 8]]),
-    Act::Excludes(8, &[&[-9, -5]]),
+    Act::Excludes(1, &[&[-9, -5], &[3, 8]]),
+    Act::Excludes(3, &[]),
 ];
 
 #[test]

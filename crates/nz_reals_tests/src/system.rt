@@ -170,15 +170,12 @@ impl System {
         }
     }
 
-    /// The clauses for neighbouring bounds, of which one at least stands at this place or behind it.
-    pub fn exclusions(&mut self, from: usize) -> Result<Vec<Vec<Lit>>, Fail> {
-        let Some(from) = self.atoms.get(from) else {
-            return Err(Fail::new("no bound"));
-        };
+    /// The clauses for neighbouring bounds that are added where the first so many of all are held.
+    pub fn exclusions(&mut self, count: usize) -> Result<Vec<Vec<Lit>>, Fail> {
         if !self.known {
             return Err(failed());
         }
-        let clauses = exclude(&self.terms, &self.atoms, &mut self.log, &self.reals, *from)?;
+        let clauses = exclude_behind(&self.terms, &self.atoms, &mut self.log, &self.reals, count)?;
         Ok(all_literals(self.alloc, &self.log, &clauses)?)
     }
 }
@@ -324,20 +321,38 @@ fn settle(
     Ok(clause)
 }
 
-/// Adds the clauses for neighbouring bounds, one of whose atoms has at least this number.
+/// Adds the clauses for neighbouring bounds that aren't held.
 fn exclude(
     terms: &Terms,
     atoms: &[AtomId],
     log: &mut Log,
     reals: &Reals,
-    from: AtomId,
+    held: &[ClauseId],
+) -> Result<Vec<ClauseId>, Memory>
+    requires order { IsInOrder terms.now log.old reals.now atoms.now }
+    requires live { All (IsLive log.old) held.now }
+    ensures order { IsInOrder terms.now log.new reals.now atoms.now }
+    ensures live { IfOk result (λ cs. All (IsLive log.new) cs.items) }
+{
+    terms.len();
+    reals.exclusions(log, atoms, held)
+}
+
+/// Adds the clauses for neighbouring bounds, and then those that are missing where only the first so many are held.
+fn exclude_behind(
+    terms: &Terms,
+    atoms: &[AtomId],
+    log: &mut Log,
+    reals: &Reals,
+    count: usize,
 ) -> Result<Vec<ClauseId>, Memory>
     requires order { IsInOrder terms.now log.old reals.now atoms.now }
     ensures order { IsInOrder terms.now log.new reals.now atoms.now }
     ensures live { IfOk result (λ cs. All (IsLive log.new) cs.items) }
 {
-    terms.len();
-    reals.exclusions(log, atoms, from)
+    let mut held = exclude(terms, atoms, log, reals, &[])?;
+    held.truncate(count);
+    exclude(terms, atoms, log, reals, &held)
 }
 
 /// The literals of a clause, if it is one.

@@ -73,6 +73,44 @@ const EXAMPLES: &[Example] = &[
             )\n",
     },
     Example {
+        name: "levels",
+        script: b"(declare-const open Bool)\n\
+            (declare-const fee Real)\n\
+            (assert (=> open (>= fee 10.0)))\n\
+            (assert (<= fee 12.0))\n\
+            (push 1)\n\
+            (declare-const late Bool)\n\
+            (assert (= late (> fee 11.0)))\n\
+            (check-sat-assuming (open (not late)))\n\
+            (get-value (open late (<= 10.0 fee 11.0)))\n\
+            (push 1)\n\
+            (assert (< fee 10.0))\n\
+            (check-sat-assuming (open))\n\
+            (check-sat)\n\
+            (get-info :assertion-stack-levels)\n\
+            (pop 2)\n\
+            (declare-const late Real)\n\
+            (check-sat-assuming (open))\n\
+            (get-value (open (and (>= fee 10.0) (<= fee 12.0))))\n\
+            (assert (> fee late 12.0))\n\
+            (check-sat)\n\
+            (reset-assertions)\n\
+            (get-info :assertion-stack-levels)\n\
+            (declare-const bill Real)\n\
+            (assert (< bill 0.0))\n\
+            (check-sat)\n",
+        replies: b"sat\n\
+            ((open true) (late false) ((<= 10.0 fee 11.0) true))\n\
+            unsat\n\
+            sat\n\
+            (:assertion-stack-levels 2)\n\
+            sat\n\
+            ((open true) ((and (>= fee 10.0) (<= fee 12.0)) true))\n\
+            unsat\n\
+            (:assertion-stack-levels 0)\n\
+            sat\n",
+    },
+    Example {
         name: "sums",
         script: b"(declare-const income Real)\n\
             (declare-const rent Real)\n\

@@ -8,6 +8,8 @@ mod command_line;
 #[cfg(test)]
 mod examples;
 #[cfg(test)]
+mod levels;
+#[cfg(test)]
 mod run;
 #[cfg(test)]
 mod session;

@@ -180,13 +180,14 @@ fn a_check_uses_no_more_units_than_the_words_allow(rt: HostRuntime) -> Result<()
     Ok(())
 }
 
-// Each of the two bounds that are excluded is false by propagation alone.
+// Each of the bounds that are excluded is false by propagation alone, also where a level between two of them was popped.
 const EXCLUDED: &[u8] = b"(declare-const x Real)(assert (or (< x 1.0) (< x 2.0)))
-        (assert (>= x 3.0))(check-sat)";
+        (push)(assert (or (< x 2.5) (< x 1.0)))(assert (>= x 3.0))(check-sat)
+        (pop)(assert (>= x 3.0))(check-sat)";
 
 #[test]
 fn a_bound_excludes_others_of_its_form_without_a_unit(rt: HostRuntime) -> Result<(), Fail> {
-    writes_within(&rt, rt.alloc(), "0", EXCLUDED, 4, b"unsat\n")?;
+    writes_within(&rt, rt.alloc(), "0", EXCLUDED, 9, b"unsat\nunsat\n")?;
     Ok(())
 }
 

@@ -336,3 +336,72 @@ fn integers_are_defined_and_not_checked(rt: HostRuntime) -> Result<(), Fail> {
     tells(&rt, rt.alloc(), UNITS, &INTEGERS)?;
     Ok(())
 }
+
+const ASSUMED: Told = Told {
+    script: b"(declare-const p Bool)(declare-const q Bool)(assert (or p q))
+        (check-sat-assuming ((not p)))(get-value (p q))(check-sat-assuming ((not p) (not q)))
+        (check-sat-assuming (p (not p)))(get-model)(check-sat)",
+    ended: Fed::Going,
+    replies: b"sat\n((p false) (q true))\nunsat\nunsat\n\
+        (error \"7 no answer to show\")\nsat\n",
+};
+
+#[test]
+fn what_is_assumed_is_for_one_check(rt: HostRuntime) -> Result<(), Fail> {
+    tells(&rt, rt.alloc(), UNITS, &ASSUMED)?;
+    Ok(())
+}
+
+const POPPED: Told = Told {
+    script: b"(declare-const p Bool)(push)(assert p)(check-sat)(push)(assert (not p))
+        (check-sat)(pop)(check-sat)(pop)(get-model)(assert (not p))(check-sat)(get-value (p))",
+    ended: Fed::Going,
+    replies: b"sat\nunsat\nsat\n(error \"7 no answer to show\")\nsat\n((p false))\n",
+};
+
+#[test]
+fn what_is_asserted_goes_with_its_level(rt: HostRuntime) -> Result<(), Fail> {
+    tells(&rt, rt.alloc(), UNITS, &POPPED)?;
+    Ok(())
+}
+
+const DECLARED_AGAIN: Told = Told {
+    script: b"(push)(declare-const p Bool)(assert p)(check-sat)(pop)(assert p)
+        (declare-const p Real)(assert (< p 1))(check-sat)(assert (> p 1))(check-sat)(pop)",
+    ended: Fed::Going,
+    replies: b"sat\n(error \"2 unknown symbol\")\nsat\nunsat\n(error \"8 pop below zero\")\n",
+};
+
+#[test]
+fn a_name_of_a_popped_level_is_free(rt: HostRuntime) -> Result<(), Fail> {
+    tells(&rt, rt.alloc(), UNITS, &DECLARED_AGAIN)?;
+    Ok(())
+}
+
+const POPPED_UNDECIDED: Told = Told {
+    script: b"(declare-const a Bool)(declare-const b Bool)(push)(assert (or a b))(check-sat)
+        (get-info :reason-unknown)(pop)(get-info :reason-unknown)(check-sat)",
+    ended: Fed::Going,
+    replies: b"unknown\n(:reason-unknown (spent 0))\n(error \"7 no answer to show\")\nsat\n",
+};
+
+#[test]
+fn a_pop_ends_an_answer_that_none_was_found_for(rt: HostRuntime) -> Result<(), Fail> {
+    tells(&rt, rt.alloc(), 0, &POPPED_UNDECIDED)?;
+    Ok(())
+}
+
+const RESETS: Told = Told {
+    script: b"(set-option :print-success true)(declare-const p Bool)(push 3)(assert false)
+        (check-sat)(reset-assertions)(get-info :assertion-stack-levels)(assert p)(check-sat)
+        (reset)(declare-const p Bool)(assert p)(check-sat)",
+    ended: Fed::Going,
+    replies: b"success\nsuccess\nsuccess\nsuccess\nunsat\nsuccess\n\
+        (:assertion-stack-levels 0)\n(error \"2 unknown symbol\")\nsat\nsat\n",
+};
+
+#[test]
+fn resets_forget_what_is_live(rt: HostRuntime) -> Result<(), Fail> {
+    tells(&rt, rt.alloc(), UNITS, &RESETS)?;
+    Ok(())
+}

@@ -6,6 +6,7 @@ use Rattle.std.proofs.lemmas.List.{take-append-drop}
 use Rattle.std.proofs.lemmas.List.Elements.{All-contains, All-push}
 use Rattle.std.proofs.lemmas.List.Sums.{get_or-le-sum_by, sum_by_push}
 use Rattle.std.proofs.lemmas.Option.{IfSome_then, get_or_from_slice_get, slice_get_within}
+use Rattle.nz_lists.proofs.Members.{has_found}
 use Rattle.nz_log.specs.declared.lits.Lit.{Lit}
 use Rattle.nz_log.specs.Atoms.{TellsLits}
 use Rattle.nz_log.specs.Lits.{are_same_lit, negated_lit}
@@ -18,7 +19,6 @@ use Rattle.nz_sat.specs.Clauses.{HasReasonOf, IsAssumed, IsFalsified, IsImplied,
 use Rattle.nz_sat.specs.Conflicts.{IsFalsifiedUnder}
 use Rattle.nz_sat.specs.Searching.{AreOpen, Assumes, IsSearch, MayAssume, ids}
 use Rattle.nz_sat.proofs.Clausal.{either_sign, open_grows, other_lit, sign_again, truth_found}
-use Rattle.nz_sat.proofs.Chains.{has_found}
 use Rattle.nz_sat.proofs.Keeping.{goes_assumed, goes_search, goes_true, held_live}
 use Rattle.nz_sat.proofs.Visiting.{goes_depth}
 use Rattle.nz_sat.proofs.Tracking.{trail_push}

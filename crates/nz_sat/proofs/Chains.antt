@@ -1,13 +1,12 @@
 -- Resolvents and chains: which literals they have, each of them once.
-use Rattle.std.proofs.Common.{◌≡◌, ◌≢◌, ℕ, zero, suc, ◌<◌, Bool, true, false, not, ◌||◌, ◌⊎◌, inl, inr, if◌then◌else◌, List, [], ◌∷◌, ◌++◌, length, map, Some, refl, sym, ap, subst, ◌∙◌, true≢false, arith}
-use Rattle.std.specs.Prelude.{Contains, filter, fold, slice_get, slice_index_or}
+use Rattle.std.proofs.Common.{◌≡◌, ◌≢◌, ℕ, ◌<◌, Bool, true, false, not, ◌||◌, ◌⊎◌, inl, inr, if◌then◌else◌, List, [], ◌∷◌, ◌++◌, length, refl, sym, ap, subst, ◌∙◌, true≢false, arith}
+use Rattle.std.specs.Prelude.{Contains, filter, fold}
 use Rattle.std.specs.List.{list_any}
 use Rattle.std.proofs.Math.Bool.{not-not}
-use Rattle.std.proofs.lemmas.List.{get_or-map, length-map}
 use Rattle.std.proofs.lemmas.List.Elements.{Contains-append_left, Contains-append_right, Contains-append_cases, Contains-push, Contains-push_cases}
 use Rattle.std.proofs.lemmas.List.Folds.{list_any_at}
 use Rattle.std.proofs.lemmas.List.Sums.{fold-append}
-use Rattle.std.proofs.lemmas.Option.{slice_get_within, get_or_from_slice_get}
+use Rattle.nz_lists.proofs.Members.{has_cases, has_first, has_found, has_more, has_none}
 use Rattle.nz_lists.proofs.Places.{slice_get-push_cases}
 use Rattle.nz_spec.specs.Literal.{with_one, once, without, StandOnce}
 use Rattle.nz_log.specs.declared.lits.Lit.{Lit}
@@ -18,29 +17,7 @@ use Rattle.nz_log.specs.Logs.{LogState, chained, literals_at}
 
 -- ---- Elements of lists
 
-pub map_has : {X Y : Type 0} (f : X → Y) (xs : List X) (x : X) → Contains xs x → Contains (map f xs) (f x)
-map_has f xs x has = (has.0, omega (arith, has.1, length-map xs f), get_or-map f xs has.0 x (f x) has.1 ∙ ap f has.2)
-
 module _ {X : Type 0} where
-  has_at : (x y : X) (xs : List X) (k : ℕ) → k < length (x ∷ xs) → slice_index_or (x ∷ xs) k y ≡ y → (x ≡ y) ⊎ Contains xs y
-  has_at x y xs zero less e = inl e
-  has_at x y xs (suc k) less e = inr (k, omega arith, e)
-
-  pub has_cases : (x y : X) (xs : List X) → Contains (x ∷ xs) y → (x ≡ y) ⊎ Contains xs y
-  has_cases x y xs h = has_at x y xs h.0 h.1 h.2
-
-  pub has_first : (x : X) (xs : List X) → Contains (x ∷ xs) x
-  has_first x xs = (0, omega arith, refl)
-
-  pub has_more : (x y : X) (xs : List X) → Contains xs y → Contains (x ∷ xs) y
-  has_more x y xs h = (suc h.0, omega (arith, h.1), h.2)
-
-  has_none : (y : X) → Contains [] y → ⊥
-  has_none y h = omega (arith, h.1)
-
-  pub has_found : (xs : List X) (i : ℕ) (x : X) → slice_get xs i ≡ Some x → Contains xs x
-  has_found xs i x at = (i, slice_get_within xs i x at, get_or_from_slice_get xs i x x at)
-
   -- what a filter keeps
   kept_step : (b : Bool) (x y : X) (zs : List X) → Contains zs y → Contains (if b then x ∷ zs else zs) y
   kept_step true x y zs h = has_more x y zs h

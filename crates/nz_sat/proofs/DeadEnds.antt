@@ -10,6 +10,7 @@ use Rattle.std.proofs.lemmas.List.Elements.{All-contains, All-from_recursion}
 use Rattle.std.proofs.lemmas.Option.{get_or_from_slice_get, slice_get_within, slice_get-get_or}
 use Rattle.nz_lists.proofs.Elements.{AllByRecursion-map}
 use Rattle.nz_lists.proofs.Tests.{no_contradiction}
+use Rattle.nz_lists.proofs.Members.{has_first, has_found, has_more}
 use Rattle.nz_spec.specs.Decide.{asserted_numbers, asserted_terms}
 use Rattle.nz_spec.specs.Gates.{holds}
 use Rattle.nz_spec.specs.Legal.{Task, literal_by, literals_by, signed_literal}
@@ -31,7 +32,7 @@ use Rattle.nz_sat.specs.Sats.{IsAsked}
 use Rattle.nz_sat.specs.Theories.{IsTrailOn}
 use Rattle.nz_sat.specs.Trails.{EachBehind, IsFalseOn, TrailState, is_decision}
 use Rattle.nz_sat.proofs.Backward.{front_place}
-use Rattle.nz_sat.proofs.Chains.{filter_has, has_first, has_found, has_more, lit_is}
+use Rattle.nz_sat.proofs.Chains.{filter_has, lit_is}
 use Rattle.nz_sat.proofs.Clausal.{other_lit}
 use Rattle.nz_sat.proofs.Marks.{false_entry}
 use Rattle.nz_sat.proofs.Numbering.{number_place, unnamed}

@@ -4,6 +4,7 @@ use Rattle.std.specs.Prelude.{All, Contains, IfSome, IsSome, is_some, replicate,
 use Rattle.std.proofs.lemmas.List.{append-nil, get_or-map, length-map}
 use Rattle.std.proofs.lemmas.List.Elements.{All-append, All-contains, All-map, Contains-get_or}
 use Rattle.std.proofs.lemmas.Option.{slice_get-get_or}
+use Rattle.nz_lists.proofs.Members.{has_found}
 use Rattle.nz_log.specs.declared.lits.Lit.{Lit}
 use Rattle.nz_log.specs.Logs.{LogState, IsLive, literals_at}
 use Rattle.nz_sat.specs.declared.clauses.Held.{Held}
@@ -14,7 +15,6 @@ use Rattle.nz_sat.specs.Clauses.{AreUsable, HasReasonOf, IsAssumed, IsFalsified,
 use Rattle.nz_sat.specs.Conflicts.{AreUnmarked}
 use Rattle.nz_sat.specs.Sats.{AreHeld}
 use Rattle.nz_sat.specs.Searching.{AreOpen, IsSearch, OpenOrFalsified, WereOpen, ids}
-use Rattle.nz_sat.proofs.Chains.{has_found}
 use Rattle.nz_sat.proofs.Clausal.{slice_get_behind, truth_found}
 use Rattle.nz_sat.proofs.Cutting.{below_join, below_none}
 use Rattle.nz_sat.proofs.Tracking.{trail_goes}

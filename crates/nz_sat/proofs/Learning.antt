@@ -8,6 +8,7 @@ use Rattle.std.proofs.Math.Nat.{min-eq_right, min-le_left, min-le_right}
 use Rattle.std.proofs.lemmas.List.{append-nil, length-take, length_push, map-append, take-append-le, take-map, take_all}
 use Rattle.std.proofs.lemmas.List.Elements.{All-contains, All-filter, All-push, All-weaker, Contains-append_left, Contains-push, filter-append}
 use Rattle.std.proofs.lemmas.List.Sums.{length-filter, sum_by_push}
+use Rattle.nz_lists.proofs.Members.{has_found}
 use Rattle.nz_spec.specs.Legal.{Search, ToldLiteral, after_line}
 use Rattle.nz_spec.specs.Literal as spec
 use Rattle.nz_spec.specs.Literal.{NegationIsOther}
@@ -32,7 +33,6 @@ use Rattle.nz_sat.specs.Searching.{AreOpen, AreWaiting, Carries, IsSearch, Keeps
 use Rattle.nz_sat.specs.Theories.{AreLast, EndsLegally, IsTrailOn, TellsTrail, TheoryState, bounds_on, is_bound_at, told_literal, told_lits, told_on}
 use Rattle.nz_sat.specs.Trails.{EachBehind, IsFalseOn, IsFreeOn, IsFrontOf, IsNext, IsTrail, IsTrueOn, TrailState, assigned, below, depth, implied, is_decision, literals_on}
 use Rattle.nz_sat.proofs.Advancing.{StaysAt, cut_stands, told_taken}
-use Rattle.nz_sat.proofs.Chains.{has_found}
 use Rattle.nz_sat.proofs.Clausal.{free_missing, open_grows, truth_found, truth_missing}
 use Rattle.nz_sat.proofs.Cutting.{above_level, below_join}
 use Rattle.nz_sat.proofs.Keeping.{held_live}

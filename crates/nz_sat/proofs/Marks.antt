@@ -8,11 +8,11 @@ use Rattle.std.proofs.lemmas.List.{get_or-set_same, get_or-set_other, take-appen
 use Rattle.std.proofs.lemmas.List.Elements.{Contains-append_left, Contains-push, Contains-push_cases}
 use Rattle.std.proofs.lemmas.List.Sums.{sum_by-cons, sum_by-take-le, sum_by_push}
 use Rattle.std.proofs.lemmas.Option.{same_Some, slice_get_cases, slice_get_within, get_or_from_slice_get}
+use Rattle.nz_lists.proofs.Members.{has_first, has_more}
 use Rattle.nz_log.specs.declared.lits.Lit.{Lit}
 use Rattle.nz_sat.specs.declared.trail.Assigned.{Assigned}
 use Rattle.nz_sat.specs.Trails.{EachBehind, HasValue, IsFalseOn, IsNext, assigned, level_on}
 use Rattle.nz_sat.specs.Conflicts.{AreFalseIn, MarksCounted, MarksFalse, is_marked, marked_of}
-use Rattle.nz_sat.proofs.Chains.{has_first, has_more}
 use Rattle.nz_sat.proofs.Trailing.{assigned_found, assigned_missing, assigned_place}
 
 -- ---- One mark

@@ -4,6 +4,7 @@ use Rattle.std.specs.Prelude.{Contains, slice_get, option_map, unwrap_or}
 use Rattle.std.proofs.Math.Bool.{not-not}
 use Rattle.std.proofs.lemmas.List.{length-map}
 use Rattle.std.proofs.lemmas.Option.{same_Some, slice_get-map, slice_get_within}
+use Rattle.nz_lists.proofs.Members.{has_cases, has_first, has_found, has_more, map_has}
 use Rattle.nz_spec.specs.Legal.{AreNamed}
 use Rattle.nz_spec.specs.Literal.{AreSameSet, Literal, StandOnce}
 use Rattle.nz_log.specs.declared.lits.Lit.{Lit}
@@ -13,7 +14,7 @@ use Rattle.nz_sat.specs.declared.trail.Assigned.{Assigned}
 use Rattle.nz_sat.specs.Clauses.{IsFalsified, IsOpen, by_true, by_two}
 use Rattle.nz_sat.specs.Numbers.{number_of, numbered}
 use Rattle.nz_sat.specs.Trails.{EachBehind, IsFreeOn, IsNext, below, level_on, truth_on}
-use Rattle.nz_sat.proofs.Chains.{has_cases, has_first, has_found, has_more, lit_is, map_has}
+use Rattle.nz_sat.proofs.Chains.{lit_is}
 use Rattle.nz_sat.proofs.Clausal.{other_lit}
 use Rattle.nz_sat.proofs.DeadEnds.{number_at}
 use Rattle.nz_sat.proofs.LearnedClauses.{all_from}

@@ -8,6 +8,7 @@ use Rattle.std.proofs.lemmas.List.{length-append, length-map, map-append}
 use Rattle.std.proofs.lemmas.List.Elements.{All-contains, All-weaker, filter-append}
 use Rattle.std.proofs.lemmas.List.Sums.{length-filter}
 use Rattle.std.proofs.lemmas.Option.{same_Some}
+use Rattle.nz_lists.proofs.Members.{has_found}
 use Rattle.nz_spec.specs.Bland.{Point}
 use Rattle.nz_spec.specs.Legal.{IsDeadEnd, Lead, MayLearn, Search, Task, at_first, literal_by, literals_by, no_point}
 use Rattle.nz_spec.specs.Literal.{AreSameSet, AreTrueLiterals, IsClauseTrue, Literal, NegationIsOther, is_literal_true}
@@ -37,7 +38,6 @@ use Rattle.nz_sat.specs.Searching.{Advances, IsConflict, IsSearch, StaysInOrder,
 use Rattle.nz_sat.specs.Theories.{EndsLegally, Keeps, TellsTrail, TheoryState, told_lits}
 use Rattle.nz_sat.specs.Trails.{EachBehind, IsFreeOn, IsFrontOf, IsNext, below, depth, is_decision, level_on}
 use Rattle.nz_sat.proofs.Growing.{on_kept, order_over}
-use Rattle.nz_sat.proofs.Chains.{has_found}
 use Rattle.nz_sat.proofs.DeadEnds.{clause_true, literals_numbered, recursion_left, task_falsified}
 use Rattle.nz_sat.proofs.LearnedClauses.{all_from}
 use Rattle.nz_sat.proofs.Levels.{below_front, below_true, free_high}

@@ -5,11 +5,11 @@ use Rattle.std.proofs.lemmas.Bool.{cases_eq, eq-eqb}
 use Rattle.std.proofs.lemmas.Bool.Decides.{eqb_tells}
 use Rattle.std.proofs.lemmas.Option.{same_Some, slice_get-get_or}
 use Rattle.std.specs.List.{AllByRecursion}
+use Rattle.nz_lists.proofs.Members.{has_found}
 use Rattle.nz_spec.specs.Work.{WorkLine, UnitLine, NoteLine}
 use Rattle.nz_log.specs.declared.atoms.Atom as log
 use Rattle.nz_log.specs.declared.note.Note.{Note}
 use Rattle.nz_log.specs.declared.note.Note.TheVariants.{Atom, Bound, Form, Told}
-use Rattle.nz_sat.proofs.Chains.{has_found}
 use Rattle.nz_sat.specs.Numbers.{IsNumbered, noted_atoms, number_of, number_or}
 use Rattle.nz_sat.specs.Theories.{IsOfSearch}
 

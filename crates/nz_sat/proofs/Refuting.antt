@@ -3,6 +3,7 @@ use Rattle.std.proofs.Common.{◌≡◌, ℕ, ◌+◌, Bool, false, not, ◌⊎�
 use Rattle.std.specs.Prelude.{Contains, slice_get}
 use Rattle.std.proofs.lemmas.List.{take_all}
 use Rattle.std.proofs.lemmas.List.Elements.{All-contains}
+use Rattle.nz_lists.proofs.Members.{has_found}
 use Rattle.nz_log.specs.declared.lits.Lit.{Lit}
 use Rattle.nz_log.specs.declared.origins.Link.{Link}
 use Rattle.nz_log.specs.Atoms.{TellsLits}
@@ -13,7 +14,7 @@ use Rattle.nz_sat.specs.Trails.{EachBehind, IsFalseOn, IsNext, depth}
 use Rattle.nz_sat.specs.Clauses.{IsAssumed, IsImplied, IsReason, IsReasonOf}
 use Rattle.nz_sat.specs.Conflicts.{IsMarkedBefore, IsOnWayToAssumed, MarksFalse, RefutesFrom, is_marked}
 use Rattle.nz_sat.proofs.Backward.{false_cases, false_whole}
-use Rattle.nz_sat.proofs.Chains.{has_found, twice_negated}
+use Rattle.nz_sat.proofs.Chains.{twice_negated}
 use Rattle.nz_sat.proofs.Resolving.{link_of, links_longer, longer_from, no_links}
 use Rattle.nz_sat.proofs.Trailing.{level_within}
 

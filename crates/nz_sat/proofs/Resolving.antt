@@ -6,6 +6,7 @@ use Rattle.std.proofs.lemmas.Bool.{cases_eq, cases_lt}
 use Rattle.std.proofs.lemmas.List.{take_all, length_push}
 use Rattle.std.proofs.lemmas.List.Elements.{All-nil, All-push}
 use Rattle.std.proofs.lemmas.Option.{same_Some}
+use Rattle.nz_lists.proofs.Members.{has_found}
 use Rattle.nz_log.specs.declared.lits.Lit.{Lit}
 use Rattle.nz_log.specs.declared.origins.Link.{Link}
 use Rattle.nz_log.specs.Atoms.{TellsLits}
@@ -17,7 +18,7 @@ use Rattle.nz_sat.specs.Trails.{EachBehind, IsFalseOn, IsNext, depth, level_on}
 use Rattle.nz_sat.specs.Clauses.{IsFalsified, IsImplied, IsReason, IsReasonOf}
 use Rattle.nz_sat.specs.Conflicts.{AreLinks, AreMarked, AreUnmarked, HasTwoLast, IsChain, IsOnWayBack, MarksCounted, is_marked, marked_of}
 use Rattle.nz_sat.proofs.Backward.{apart, false_cases, false_whole, front_counted, fresh, its_entry, none_before_decision, not_false, of_last}
-use Rattle.nz_sat.proofs.Chains.{chained_more, has_found, lit_is, resolvent_first, resolvent_from, resolvent_second, twice_negated}
+use Rattle.nz_sat.proofs.Chains.{chained_more, lit_is, resolvent_first, resolvent_from, resolvent_second, twice_negated}
 use Rattle.nz_sat.proofs.Marks.{counted, false_entry, found_whole, is_counted, level_found, marked_apart, marked_within, none_counted, one_counted, one_if, other_mark, two_counted, unmark_parts}
 use Rattle.nz_sat.proofs.Trailing.{assigned_place, level_within}
 

@@ -7,6 +7,7 @@ use Rattle.std.proofs.lemmas.List.{append-nil, take_all}
 use Rattle.std.proofs.lemmas.List.Elements.{All-contains, All-map, All-nil, All-same, Contains-get_or}
 use Rattle.std.proofs.lemmas.List.Sums.{sum_by-cons}
 use Rattle.std.proofs.lemmas.Option.{same_Some, slice_get-map}
+use Rattle.nz_lists.proofs.Members.{has_found, map_has}
 use Rattle.nz_spec.specs.Legal as legal
 use Rattle.nz_spec.specs.Legal.{AreLegal, Task, after_line, after_lines, at_first}
 use Rattle.nz_spec.specs.Table.{Node}
@@ -31,7 +32,7 @@ use Rattle.nz_sat.specs.Sats.{AreOn, IsAsked, IsSatisfied, IsTheoryMet, IsTrueCl
 use Rattle.nz_sat.specs.Searching.{Advances, IsNoted, IsSearch, Satisfies, StaysInOrder, assumed_entries, ids}
 use Rattle.nz_sat.specs.Theories.{IsMet, TellsTrail, TheoryState, bounds_on, told_literal, told_lits, told_on}
 use Rattle.nz_sat.specs.Trails.{AreTruthsOn, EachBehind, IsNext, IsTrueOn, assigned, is_decision, literals_on}
-use Rattle.nz_sat.proofs.Chains.{filter_has, has_found, lit_is, map_has}
+use Rattle.nz_sat.proofs.Chains.{filter_has, lit_is}
 use Rattle.nz_sat.proofs.Clausal.{free_missing}
 use Rattle.nz_sat.proofs.Keeping.{held_has}
 use Rattle.nz_sat.proofs.LearnedClauses.{all_from}

@@ -10,6 +10,7 @@ use Rattle.std.proofs.lemmas.List.Sums.{length-filter}
 use Rattle.std.proofs.lemmas.Result.{IfOk-weaker}
 use Rattle.std.proofs.lemmas.Option.{IfSome_then, get_or_from_slice_get, slice_get-get_or, slice_get_within}
 use Rattle.nz_lists.proofs.Places.{drop_found}
+use Rattle.nz_lists.proofs.Members.{has_cases, has_found, map_has}
 use Rattle.nz_spec.specs.Bland.{Point}
 use Rattle.nz_spec.specs.Form.{Part}
 use Rattle.nz_spec.specs.Legal.{MayTell, PivotsAreLegal, Task, ToldLiteral, literal_by, literals_by, told_literals}
@@ -40,7 +41,7 @@ use Rattle.nz_sat.specs.Sats.{IsAsked}
 use Rattle.nz_sat.specs.Theories.{Consults, EndsLegally, IsTrailOn, Keeps, StandsAt, StaysSoundOver, TellsOne, TellsTrail, TheoryState, bounds_on, told_line, told_literal, told_lits, told_on}
 use Rattle.nz_sat.specs.Trails.{EachBehind, IsNext, TrailState, assigned, depth, is_decision, literals_on}
 use Rattle.nz_sat.proofs.Growing.{asked_on, grows_far, grows_none, order_over}
-use Rattle.nz_sat.proofs.Chains.{filter_from, has_cases, has_found, map_has}
+use Rattle.nz_sat.proofs.Chains.{filter_from}
 use Rattle.nz_sat.proofs.DeadEnds.{literal_numbered, number_at, task_entry}
 use Rattle.nz_sat.proofs.LearnedClauses.{all_from}
 use Rattle.nz_sat.proofs.Listing.{adds_far, adds_none, adds_pivots, search_more}

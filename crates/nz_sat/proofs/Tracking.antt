@@ -8,6 +8,7 @@ use Rattle.std.proofs.lemmas.List.{append-nil, drop-append-le, drop_all, length-
 use Rattle.std.proofs.lemmas.List.Elements.{All-append, All-cons, All-contains, All-filter, All-nil, All-push, All-weaker}
 use Rattle.std.proofs.lemmas.List.Filters.{length-filter_both}
 use Rattle.std.proofs.lemmas.Option.{slice_get-get_or}
+use Rattle.nz_lists.proofs.Members.{map_has}
 use Rattle.nz_log.specs.declared.atoms.Atom.{Atom}
 use Rattle.nz_log.specs.declared.atoms.Atom.TheVariants.{Term, AtMost}
 use Rattle.nz_log.specs.declared.lits.Lit.{Lit}
@@ -21,7 +22,6 @@ use Rattle.nz_sat.specs.Clauses.{IsImplied, IsReasonOf}
 use Rattle.nz_sat.specs.Conflicts.{is_marked}
 use Rattle.nz_sat.specs.Theories.{AreLast, IsTrailOn, is_bound, is_bound_at, told_on}
 use Rattle.nz_sat.specs.Trails.{DropsLast, EachBehind, GoesOn, IsNext, IsTrail, TrailState, assigned, below, depth, with_entry}
-use Rattle.nz_sat.proofs.Chains.{map_has}
 use Rattle.nz_sat.proofs.Cutting.{below_all, below_join, below_none}
 use Rattle.nz_sat.proofs.LearnedClauses.{all_from}
 use Rattle.nz_sat.proofs.Levels.{below_front}

@@ -53,6 +53,13 @@ impl<T: Theory> Sat<T> {
         }
     }
 
+    /// The clauses that it holds.
+    pub fn clauses(&self) -> &[Held]
+        ensures clauses { result.now ≡ self.now.clauses }
+    {
+        &self.clauses
+    }
+
     /// Adds a clause of the log.
     ///
     /// # Errors

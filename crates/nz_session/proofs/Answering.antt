@@ -1,52 +1,28 @@
 -- What the desk holds after a command, and that its answer is right.
-use Rattle.std.proofs.Common.{◌≡◌, inl, ℕ, ◌≤◌, Bool, true, false, List, [], ◌∷◌, length, map, take, Option, Some, None, Result, Ok, IfOk, option_map, refl, sym, ap, ◌∙◌, subst, arith, length-take}
+use Rattle.std.proofs.Common.{◌≡◌, inl, ℕ, Bool, true, false, List, ◌∷◌, Option, Some, None, option_map, refl, sym, ap, ◌∙◌, subst}
 use Rattle.std.specs.Prelude.{⊤, if◌then◌else◌}
-use Rattle.std.proofs.lemmas.List.{take-take}
 use Rattle.nz_lists.proofs.Fronts.{front_of_more}
 use Rattle.nz_spec.specs.Tree.{Tree}
 use Rattle.nz_spec.specs.Text.{intact}
-use Rattle.nz_spec.specs.Table.{Node, term_in}
+use Rattle.nz_spec.specs.Table.{Node}
+use Rattle.nz_spec.specs.Literal.{Literal}
 use Rattle.nz_spec.specs.Decide.{IsFrontOfTable}
-use Rattle.nz_spec.specs.Legal.{at_first, IsDeadEnd}
-use Rattle.nz_spec.specs.Model.{IsModel, IsUnsatisfiable}
 use Rattle.nz_spec.specs.Live.{LastAnswer, model_found, State, Options}
-use Rattle.nz_spec.specs.Command.{Command, Info, declare_const, define, assert_term, check_sat, get_model, get_value, get_info, get_levels, get_reason, set_print_success, no_effect, echo, exit, accepted}
+use Rattle.nz_spec.specs.Command.{Command, Info, declare_const, define, assert_term, push_levels, pop_levels, reset, reset_assertions, check_sat, get_model, get_value, get_info, get_levels, get_reason, set_print_success, no_effect, echo, exit, accepted}
 use Rattle.nz_spec.specs.Script.{outcome_of}
 use Rattle.nz_spec.specs.Sorts.{IsSortedState, StatesStaySorted}
 use Rattle.nz_spec.specs.Reply.{Reply, quiet, success, sat, unsat, unknown, model, values, info, levels as levels_reply, reason, echoed, unsupported, error, Cause, plain}
 use Rattle.nz_spec.specs.Right.{Context, done, IsRightCheck, IsRightCommand, IsRightOutcome, IsRight, IsExit, last_after, effect, effect_of, after}
-use Rattle.nz_sort.specs.Live.{Standing, IsLive, IsChange}
+use Rattle.nz_sort.specs.Live.{Standing, asserted_by, IsLive, IsChange}
 use Rattle.nz_session.specs.Told.{IsTold}
 use Rattle.nz_reply.specs.Replies.{reply_of, cause_of, IsCauseWithin}
-use Rattle.nz_session.specs.Desk.{last_of, BindsConstants, KeepsValues, Holds, IsAnswer}
+use Rattle.nz_session.specs.Desk.{last_of, BindsConstants, KeepsValues, Holds, IsAnswer, Succeeds}
 use Rattle.nz_session.proofs.ValuesKept.{values_stay}
-use Rattle.nz_session.proofs.LegalWork.{one_level}
-use Rattle.nz_log.specs.Verdicts.{OnUnsat, task_in}
-use Rattle.nz_log.specs.declared.decide.Verdict.{Verdict}
-use Rattle.nz_log.specs.declared.decide.Verdict.TheVariants.{Unsat}
-use Rattle.nz_log.specs.declared.stop.Stop.{Stop}
 use Rattle.nz_session.specs.declared.desk.Desk.{Desk}
 use Rattle.nz_session.specs.declared.desk.Answer.{Answer}
 use Rattle.nz_session.specs.declared.desk.LastAnswer as shown
 use Rattle.nz_reply.specs.declared.reply.Reply as said
 use Rattle.nz_reply.specs.declared.reply.Cause.TheVariants as why
-
--- ---- Assertions that were told
-
--- they stay where more comes
-told_of_more : (levels : List (List ℕ)) (told : Option ℕ) (old new : List ℕ) → take (length old) new ≡ old → IsTold levels told old → IsTold levels told new
-told_of_more levels None old new e h = h
-told_of_more levels (Some n) old new e h =
-    let long : length old ≤ length new = omega (arith, ap length e, length-take (length old) new) in
-    (h.0 ∙ ap (λ l. l ∷ []) (ap (take n) (sym e) ∙ take-take n (length old) new h.1), omega (arith, h.1, long))
-
--- ---- One level of assertions
-
--- a dead end before any decision, where nothing is assumed
-pub unsat_in_one_level : (ns : List Node) (levels : List (List ℕ)) (ids : List ℕ) (r : Result Verdict Stop) → levels ≡ ids ∷ []
-    → IfOk r (λ v. OnUnsat v (IsDeadEnd (task_in ns levels []) at_first)) → IfOk r (λ v. OnUnsat v (IsUnsatisfiable (map (term_in ns) ids) []))
-unsat_in_one_level ns levels ids (Ok (Unsat id)) e h = λ a m. h a (subst (λ ts. IsModel ts [] a) (sym (one_level ns levels ids e)) m) tt tt
-unsat_in_one_level ns levels ids r e h = tt
 
 -- ---- What stands after a command
 
@@ -54,17 +30,7 @@ unsat_in_one_level ns levels ids r e h = tt
 live_still : (ns : List Node) (l : Standing) (s : State) (x y : Option LastAnswer) (o p : Options) → IsLive ns l (record s { last = x; options = o })
     → IsLive ns l (record s { last = y; options = p })
 live_still ns l s x y o p h =
-    record {
-      named = h.named;
-      constants = h.constants;
-      companions = h.companions;
-      within = h.within;
-      terms = h.terms;
-      linear = h.linear;
-      items = h.items;
-      next = h.next;
-      unpushed = h.unpushed;
-    }
+    record { levels = h.levels; companions = h.companions; within = h.within; terms = h.terms; constants = h.constants; accepted = h.accepted; next = h.next }
 
 -- what a model binds is of the levels alone
 binds_still : (last : Option LastAnswer) (s : State) (x y : Option LastAnswer) (o p : Options) → BindsConstants last (record s { last = x; options = o })
@@ -72,12 +38,30 @@ binds_still : (last : Option LastAnswer) (s : State) (x y : Option LastAnswer) (
 binds_still (Some (model_found bs)) s x y o p h = h
 binds_still last s x y o p h = tt
 
--- a command that adds no item leaves what stands
-stands : (ns : List Node) (l : Standing) (s : State) (k : Command) → (IsChange k → ⊥) → ((r : Reply) → IsLive ns l (effect s k r)) → IsLive ns l s
-stands ns l s (declare_const c) n h = absurd (n tt)
-stands ns l s (define d) n h = absurd (n tt)
-stands ns l s (assert_term t) n h = absurd (n tt)
-stands ns l s (check_sat ts) n h = live_still ns l s None s.last s.options s.options (h quiet)
+-- the command leaves the levels as they are
+abbrev pub IsStill : Command → Type 0
+IsStill (check_sat ls) = ⊤
+IsStill get_model = ⊤
+IsStill (get_value xs) = ⊤
+IsStill (get_info i) = ⊤
+IsStill get_levels = ⊤
+IsStill get_reason = ⊤
+IsStill (set_print_success b) = ⊤
+IsStill no_effect = ⊤
+IsStill (echo bs) = ⊤
+IsStill exit = ⊤
+IsStill k = ⊥
+
+-- so what stood stands
+stands : (ns : List Node) (l : Standing) (s : State) (k : Command) → IsStill k → ((r : Reply) → IsLive ns l (effect s k r)) → IsLive ns l s
+stands ns l s (declare_const c) n h = absurd n
+stands ns l s (define d) n h = absurd n
+stands ns l s (assert_term t) n h = absurd n
+stands ns l s (push_levels m) n h = absurd n
+stands ns l s (pop_levels m) n h = absurd n
+stands ns l s reset n h = absurd n
+stands ns l s reset_assertions n h = absurd n
+stands ns l s (check_sat ls) n h = live_still ns l s None s.last s.options s.options (h quiet)
 stands ns l s get_model n h = h quiet
 stands ns l s (get_value xs) n h = h quiet
 stands ns l s (get_info i) n h = h quiet
@@ -88,9 +72,9 @@ stands ns l s no_effect n h = h quiet
 stands ns l s (echo bs) n h = h quiet
 stands ns l s exit n h = h quiet
 
--- nor does a command that is another one
-pub no_change : (k d : Command) → k ≡ d → (IsChange d → ⊥) → IsChange k → ⊥
-no_change k d e n x = n (subst IsChange e x)
+-- so does a command that is another one
+pub still_as : (k d : Command) → k ≡ d → IsStill d → IsStill k
+still_as k d e n = subst IsStill (sym e) n
 
 -- a command that is accepted as another is that one
 pub accepted_as : (s : State) (t : Tree) (k d : Command) → outcome_of s t ≡ accepted k → k ≡ d → outcome_of s t ≡ accepted d
@@ -106,10 +90,10 @@ next c s = record { limit = c.limit; before = c.state ∷ c.before; state = s }
 abbrev pub standing : {E : Type 0} → Desk E → List Node → Standing → Desk E
 standing desk ns l = record desk { terms = ns; live = l }
 
--- What holds the table and the assertions of a desk goes on.
-pub record GoesOn {E : Type 0} (old : Desk E) (ns : List Node) (l : Standing) : Type 0 where
+-- The table of a desk goes on, and what is asserted stays.
+pub record Continues {E : Type 0} (old : Desk E) (ns : List Node) (l : Standing) : Type 0 where
   pub terms : IsFrontOfTable old.terms ns
-  pub asserted : take (length old.live.asserted) l.asserted ≡ old.live.asserted
+  pub asserted : asserted_by l ≡ asserted_by old.live
 
 module _ {E : Type 0} (levels : E → List (List ℕ)) (table : E → List Node) where
   -- nothing that is held is of the states before
@@ -118,13 +102,13 @@ module _ {E : Type 0} (levels : E → List (List ℕ)) (table : E → List Node)
       record { live = h.live; sorted = h.sorted; told = h.told; front = h.front; last = h.last; bound = h.bound; values = h.values; success = h.success; bounded = h.bounded }
 
   -- the desk holds the context where what stands is another that stands for its state
-  holds_kept : (old : Desk E) (c : Context) (ns : List Node) (l : Standing) → Holds levels table old c → GoesOn old ns l → IsLive ns l c.state
+  pub holds_kept : (old : Desk E) (c : Context) (ns : List Node) (l : Standing) → Holds levels table old c → Continues old ns l → IsLive ns l c.state
       → Holds levels table (standing old ns l) c
   holds_kept old c ns l h on live =
       record {
         live = live;
         sorted = h.sorted;
-        told = told_of_more (levels old.engine) old.told old.live.asserted l.asserted on.asserted h.told;
+        told = subst (IsTold (levels old.engine) old.told) (sym on.asserted) h.told;
         front = front_of_more (table old.engine) old.terms ns h.front on.terms;
         last = h.last;
         bound = h.bound;
@@ -133,19 +117,19 @@ module _ {E : Type 0} (levels : E → List (List ℕ)) (table : E → List Node)
         bounded = h.bounded;
       }
 
-  -- after a command that adds no item
-  pub kept_after : (old : Desk E) (c : Context) (ns : List Node) (l : Standing) (k : Command) → (IsChange k → ⊥) → Holds levels table old c → GoesOn old ns l
+  -- after a command that leaves the levels as they are
+  pub kept_after : (old : Desk E) (c : Context) (ns : List Node) (l : Standing) (k : Command) → IsStill k → Holds levels table old c → Continues old ns l
       → ((r : Reply) → IsLive ns l (effect c.state k r)) → Holds levels table (standing old ns l) c
   kept_after old c ns l k none h on live = holds_kept old c ns l h on (stands ns l c.state k none live)
 
   -- where success is told from now on, or not
-  pub holds_set : (old : Desk E) (c : Context) (ns : List Node) (l : Standing) (b : Bool) (r : Reply) → Holds levels table old c → GoesOn old ns l
+  pub holds_set : (old : Desk E) (c : Context) (ns : List Node) (l : Standing) (b : Bool) (r : Reply) → Holds levels table old c → Continues old ns l
       → IsLive ns l (effect c.state (set_print_success b) r) → Holds levels table (record (standing old ns l) { prints_success = b }) (next c (effect c.state (set_print_success b) r))
   holds_set old c ns l b r h on live =
       record {
         live = live;
         sorted = h.sorted;
-        told = told_of_more (levels old.engine) old.told old.live.asserted l.asserted on.asserted h.told;
+        told = subst (IsTold (levels old.engine) old.told) (sym on.asserted) h.told;
         front = front_of_more (table old.engine) old.terms ns h.front on.terms;
         last = h.last;
         bound = binds_still c.state.last c.state c.state.last c.state.last c.state.options (record { prints_success = b }) h.bound;
@@ -154,34 +138,55 @@ module _ {E : Type 0} (levels : E → List (List ℕ)) (table : E → List Node)
         bounded = h.bounded;
       }
 
-  -- where the last answer has ended
-  holds_fresh : (old : Desk E) (c : Context) (ns : List Node) (l : Standing) (s : State) → Holds levels table old c → GoesOn old ns l → IsLive ns l s
-      → IsSortedState s → s.last ≡ None → s.options ≡ c.state.options → Holds levels table (record (standing old ns l) { last = None }) (next c s)
-  holds_fresh old c ns l s h on live sorted none same =
-      record {
-        live = live;
-        sorted = sorted;
-        told = told_of_more (levels old.engine) old.told old.live.asserted l.asserted on.asserted h.told;
-        front = front_of_more (table old.engine) old.terms ns h.front on.terms;
-        last = sym none;
-        bound = subst (λ (o : Option LastAnswer). BindsConstants o s) (sym none) tt;
-        values = tt;
-        success = h.success ∙ ap (λ (o : Options). o.prints_success) (sym same);
-        bounded = h.bounded;
-      }
+-- ---- Commands that end the last answer
 
--- what a command that adds an item leaves of the rest
-fresh_after : (s : State) (k : Command) (r : Reply) → IsChange k → (effect s k r).last ≡ None
-fresh_after s (declare_const c) r h = refl
-fresh_after s (define d) r h = refl
-fresh_after s (assert_term t) r h = refl
-fresh_after s k r h = absurd h
+-- an item more, levels more or less, or none
+abbrev pub EndsAnswer : Command → Type 0
+EndsAnswer (declare_const c) = ⊤
+EndsAnswer (define d) = ⊤
+EndsAnswer (assert_term t) = ⊤
+EndsAnswer (push_levels n) = ⊤
+EndsAnswer (pop_levels n) = ⊤
+EndsAnswer reset = ⊤
+EndsAnswer reset_assertions = ⊤
+EndsAnswer k = ⊥
 
-options_after : (s : State) (k : Command) (r : Reply) → IsChange k → (effect s k r).options ≡ s.options
-options_after s (declare_const c) r h = refl
-options_after s (define d) r h = refl
-options_after s (assert_term t) r h = refl
-options_after s k r h = absurd h
+-- an item more, or levels more
+pub change_ends : (k : Command) → IsChange k → EndsAnswer k
+change_ends (declare_const c) h = tt
+change_ends (define d) h = tt
+change_ends (assert_term t) h = tt
+change_ends (push_levels n) h = tt
+change_ends k h = absurd h
+
+pub change_keeps : (s : State) (k : Command) (r : Reply) → IsChange k → s.options.prints_success ≡ (effect s k r).options.prints_success
+change_keeps s (declare_const c) r h = refl
+change_keeps s (define d) r h = refl
+change_keeps s (assert_term t) r h = refl
+change_keeps s (push_levels n) r h = refl
+change_keeps s k r h = absurd h
+
+-- it leaves no answer, whatever the reply
+none_after : (s : State) (k : Command) (r : Reply) → EndsAnswer k → (effect s k r).last ≡ None
+none_after s (declare_const c) r h = refl
+none_after s (define d) r h = refl
+none_after s (assert_term t) r h = refl
+none_after s (push_levels n) r h = refl
+none_after s (pop_levels n) r h = refl
+none_after s reset r h = refl
+none_after s reset_assertions r h = refl
+none_after s k r h = absurd h
+
+-- its right reply tells success, or nothing, by the options that it leaves
+right_ending : (c : Context) (k : Command) (r : Reply) → EndsAnswer k → IsRightCommand c k (done (effect c.state k r).options) plain
+right_ending c (declare_const d) r h = (refl, refl)
+right_ending c (define d) r h = (refl, refl)
+right_ending c (assert_term t) r h = (refl, refl)
+right_ending c (push_levels n) r h = (refl, refl)
+right_ending c (pop_levels n) r h = (refl, refl)
+right_ending c reset r h = (refl, refl)
+right_ending c reset_assertions r h = (refl, refl)
+right_ending c k r h = absurd h
 
 -- ---- Answers that tell no error
 
@@ -232,22 +237,16 @@ pub tells_done : (s : State) (t : Tree) (b : Bool) (q : said.Reply) → reply_of
     → reply_of (intact t) q ≡ done s.options
 tells_done s t b q tells e = tells ∙ ap (λ x. if x then success else quiet) e
 
-right_change : (c : Context) (k : Command) → IsChange k → IsRightCommand c k (done c.state.options) plain
-right_change c (declare_const d) h = (refl, refl)
-right_change c (define d) h = (refl, refl)
-right_change c (assert_term t) h = (refl, refl)
-right_change c k h = absurd h
-
 -- ---- Right answers, by what they tell
 
-check_tells : (c : Context) (r : Reply) (w : Cause) → IsRightCheck c [] r w → TellsNoError r
-check_tells c (error m) w h = absurd h
-check_tells c r w h = tt
+check_tells : (c : Context) (ls : List Literal) (r : Reply) (w : Cause) → IsRightCheck c ls r w → TellsNoError r
+check_tells c ls (error m) w h = absurd h
+check_tells c ls r w h = tt
 
 -- a model that a check finds binds the live constants
-bound_after : (c : Context) (r : Reply) (w : Cause) → IsRightCheck c [] r w → BindsConstants (last_after r) c.state
-bound_after c (sat bs) w h = h.0.constants
-bound_after c r w h = tt
+bound_after : (c : Context) (ls : List Literal) (r : Reply) (w : Cause) → IsRightCheck c ls r w → BindsConstants (last_after r) c.state
+bound_after c ls (sat bs) w h = h.0.constants
+bound_after c ls r w h = tt
 
 -- ---- Answers
 
@@ -255,7 +254,15 @@ bound_after c r w h = tt
 abbrev pub plainly : said.Reply → Answer
 plainly q = record { reply = q; cause = why.Plain; exits = false }
 
+-- so it is by a desk that is another one
+pub succeeds_too : {E : Type 0} (d e : Desk E) (answer : Answer) → d ≡ e → Succeeds d.prints_success answer → Succeeds e.prints_success answer
+succeeds_too {E} d e answer same h = subst (λ (x : Desk E). Succeeds x.prints_success answer) same h
+
 module _ {E : Type 0} (levels : E → List (List ℕ)) (table : E → List Node) where
+  pub answers_too : (c : Context) (t : Tree) (answer : Answer) (d e : Desk E) → d ≡ e → IsAnswer levels table c (intact t) answer (record e { prints_success = false })
+      → IsAnswer levels table c (intact t) answer (record d { prints_success = false })
+  answers_too c t answer d e same h = subst (λ (x : Desk E). IsAnswer levels table c (intact t) answer (record x { prints_success = false })) (sym same) h
+
   accepted_answer : (c : Context) (t : Tree) (k : Command) (r : Reply) (w : Cause) (answer : Answer) (desk : Desk E)
       → reply_of (intact t) answer.reply ≡ r → cause_of desk.terms answer.cause ≡ w → IsCauseWithin desk.terms answer.cause → TellsNoError r → outcome_of c.state t ≡ accepted k
       → IsRightCommand c k r w → Holds levels table desk (next c (effect c.state k r)) → (answer.exits ≡ true → k ≡ exit) → (answer.exits ≡ false → k ≡ exit → ⊥)
@@ -281,11 +288,11 @@ module _ {E : Type 0} (levels : E → List (List ℕ)) (table : E → List Node)
       (accepted_answer c t k r plain (plainly q) desk tells refl tt n e right holds (λ x. cc) (λ x. goes))
 
   -- one that tells success or nothing, to no exit
-  pub done_answer : (c : Context) (t : Tree) (k : Command) (o : Options) (q : said.Reply) (answer : Answer) (desk : Desk E)
-      → answer ≡ plainly q → reply_of (intact t) q ≡ done o → outcome_of c.state t ≡ accepted k
-      → IsRightCommand c k (done o) plain → Holds levels table desk (next c (effect c.state k (done o))) → (k ≡ exit → ⊥) → IsAnswer levels table c (intact t) answer desk
-  done_answer c t k o q answer desk is tells e right holds goes =
-      told_answer c t k q (done o) answer desk is tells (done_tells o.prints_success) e right holds goes
+  pub done_answer : (c : Context) (t : Tree) (k : Command) (b : Bool) (answer : Answer) (desk : Desk E) → Succeeds b answer → outcome_of c.state t ≡ accepted k
+      → IsRightCommand c k (done (record { prints_success = b })) plain → Holds levels table desk (next c (effect c.state k (done (record { prints_success = b })))) → (k ≡ exit → ⊥)
+      → IsAnswer levels table c (intact t) answer desk
+  done_answer c t k b answer desk s e right holds goes =
+      told_answer c t k answer.reply (done (record { prints_success = b })) answer desk s.plain (s.tells (intact t)) (done_tells b) e right holds goes
 
   -- one that ends the session
   pub exit_answer : (c : Context) (t : Tree) (q : said.Reply) (desk : Desk E) → reply_of (intact t) q ≡ done c.state.options → outcome_of c.state t ≡ accepted exit
@@ -294,44 +301,58 @@ module _ {E : Type 0} (levels : E → List (List ℕ)) (table : E → List Node)
       accepted_answer c t exit (done c.state.options) plain (record { reply = q; cause = why.Plain; exits = true }) desk tells refl tt (done_tells c.state.options.prints_success) e
       (refl, refl) (holds_next levels table desk c h) (λ x. refl) (λ x. cc)
 
-  -- one to an item more
-  pub changed_answer : StatesStaySorted → (c : Context) (t : Tree) (k : Command) (q : said.Reply) (answer : Answer) (old : Desk E) (ns : List Node) (l : Standing)
-      → answer ≡ plainly q → reply_of (intact t) q ≡ done (record { prints_success = old.prints_success }) → Holds levels table old c → GoesOn old ns l
-      → outcome_of c.state t ≡ accepted k → IsChange k → ((r : Reply) → IsLive ns l (effect c.state k r))
-      → IsAnswer levels table c (intact t) answer (record (standing old ns l) { last = None })
-  changed_answer stay c t k q answer old ns l is tells h on e change live =
-      let r : Reply = done c.state.options in
-      done_answer c t k c.state.options q answer (record (standing old ns l) { last = None }) is (tells_done c.state t old.prints_success q tells h.success) e
-      (right_change c k change)
-      (holds_fresh levels table old c ns l (effect c.state k r) h on (live r) (stay.by_command c.state t k r e h.sorted) (fresh_after c.state k r change) (options_after c.state k r change)) (λ x. subst IsChange x change)
+  -- one to a command that ends the last answer
+  pub ended_answer : StatesStaySorted → (c : Context) (t : Tree) (k : Command) (answer : Answer) (desk : Desk E) → IsSortedState c.state → outcome_of c.state t ≡ accepted k → EndsAnswer k
+      → Succeeds desk.prints_success answer → ((r : Reply) → IsLive desk.terms desk.live (effect c.state k r)) → IsTold (levels desk.engine) desk.told (asserted_by desk.live)
+      → IsFrontOfTable (table desk.engine) desk.terms → desk.last ≡ None → ((r : Reply) → desk.prints_success ≡ (effect c.state k r).options.prints_success) → desk.limit ≡ c.limit
+      → IsAnswer levels table c (intact t) answer desk
+  ended_answer stay c t k answer desk sorted e ends s live told front none same bounded =
+      let b = desk.prints_success in
+      let r : Reply = done (record { prints_success = b }) in
+      let after : State = effect c.state k r in
+      let last : after.last ≡ None = none_after c.state k r ends in
+      done_answer c t k b answer desk s e
+      (subst (λ x. IsRightCommand c k (done (record { prints_success = x })) plain) (sym (same r)) (right_ending c k r ends))
+      (record {
+        live = live r;
+        sorted = stay.by_command c.state t k r e sorted;
+        told = told;
+        front = front;
+        last = ap (option_map last_of) none ∙ sym last;
+        bound = subst (λ (o : Option LastAnswer). BindsConstants o after) (sym last) tt;
+        values = subst (KeepsValues desk.terms) (sym none) tt;
+        success = same r;
+        bounded = bounded;
+      })
+      (λ x. subst EndsAnswer x ends)
 
   -- ---- Checks
 
   -- the desk holds what it held before the check, but for what the last answer was
-  pub checked_answer : (c : Context) (t : Tree) (answer : Answer) (desk : Desk E) (last : Option shown.LastAnswer) → Holds levels table (record desk { last = last }) c
-      → answer.exits ≡ false → outcome_of c.state t ≡ accepted (check_sat []) → option_map last_of desk.last ≡ last_after (reply_of (intact t) answer.reply)
-      → IsRightCheck c [] (reply_of (intact t) answer.reply) (cause_of desk.terms answer.cause) → IsCauseWithin desk.terms answer.cause → KeepsValues desk.terms desk.last
+  pub checked_answer : (c : Context) (t : Tree) (ls : List Literal) (answer : Answer) (desk : Desk E) (last : Option shown.LastAnswer) → Holds levels table (record desk { last = last }) c
+      → answer.exits ≡ false → outcome_of c.state t ≡ accepted (check_sat ls) → option_map last_of desk.last ≡ last_after (reply_of (intact t) answer.reply)
+      → IsRightCheck c ls (reply_of (intact t) answer.reply) (cause_of desk.terms answer.cause) → IsCauseWithin desk.terms answer.cause → KeepsValues desk.terms desk.last
       → IsAnswer levels table c (intact t) answer desk
-  checked_answer c t answer desk last h stays e told right within keeps =
+  checked_answer c t ls answer desk last h stays e told right within keeps =
       let r = reply_of (intact t) answer.reply in
       let w = cause_of desk.terms answer.cause in
-      let kept : Holds levels table desk (next c (effect c.state (check_sat []) r)) =
+      let kept : Holds levels table desk (next c (effect c.state (check_sat ls) r)) =
       record {
         live = live_still desk.terms desk.live c.state c.state.last (last_after r) c.state.options c.state.options h.live;
         sorted = h.sorted;
         told = h.told;
         front = h.front;
         last = told;
-        bound = binds_still (last_after r) c.state c.state.last (last_after r) c.state.options c.state.options (bound_after c r w right);
+        bound = binds_still (last_after r) c.state c.state.last (last_after r) c.state.options c.state.options (bound_after c ls r w right);
         values = keeps;
         success = h.success;
         bounded = h.bounded;
       } in
-      accepted_answer c t (check_sat []) r w answer desk refl refl within (check_tells c r w right) e right kept
+      accepted_answer c t (check_sat ls) r w answer desk refl refl within (check_tells c ls r w right) e right kept
       (λ x. let y = sym x ∙ stays in cc) (λ x. λ y. cc)
 
-  pub checked : (c : Context) (t : Tree) (q : said.Reply) (answer : Answer) (desk : Desk E) (last : Option shown.LastAnswer) → answer ≡ plainly q
-      → Holds levels table (record desk { last = last }) c → outcome_of c.state t ≡ accepted (check_sat []) → option_map last_of desk.last ≡ last_after (reply_of (intact t) q)
-      → IsRightCheck c [] (reply_of (intact t) q) plain → KeepsValues desk.terms desk.last → IsAnswer levels table c (intact t) answer desk
-  checked c t q answer desk last is h e told right keeps =
-      subst (λ (a : Answer). IsAnswer levels table c (intact t) a desk) (sym is) (checked_answer c t (plainly q) desk last h refl e told right tt keeps)
+  pub checked : (c : Context) (t : Tree) (ls : List Literal) (q : said.Reply) (answer : Answer) (desk : Desk E) (last : Option shown.LastAnswer) → answer ≡ plainly q
+      → Holds levels table (record desk { last = last }) c → outcome_of c.state t ≡ accepted (check_sat ls) → option_map last_of desk.last ≡ last_after (reply_of (intact t) q)
+      → IsRightCheck c ls (reply_of (intact t) q) plain → KeepsValues desk.terms desk.last → IsAnswer levels table c (intact t) answer desk
+  checked c t ls q answer desk last is h e told right keeps =
+      subst (λ (a : Answer). IsAnswer levels table c (intact t) a desk) (sym is) (checked_answer c t ls (plainly q) desk last h refl e told right tt keeps)

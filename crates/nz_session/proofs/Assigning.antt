@@ -1,29 +1,37 @@
 -- The model of the live constants that is made of the values that a search gave.
-use Rattle.std.proofs.Common.{◌≡◌, inl, inr, ℕ, zero, suc, ◌+◌, ◌<◌, ◌≤◌, Bool, true, false, ◌||◌, IsTrue, List, [], ◌∷◌, ◌++◌, length, map, drop, Option, Some, None, option_map, refl, sym, ap, ◌∙◌, subst, get_or, true≢false, add-one, append-nil, append_assoc}
-use Rattle.std.specs.Prelude.{slice_get, bytes_eq, pos, unwrap_or, if◌then◌else◌}
+use Rattle.std.proofs.Common.{◌≡◌, ℕ, zero, suc, ◌+◌, ◌<◌, ◌≤◌, Bool, true, false, ◌||◌, IsTrue, List, [], ◌∷◌, ◌++◌, length, map, drop, Option, Some, None, option_map, refl, sym, ap, ◌∙◌, subst, arith, get_or, true≢false, add-one, append-nil, append_assoc}
+use Rattle.std.specs.Prelude.{Contains, flat_map, slice_get, bytes_eq, pos, unwrap_or, if◌then◌else◌}
 use Rattle.std.specs.List.{AllByRecursion, list_any}
+use Rattle.std.specs.Cmp.Lexicographic.{nat_list_eq_equiv}
+use Rattle.std.proofs.lemmas.Grind.{flat_map-append}
 use Rattle.std.proofs.lemmas.Slice.Eq.{bytes_eq-Decides}
-use Rattle.std.proofs.lemmas.List.Folds.{list_any-append}
+use Rattle.std.proofs.lemmas.List.Folds.{list_any_at}
 use Rattle.std.proofs.lemmas.List.Elements.{recursion_from_All}
 use Rattle.std.proofs.Math.Path.{fun_ext}
 use Rattle.std.proofs.Math.Seq.{drop-cons}
 use Rattle.std.proofs.lemmas.Option.{slice_get-get_or, slice_get_past}
-use Rattle.std.proofs.lemmas.Bool.{and_parts}
-use Rattle.nz_lists.proofs.Tests.{either_true}
+use Rattle.std.proofs.lemmas.Bool.{and_from, and_parts}
 use Rattle.nz_fractions.specs.Fraction.{IsNumber, whole}
-use Rattle.nz_spec.specs.Term.{Sort, bool_sort, int_sort, real_sort, are_same_sort, Constant, are_same_constant, Head, constant, falsum, constant_of, Term, apply, no_terms, Value, Assignment, default_value, ValueFits, DecimalsAreNumbers, IsTrueUnder, is_true}
+use Rattle.nz_spec.specs.Term.{Sort, bool_sort, int_sort, real_sort, are_same_sort, Constant, are_same_constant, Head, constant, falsum, constant_of, Term, apply, no_terms, Value, Assignment, default_value, IsOfSort, ValueFits, DecimalsAreNumbers, IsTrueUnder, is_true}
 use Rattle.nz_spec.specs.Numerals.{NumeralsAreWhole}
+use Rattle.nz_spec.specs.Literal.{Literal, term_literal, is_at_most, is_below, are_same_sign, is_literal_true, AreTrueLiterals}
 use Rattle.nz_spec.specs.Table.{Node, IsTable, TermOfNode, AssignsByNumber, term_in, is_node_of, listed_value, assignment_by}
-use Rattle.nz_spec.specs.Decide.{constants_of_head, constants_in_table, IsValueOf, AreModelValues}
+use Rattle.nz_spec.specs.Decide.{constants_of_head, asserted_terms, IsValueOf, AreModelValues}
+use Rattle.nz_spec.specs.Legal.{at_first, IsDeadEnd}
 use Rattle.nz_spec.specs.Normal.{normal_of, NormalKeepsValue}
-use Rattle.nz_spec.specs.Model.{Binding, assignment_of, ValuesFit, IsModel, AreModel, IsUnsatisfiable}
+use Rattle.nz_spec.specs.OverConstants.{IsOver, AgreeOn, ConstantsTellValues}
+use Rattle.nz_spec.specs.Model.{Binding, assignment_of, ValuesFit, IsAssignment, IsModel, AreModel, IsUnsatisfiable}
 use Rattle.nz_spec.specs.Live.{State, constants_of, assertions_of}
-use Rattle.nz_term.specs.Values.{value_of}
-use Rattle.nz_term.specs.declared.assign.Value as own
+use Rattle.nz_spec.specs.Sorts.{IsAssumable}
+use Rattle.nz_log.specs.declared.term_lits.TermLit.{TermLit}
+use Rattle.nz_log.specs.TermLits.{literal_of}
+use Rattle.nz_log.specs.Verdicts.{task_in}
 use Rattle.nz_sort.specs.declared.items.Accepted.{Accepted}
+use Rattle.nz_sort.specs.declared.levels.Level.{Level}
 use Rattle.nz_sort.specs.Items.{table_numbers}
-use Rattle.nz_sort.specs.Live.{Standing, IsLive}
-use Rattle.nz_session.specs.Completed.{bound_at, completed}
+use Rattle.nz_sort.specs.Layers.{Layer, layer_of}
+use Rattle.nz_sort.specs.Live.{Standing, asserted_by, constants_by, IsLive}
+use Rattle.nz_session.specs.Completed.{bound_at, completed, valued_at, completed_values}
 
 -- ---- Tests
 
@@ -32,6 +40,11 @@ same_sorts bool_sort bool_sort e = refl
 same_sorts int_sort int_sort e = refl
 same_sorts real_sort real_sort e = refl
 same_sorts s t e = cc
+
+sort_itself : (s : Sort) → are_same_sort s s ≡ true
+sort_itself bool_sort = refl
+sort_itself int_sort = refl
+sort_itself real_sort = refl
 
 same_constant : (c d : Constant) → are_same_constant c d ≡ true → c ≡ d
 same_constant c d e =
@@ -58,45 +71,31 @@ bound_value a (d ∷ cs) c h =
     bound_first a d c (are_same_constant d c) (assignment_of (map (bound_by a) cs) c) refl
     (λ other. bound_value a cs c (λ none. h (ap (λ b. b || list_any (λ d. are_same_constant d c) cs) other ∙ none)))
 
--- ---- An assignment by numbers
+-- ---- A model of some constants alone
 
-is_constant_in : (h : Head) (c : Constant) (o : Option Constant) → constant_of h ≡ o → elim o [ Some d ↦ are_same_constant d c | None ↦ false ] ≡ true
-    → list_any (λ d. are_same_constant d c) (elim o [ Some d ↦ d ∷ [] | None ↦ [] ]) ≡ true
-is_constant_in h c (Some d) e f = ap (λ b. b || false) f
-is_constant_in h c None e f = absurd cc
+same_itself : (c : Constant) → are_same_constant c c ≡ true
+same_itself c = and_from (bytes_eq c.name c.name) (are_same_sort c.sort c.sort) (nat_list_eq_equiv.refl c.name) (sort_itself c.sort)
 
--- the constant of a node is one of the table's
-listed_constant : (p : Constant → Bool) (ns : List Node) (i : ℕ) (n : Node) → slice_get ns i ≡ Some n → list_any p (constants_of_head n.head) ≡ true
-    → list_any p (constants_in_table ns) ≡ true
-listed_constant p [] i n e h = absurd cc
-listed_constant p (m ∷ ns) zero n e h =
-    let same : m ≡ n = cc in
-    list_any-append p (constants_of_head m.head) (constants_in_table ns)
-    ∙ either_true (list_any p (constants_of_head m.head)) (list_any p (constants_in_table ns)) (inl (ap (λ (x : Node). list_any p (constants_of_head x.head)) same ∙ h))
-listed_constant p (m ∷ ns) (suc i) n e h =
-    list_any-append p (constants_of_head m.head) (constants_in_table ns)
-    ∙ either_true (list_any p (constants_of_head m.head)) (list_any p (constants_in_table ns)) (inr (listed_constant p ns i n e h))
+contained_any : (cs : List Constant) (c : Constant) → Contains cs c → list_any (λ d. are_same_constant d c) cs ≡ true
+contained_any cs c h = list_any_at (λ d. are_same_constant d c) cs h.0 c h.1 (ap (λ d. are_same_constant d c) h.2 ∙ same_itself c)
 
-node_listed : (ns : List Node) (c : Constant) (i : ℕ) (o : Option Node) → slice_get ns i ≡ o → is_node_of o c ≡ true
-    → list_any (λ d. are_same_constant d c) (constants_in_table ns) ≡ true
-node_listed ns c i None e f = absurd cc
-node_listed ns c i (Some n) e f = listed_constant (λ d. are_same_constant d c) ns i n e (is_constant_in n.head c (constant_of n.head) refl f)
+-- what is bound agrees with what it is bound by
+bound_agrees : (a : Assignment) (cs : List Constant) → AgreeOn cs (assignment_of (map (bound_by a) cs)) a
+bound_agrees a cs c h = bound_value a cs c (λ none. absurd (true≢false (sym (contained_any cs c h) ∙ none)))
 
-skipped : (b : Bool) (v w d : Value) → (b ≡ true → ⊥) → w ≡ d → (if b then v else w) ≡ d
-skipped true v w d h e = absurd (h refl)
-skipped false v w d h e = e
+default_is : (t : Sort) → IsOfSort t (default_value t)
+default_is bool_sort = tt
+default_is int_sort = refl
+default_is real_sort = tt
 
--- a constant that is none of the table's has the default
-default_outside : (ns : List Node) (ps : List (ℕ × Value)) (c : Constant) → list_any (λ d. are_same_constant d c) (constants_in_table ns) ≡ false
-    → assignment_by ns ps c ≡ default_value c.sort
-default_outside ns [] c none = refl
-default_outside ns (p ∷ ps) c none =
-    skipped (is_node_of (slice_get ns p.0) c) p.1 (assignment_by ns ps c) (default_value c.sort)
-    (λ e. true≢false (sym (node_listed ns c p.0 (slice_get ns p.0) refl e) ∙ none)) (default_outside ns ps c none)
+either_is : (d c : Constant) (b : Bool) (v w : Value) → are_same_constant d c ≡ b → IsOfSort d.sort v → IsOfSort c.sort w → IsOfSort c.sort (if b then v else w)
+either_is d c true v w e h k = subst (λ (x : Constant). IsOfSort x.sort v) (same_constant d c e) h
+either_is d c false v w e h k = k
 
--- so the bindings of the table's constants make that assignment
-bound_assignment : (ns : List Node) (ps : List (ℕ × Value)) → assignment_of (map (bound_by (assignment_by ns ps)) (constants_in_table ns)) ≡ assignment_by ns ps
-bound_assignment ns ps = fun_ext (λ c. bound_value (assignment_by ns ps) (constants_in_table ns) c (default_outside ns ps c))
+bound_assigns : (a : Assignment) → IsAssignment a → (cs : List Constant) → IsAssignment (assignment_of (map (bound_by a) cs))
+bound_assigns a given [] c = default_is c.sort
+bound_assigns a given (d ∷ cs) c =
+    either_is d c (are_same_constant d c) (a d) (assignment_of (map (bound_by a) cs) c) refl (given d) (bound_assigns a given cs c)
 
 -- ---- Values that fit
 
@@ -168,52 +167,110 @@ normals_true law a [] h = tt
 normals_true law a (t ∷ ts) h = (subst (λ v. IsTrue (is_true v)) (sym (law a t)) h.0, normals_true law a ts h.1)
 
 -- what makes the normal terms true makes the terms true
-model_of_normals : NormalKeepsValue → (a : Assignment) (ts assumed : List Term) → IsModel (map normal_of ts) assumed a → IsModel ts assumed a
+model_of_normals : NormalKeepsValue → (a : Assignment) (ts : List Term) (assumed : List Literal) → IsModel (map normal_of ts) assumed a → IsModel ts assumed a
 model_of_normals law a ts assumed m = record { sorts = m.sorts; asserted_hold = true_normals law a ts m.asserted_hold; assumed_hold = m.assumed_hold }
 
-pub normals_of_model : NormalKeepsValue → (a : Assignment) (ts assumed : List Term) → IsModel ts assumed a → IsModel (map normal_of ts) assumed a
+pub normals_of_model : NormalKeepsValue → (a : Assignment) (ts : List Term) (assumed : List Literal) → IsModel ts assumed a → IsModel (map normal_of ts) assumed a
 normals_of_model law a ts assumed m = record { sorts = m.sorts; asserted_hold = normals_true law a ts m.asserted_hold; assumed_hold = m.assumed_hold }
 
--- Values that a search gave, completed over the constants of the table, are a model of what is asserted.
-model_by_values : DecimalsAreNumbers → NumeralsAreWhole → (ns : List Node) (cs : List Constant) (ts assumed : List Term) (ps : List (ℕ × Value)) (bs : List Binding)
-    → constants_in_table ns ≡ cs → bs ≡ map (bound_by (assignment_by ns ps)) cs → AllByRecursion (IsValueOf ns) ps → IsModel ts assumed (assignment_by ns ps)
-    → AreModel cs ts assumed bs
-model_by_values decimals numerals ns cs ts assumed ps bs live bound values model =
-    let a : Assignment = assignment_by ns ps in
-    let same : assignment_of bs ≡ a = ap assignment_of (bound ∙ ap (map (bound_by a)) (sym live)) ∙ bound_assignment ns ps in
-    record {
-      constants = ap (map (λ (b : Binding). b.constant)) bound ∙ bound_constants a cs;
-      numbers = subst ValuesFit (sym bound) (bound_fit a cs (λ c. value_fits decimals numerals ns ps c values));
-      makes = subst (IsModel ts assumed) (sym same) model;
-    }
+-- ---- Truths under assignments that agree
+
+module _ (tell : ConstantsTellValues) (cs : List Constant) (a b : Assignment) (agree : AgreeOn cs b a) where
+  terms_agree : (ts : List Term) → AllByRecursion (IsOver cs) ts → AllByRecursion (IsTrueUnder a) ts → AllByRecursion (IsTrueUnder b) ts
+  terms_agree [] over h = tt
+  terms_agree (t ∷ ts) over h = (subst (λ v. IsTrue (is_true v)) (sym (tell cs b a t agree over.0)) h.0, terms_agree ts over.1 h.1)
+
+  literal_holds : (s : State) (m : Literal) → constants_of s ≡ cs → IsAssumable s m → IsTrue (is_literal_true a m) → IsTrue (is_literal_true b m)
+  literal_holds s (term_literal t sign) e k h = subst (λ v. IsTrue (are_same_sign sign (is_true v))) (sym (tell cs b a t agree (subst (λ ds. IsOver ds t) e k.0))) h
+  literal_holds s (is_at_most ps c) e k h = absurd k
+  literal_holds s (is_below ps c) e k h = absurd k
+
+  literals_hold : (s : State) (ms : List Literal) → constants_of s ≡ cs → AllByRecursion (IsAssumable s) ms → AreTrueLiterals a ms → AreTrueLiterals b ms
+  literals_hold s [] e k h = tt
+  literals_hold s (m ∷ ms) e k h = (literal_holds s m e k.0 h.0, literals_hold s ms e k.1 h.1)
 
 -- ---- Models of the live state
 
--- what a search gave for the table is a model of the live state
-pub live_model : DecimalsAreNumbers → NumeralsAreWhole → NormalKeepsValue → TermOfNode → (ns : List Node) → IsTable ns → (l : Standing) (s : State) (ps : List (ℕ × Value)) → IsLive ns l s
-    → AreModelValues ns (map (term_in ns) l.asserted) [] ps → AreModel (constants_of s) (assertions_of s) [] (completed ns ps (table_numbers l.constants))
-live_model decimals numerals keeps law ns table l s ps h v =
+-- what a search gave for the table makes a model of the live constants
+pub live_model : DecimalsAreNumbers → NumeralsAreWhole → NormalKeepsValue → ConstantsTellValues → TermOfNode → (ns : List Node) → IsTable ns → (l : Standing) (s : State) (ps : List (ℕ × Value)) (ms : List Literal)
+    → IsLive ns l s → AllByRecursion (IsOver (constants_of s)) (assertions_of s) → AllByRecursion (IsAssumable s) ms → AreModelValues ns (asserted_terms ns (asserted_by l)) [] ps
+    → AreTrueLiterals (assignment_by ns ps) ms → AreModel (constants_of s) (assertions_of s) ms (completed ns ps (constants_by l))
+live_model decimals numerals keeps tell law ns table l s ps ms h over assumable v holds =
     let a : Assignment = assignment_by ns ps in
-    let within : AllByRecursion (λ i. i < length ns) (table_numbers l.constants) =
-    recursion_from_All (λ i. i < length ns) (table_numbers l.constants) h.items.constants.terms.within in
-    model_by_values decimals numerals ns (constants_of s) (assertions_of s) [] ps (completed ns ps (table_numbers l.constants)) h.constants
-    (completed_constants ns ps law table (table_numbers l.constants) (constants_of s) within h.items.constants.terms.terms) v.values
-    (model_of_normals keeps a (assertions_of s) [] (subst (λ ts. IsModel ts [] a) h.terms v.makes))
+    let cs = constants_of s in
+    let within : AllByRecursion (λ i. i < length ns) (constants_by l) = recursion_from_All (λ i. i < length ns) (constants_by l) h.constants.within in
+    let bound = completed_constants ns ps law table (constants_by l) cs within h.constants.terms in
+    let b : Assignment = assignment_of (map (bound_by a) cs) in
+    let model = model_of_normals keeps a (assertions_of s) [] (subst (λ ts. IsModel ts [] a) h.terms v.makes) in
+    record {
+      constants = ap (map (λ (x : Binding). x.constant)) bound ∙ bound_constants a cs;
+      numbers = subst ValuesFit (sym bound) (bound_fit a cs (λ c. value_fits decimals numerals ns ps c v.values));
+      makes = subst (IsModel (assertions_of s) ms) (sym (ap assignment_of bound)) (record {
+        sorts = bound_assigns a model.sorts cs;
+        asserted_hold = terms_agree tell cs a b (bound_agrees a cs) (assertions_of s) over model.asserted_hold;
+        assumed_hold = literals_hold tell cs a b (bound_agrees a cs) s ms refl assumable holds;
+      });
+    }
 
--- its values are those that the search gave
+-- ---- The values that are kept
+
+node_of_constant : (h : Head) (c x : Constant) → h ≡ constant c → elim (constant_of h) [ Some d ↦ are_same_constant d x | None ↦ false ] ≡ are_same_constant c x
+node_of_constant h c x e = ap (λ (g : Head). elim (constant_of g) [ Some d ↦ are_same_constant d x | None ↦ false ]) e
+
+valued_node : (ns : List Node) (ps : List (ℕ × Value)) → TermOfNode → IsTable ns → (i : ℕ) (c : Constant) → i < length ns → term_in ns i ≡ apply (constant c) no_terms
+    → valued_at ns ps i (slice_get ns i) ≡ (i, assignment_by ns ps c) ∷ []
+valued_node ns ps law table i c below e =
+    let n = constant_node ns law table i c below e in
+    ap (valued_at ns ps i) n.1 ∙ ap (λ h. map (λ (d : Constant). (i, assignment_by ns ps d)) (constants_of_head h)) n.2
+
+-- by numbers they give each constant what the bindings give it
+values_bound : (ns : List Node) (ps : List (ℕ × Value)) → TermOfNode → IsTable ns → (is : List ℕ) (cs : List Constant) → AllByRecursion (λ i. i < length ns) is
+    → map (term_in ns) is ≡ map (λ (c : Constant). apply (constant c) no_terms) cs → (x : Constant)
+    → assignment_by ns (completed_values ns ps is) x ≡ assignment_of (map (bound_by (assignment_by ns ps)) cs) x
+values_bound ns ps law table [] [] within e x = refl
+values_bound ns ps law table [] (c ∷ cs) within e x = absurd cc
+values_bound ns ps law table (i ∷ is) [] within e x = absurd cc
+values_bound ns ps law table (i ∷ is) (c ∷ cs) within e x =
+    let first : term_in ns i ≡ apply (constant c) no_terms = cc in
+    let rest : map (term_in ns) is ≡ map (λ (d : Constant). apply (constant d) no_terms) cs = cc in
+    let n = constant_node ns law table i c within.0 first in
+    let test : is_node_of (slice_get ns i) x ≡ are_same_constant c x = ap (λ o. is_node_of o x) n.1 ∙ node_of_constant n.0.head c x n.2 in
+    ap (λ qs. assignment_by ns (qs ++ completed_values ns ps is) x) (valued_node ns ps law table i c within.0 first)
+    ∙ ap (λ b. if b then assignment_by ns ps c else assignment_by ns (completed_values ns ps is) x) test
+    ∙ ap (λ v. if are_same_constant c x then assignment_by ns ps c else v) (values_bound ns ps law table is cs within.1 rest x)
+
 pub live_values : TermOfNode → (ns : List Node) → IsTable ns → (l : Standing) (s : State) (ps : List (ℕ × Value)) → IsLive ns l s
-    → assignment_by ns ps ≡ assignment_of (completed ns ps (table_numbers l.constants))
+    → assignment_by ns (completed_values ns ps (constants_by l)) ≡ assignment_of (completed ns ps (constants_by l))
 live_values law ns table l s ps h =
-    let a : Assignment = assignment_by ns ps in
-    let within : AllByRecursion (λ i. i < length ns) (table_numbers l.constants) =
-    recursion_from_All (λ i. i < length ns) (table_numbers l.constants) h.items.constants.terms.within in
-    let bound = completed_constants ns ps law table (table_numbers l.constants) (constants_of s) within h.items.constants.terms.terms in
-    sym (ap assignment_of (bound ∙ ap (map (bound_by a)) (sym h.constants)) ∙ bound_assignment ns ps)
+    let within : AllByRecursion (λ i. i < length ns) (constants_by l) = recursion_from_All (λ i. i < length ns) (constants_by l) h.constants.within in
+    fun_ext (λ x. values_bound ns ps law table (constants_by l) (constants_of s) within h.constants.terms x)
+    ∙ sym (ap assignment_of (completed_constants ns ps law table (constants_by l) (constants_of s) within h.constants.terms))
 
--- where the table's assertions have none, neither has the live state
-pub no_live_model : NormalKeepsValue → (ns : List Node) (l : Standing) (s : State) → IsLive ns l s → IsUnsatisfiable (map (term_in ns) l.asserted) []
-    → IsUnsatisfiable (assertions_of s) []
-no_live_model keeps ns l s h u a m = u a (subst (λ ts. IsModel ts [] a) (sym h.terms) (normals_of_model keeps a (assertions_of s) [] m))
+-- their numbers are of the table
+pairs_within : (ns : List Node) (a : Assignment) (i : ℕ) → i < length ns → (cs : List Constant) → AllByRecursion (λ (p : ℕ × Value). p.0 < length ns) (map (λ (c : Constant). (i, a c)) cs)
+pairs_within ns a i below [] = tt
+pairs_within ns a i below (c ∷ cs) = (below, pairs_within ns a i below cs)
+
+valued_within : (ns : List Node) (ps : List (ℕ × Value)) (i : ℕ) (o : Option Node) → i < length ns → AllByRecursion (λ (p : ℕ × Value). p.0 < length ns) (valued_at ns ps i o)
+valued_within ns ps i None below = tt
+valued_within ns ps i (Some n) below = pairs_within ns (assignment_by ns ps) i below (constants_of_head n.head)
+
+within_append : (ns : List Node) (ps qs : List (ℕ × Value)) → AllByRecursion (λ (p : ℕ × Value). p.0 < length ns) ps → AllByRecursion (λ (p : ℕ × Value). p.0 < length ns) qs
+    → AllByRecursion (λ (p : ℕ × Value). p.0 < length ns) (ps ++ qs)
+within_append ns [] qs h k = k
+within_append ns (p ∷ ps) qs h k = (h.0, within_append ns ps qs h.1 k)
+
+pub values_in : (ns : List Node) (ps : List (ℕ × Value)) (is : List ℕ) → AllByRecursion (λ i. i < length ns) is → AllByRecursion (λ (p : ℕ × Value). p.0 < length ns) (completed_values ns ps is)
+values_in ns ps [] h = tt
+values_in ns ps (i ∷ is) h =
+    within_append ns (valued_at ns ps i (slice_get ns i)) (completed_values ns ps is) (valued_within ns ps i (slice_get ns i) h.0) (values_in ns ps is h.1)
+
+-- a dead end of a search before any decision is one of the live state, under what is assumed
+pub no_live_model : NormalKeepsValue → (ns : List Node) (l : Standing) (s : State) (ls : List TermLit) (ms : List Literal) → IsLive ns l s → ((a : Assignment) → AreTrueLiterals a ms → AreTrueLiterals a (map (literal_of ns) ls))
+    → IsDeadEnd (task_in ns (asserted_by l) ls) at_first → IsUnsatisfiable (assertions_of s) ms
+no_live_model keeps ns l s ls ms h told dead a m =
+    dead a (subst (λ ts. IsModel ts [] a) (sym h.terms) (normals_of_model keeps a (assertions_of s) [] (record { sorts = m.sorts; asserted_hold = m.asserted_hold; assumed_hold = tt })))
+    (told a m.assumed_hold) tt
 
 -- ---- Bindings, one after another
 
@@ -243,19 +300,73 @@ head_node : (h : Head) (o : Option Node) → option_map (λ (n : Node). n.head) 
 head_node h None e = absurd cc
 head_node h (Some n) e = (n, refl, cc)
 
-value_chosen : (o : Option own.Value) (d : own.Value) → value_of (unwrap_or o d) ≡ unwrap_or (option_map value_of o) (value_of d)
-value_chosen None d = refl
-value_chosen (Some v) d = refl
+-- the value of a constant that has one by its number, or else the default of its sort
+given_value : AssignsByNumber → (ns : List Node) → IsTable ns → (ps : List (ℕ × Value)) (id : ℕ) (k : Constant) (v : Value) → option_map (λ (n : Node). n.head) (slice_get ns id) ≡ Some (constant k)
+    → v ≡ unwrap_or (listed_value ps id) (default_value k.sort) → v ≡ assignment_by ns ps k
+given_value law ns table ps id k v head is =
+    let n = head_node (constant k) (slice_get ns id) head in
+    is ∙ sym (law ns table ps id n.0 k n.1 n.2)
+
+valued_by_head : (ns : List Node) (ps : List (ℕ × Value)) (id : ℕ) (o : Option Node) (h : Head) → option_map (λ (n : Node). n.head) o ≡ Some h
+    → valued_at ns ps id o ≡ map (λ (c : Constant). (id, assignment_by ns ps c)) (constants_of_head h)
+valued_by_head ns ps id None h e = cc
+valued_by_head ns ps id (Some n) h e =
+    let same : n.head ≡ h = cc in
+    ap (λ x. map (λ (c : Constant). (id, assignment_by ns ps c)) (constants_of_head x)) same
+
+-- one value more by number
+pub given_pair : AssignsByNumber → (ns : List Node) → IsTable ns → (ps : List (ℕ × Value)) (id : ℕ) (k : Constant) (v : Value) (old new : List (ℕ × Value))
+    → option_map (λ (n : Node). n.head) (slice_get ns id) ≡ Some (constant k) → v ≡ unwrap_or (listed_value ps id) (default_value k.sort) → new ≡ old ++ (id, v) ∷ []
+    → new ≡ old ++ valued_at ns ps id (slice_get ns id)
+given_pair law ns table ps id k v old new head is grown =
+    grown
+    ∙ ap (λ w. old ++ (id, w) ∷ []) (given_value law ns table ps id k v head is)
+    ∙ ap (λ bs. old ++ bs) (sym (valued_by_head ns ps id (slice_get ns id) (constant k) head))
+
+-- a number past the table has no value
+pub valued_past : (ns : List Node) (ps : List (ℕ × Value)) (i : ℕ) (qs : List (ℕ × Value)) → length ns ≤ i → qs ≡ qs ++ valued_at ns ps i (slice_get ns i)
+valued_past ns ps i qs past = sym (ap (λ o. qs ++ valued_at ns ps i o) (slice_get_past ns i past) ∙ append-nil qs)
+
+-- those of one number more
+pub valued_more : (ns : List Node) (ps : List (ℕ × Value)) (items : List Accepted) (k : ℕ) (d : Accepted) (old new total : List (ℕ × Value)) → k < length items
+    → new ≡ old ++ valued_at ns ps (get_or items k d).term (slice_get ns (get_or items k d).term) → old ++ completed_values ns ps (table_numbers (drop k items)) ≡ total
+    → new ++ completed_values ns ps (table_numbers (drop (k + 1) items)) ≡ total
+valued_more ns ps items k d old new total below grown h =
+    let first = valued_at ns ps (get_or items k d).term (slice_get ns (get_or items k d).term) in
+    let rest = completed_values ns ps (table_numbers (drop (suc k) items)) in
+    let step : completed_values ns ps (table_numbers (drop k items)) ≡ first ++ rest = ap (λ l. completed_values ns ps (table_numbers l)) (drop-cons items k d below) in
+    ap (λ m. new ++ completed_values ns ps (table_numbers (drop m items))) (add-one k) ∙ ap (λ bs. bs ++ rest) grown ∙ append_assoc old first rest ∙ ap (λ bs. old ++ bs) (sym step) ∙ h
 
 -- one binding more, of a constant that has a value or else the default of its sort
-pub given_binding : AssignsByNumber → (ns : List Node) → IsTable ns → (ps : List (ℕ × Value)) (id : ℕ) (k : Constant) (o : Option own.Value) (d v : own.Value) (old new : List Binding)
-    → option_map (λ (n : Node). n.head) (slice_get ns id) ≡ Some (constant k) → option_map value_of o ≡ listed_value ps id → value_of d ≡ default_value k.sort → v ≡ unwrap_or o d
-    → new ≡ old ++ record { constant = k; value = value_of v } ∷ []
+pub given_binding : AssignsByNumber → (ns : List Node) → IsTable ns → (ps : List (ℕ × Value)) (id : ℕ) (k : Constant) (v : Value) (old new : List Binding)
+    → option_map (λ (n : Node). n.head) (slice_get ns id) ≡ Some (constant k) → v ≡ unwrap_or (listed_value ps id) (default_value k.sort) → new ≡ old ++ record { constant = k; value = v } ∷ []
     → new ≡ old ++ bound_at ns ps (slice_get ns id)
-given_binding law ns table ps id k o d v old new head at none is grown =
-    let n = head_node (constant k) (slice_get ns id) head in
-    let chosen : value_of v ≡ assignment_by ns ps k =
-    ap value_of is ∙ value_chosen o d ∙ ap (λ m. unwrap_or m (value_of d)) at ∙ ap (unwrap_or (listed_value ps id)) none ∙ sym (law ns table ps id n.0 k n.1 n.2) in
+given_binding law ns table ps id k v old new head is grown =
     grown
-    ∙ ap (λ w. let b : Binding = record { constant = k; value = w } in old ++ b ∷ []) chosen
+    ∙ ap (λ w. let b : Binding = record { constant = k; value = w } in old ++ b ∷ []) (given_value law ns table ps id k v head is)
     ∙ ap (λ bs. old ++ bs) (sym (bound_by_head ns ps (slice_get ns id) (constant k) head))
+
+-- ---- Level by level
+
+-- the terms of the constants of a level
+abbrev constants_at : Layer → List ℕ
+constants_at k = table_numbers k.constants
+
+level_first : (ks : List Level) (i : ℕ) (x : Level) → i < length ks → x ≡ get_or ks i x → drop i (map layer_of ks) ≡ layer_of x ∷ drop (suc i) (map layer_of ks)
+level_first [] i x below is = absurd (omega (arith, below))
+level_first (k ∷ ks) zero x below is = ap (λ (y : Level). layer_of y ∷ map layer_of ks) (sym is)
+level_first (k ∷ ks) (suc i) x below is = level_first ks i x (omega (arith, below)) is
+
+-- what each of their numbers adds, of one level more
+pub level_more : {B : Type 0} (f : ℕ → List B) (ks : List Level) (layers : List Layer) (i : ℕ) (x : Level) (items : List Accepted) (old new total : List B) → map layer_of ks ≡ layers → i < length ks
+    → x ≡ get_or ks i x → items ≡ (layer_of x).constants → new ≡ old ++ flat_map f (table_numbers items) → old ++ flat_map f (flat_map constants_at (drop i layers)) ≡ total
+    → new ++ flat_map f (flat_map constants_at (drop (i + 1) layers)) ≡ total
+level_more f ks layers i x items old new total e below is are grown h =
+    let first = flat_map f (table_numbers items) in
+    let rest = flat_map f (flat_map constants_at (drop (suc i) layers)) in
+    let dropped : drop i layers ≡ layer_of x ∷ drop (suc i) layers = subst (λ ls. drop i ls ≡ layer_of x ∷ drop (suc i) ls) e (level_first ks i x below is) in
+    let step : flat_map f (flat_map constants_at (drop i layers)) ≡ first ++ rest =
+    ap (λ ls. flat_map f (flat_map constants_at ls)) dropped
+    ∙ ap (λ ys. flat_map f (table_numbers ys ++ flat_map constants_at (drop (suc i) layers))) (sym are)
+    ∙ flat_map-append f (table_numbers items) (flat_map constants_at (drop (suc i) layers)) in
+    ap (λ m. new ++ flat_map f (flat_map constants_at (drop m layers))) (add-one i) ∙ ap (λ bs. bs ++ rest) grown ∙ append_assoc old first rest ∙ ap (λ bs. old ++ bs) (sym step) ∙ h

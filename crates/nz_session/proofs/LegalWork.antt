@@ -1,16 +1,16 @@
 -- Work that is legal for what a search is asked, by the numbers of a table, is legal for what a check asks.
-use Rattle.std.proofs.Common.{◌≡◌, ℕ, ◌+◌, List, [], ◌∷◌, ◌++◌, map, cond, inl, inr, refl, sym, ap, ◌∙◌, subst, arith, append-nil, Option, None, Some, Result, Ok, Err, IfErr}
+use Rattle.std.proofs.Common.{◌≡◌, ℕ, ◌+◌, List, [], ◌∷◌, ◌++◌, map, cond, inl, inr, refl, sym, ap, ◌∙◌, subst, arith, IsTrue, Option, None, Some, Result, Ok, Err, IfErr}
 use Rattle.std.specs.Prelude.{Contains, flat_map}
+use Rattle.std.proofs.lemmas.Grind.{flat_map-append}
 use Rattle.std.proofs.lemmas.List.Sums.{sum_by-append}
 use Rattle.std.proofs.lemmas.List.Elements.{Contains-append_left, Contains-append_right, Contains-append_cases}
 use Rattle.nz_fractions.specs.Fraction.{Operation}
-use Rattle.nz_spec.specs.Term.{Term, apply, constant, no_terms, Assignment}
+use Rattle.nz_spec.specs.Term.{Term, apply, constant, no_terms, Assignment, is_true, value_of}
 use Rattle.nz_spec.specs.Bland.{Point}
 use Rattle.nz_spec.specs.Normal.{normal_of, NormalKeepsValue}
 use Rattle.nz_spec.specs.Table.{Node, term_in}
 use Rattle.nz_spec.specs.Order.{listing_order}
-use Rattle.nz_spec.specs.Literal.{Literal, term_literal, is_at_most, is_below, AreTrueLiterals}
-use Rattle.nz_spec.specs.Decide.{asserted_terms}
+use Rattle.nz_spec.specs.Literal.{Literal, term_literal, is_at_most, is_below, are_same_sign, is_literal_true, AreTrueLiterals}
 use Rattle.nz_spec.specs.Model.{IsModel}
 use Rattle.nz_spec.specs.Live.{Reason, units_spent, State, Item, declared, defined, asserted, sought, wished, cost_of, items_of, item_terms, assertions_in, assertions_of}
 use Rattle.nz_spec.specs.Work.{DecisionEntry, LearnedEntry, PivotEntry, WorkLine, UnitLine, NoteLine, WorkList, is_unit, unit_count, IsSpent}
@@ -18,8 +18,8 @@ use Rattle.nz_spec.specs.Notes.{Note, atom_note, form_note, told_note, Site, ter
 use Rattle.nz_spec.specs.Legal.{Task, Search, at_first, no_point, IsTabled, IsAtom, MayName, MayTell, MayLearn, MayFollow, Lead, after_line, after_lines, AreLegal, IsSpentLegally}
 use Rattle.nz_spec.specs.Places.{IsOperationAt, IsStoppedLegally}
 use Rattle.nz_spec.specs.Reply.{unknown, Cause}
-use Rattle.nz_spec.specs.Right.{Context, task_of, IsRightCheck}
-use Rattle.nz_sort.specs.Live.{Standing, IsLive}
+use Rattle.nz_spec.specs.Right.{Context, normals_in, task_of, IsRightCheck}
+use Rattle.nz_sort.specs.Live.{Standing, asserted_by, IsLive}
 use Rattle.nz_log.specs.declared.note.Note as own
 use Rattle.nz_log.specs.declared.place.Place as own_place
 use Rattle.nz_log.specs.declared.decide.Verdict.{Verdict}
@@ -27,18 +27,22 @@ use Rattle.nz_log.specs.declared.stop.Stop.{Stop}
 use Rattle.nz_log.specs.declared.stop.Stop.TheVariants.{Wide, Spent, Memory}
 use Rattle.nz_log.specs.Notes.{note_of, noted_line, noted_list, AreNotedWithin}
 use Rattle.nz_log.specs.Places.{OnWide, IsSiteWithin, place_of}
+use Rattle.nz_log.specs.declared.term_lits.TermLit.{TermLit}
+use Rattle.nz_log.specs.TermLits.{literal_of}
 use Rattle.nz_log.specs.Verdicts.{OnSpent, task_in}
 use Rattle.nz_reply.specs.Replies.{work_of}
 use Rattle.nz_reply.specs.declared.reply.WorkDone.{WorkDone}
+use Rattle.nz_session.specs.Assumed.{IsLitOf, AreLitsOf}
 use Rattle.nz_session.specs.Undecided.{IfUndecided, IsUndecided, reason_by, cause_by}
 use Rattle.nz_session.proofs.Assigning.{normals_of_model}
 
 -- ---- Questions of which one asks what the other does
 
--- The models of the second question's assertions are models of the first's, both assume the same, and the second lists what the first does.
+-- The models of the second question's assertions are models of the first's, what the second assumes is true only where what the first does is, and
+-- the second lists what the first does.
 record AsksThat (q r : Task) : Type 0 where
   pub models : (a : Assignment) → IsModel r.asserted [] a → IsModel q.asserted [] a
-  pub assumed : r.assumed ≡ q.assumed
+  pub assumed : (a : Assignment) → AreTrueLiterals a r.assumed → AreTrueLiterals a q.assumed
   pub listed : (t : Term) → Contains q.listed t → Contains r.listed t
 
 module _ (q r : Task) (h : AsksThat q r) where
@@ -59,14 +63,14 @@ module _ (q r : Task) (h : AsksThat q r) where
       let told : MayTell r s atom sign = record {
         named = m.0.named;
         new = m.0.new;
-        follows = λ a model assumed decided. m.0.follows a (h.models a model) (subst (AreTrueLiterals a) h.assumed assumed) decided;
+        follows = λ a model assumed decided. m.0.follows a (h.models a model) (h.assumed a assumed) decided;
       } in
       (told, m.1)
   may_follow_too s x (UnitLine (DecisionEntry atom sign)) y m = m
   may_follow_too s x (UnitLine (LearnedEntry keep clause)) y m =
       let learned : MayLearn r s keep clause = record {
         fewer = m.0.fewer;
-        dead_end = λ a model assumed decided. m.0.dead_end a (h.models a model) (subst (AreTrueLiterals a) h.assumed assumed) decided;
+        dead_end = λ a model assumed decided. m.0.dead_end a (h.models a model) (h.assumed a assumed) decided;
         follows = λ a model. m.0.follows a (h.models a model);
         named = m.0.named;
         once = m.0.once;
@@ -103,35 +107,73 @@ module _ (q r : Task) (h : AsksThat q r) where
 
 -- ---- What a check asks
 
-pub one_level : (ns : List Node) (levels : List (List ℕ)) (ids : List ℕ) → levels ≡ ids ∷ [] → asserted_terms ns levels ≡ map (term_in ns) ids
-one_level ns levels ids e = ap (asserted_terms ns) e ∙ ap (map (term_in ns)) (append-nil ids)
-
 -- what assertions are made of is among what the live items are made of
-asserted_listed : (items : List Item) (t : Term) → Contains (flat_map listing_order (map normal_of (assertions_in items) ++ [])) t
-    → Contains (flat_map listing_order (flat_map item_terms items ++ [])) t
+asserted_listed : (items : List Item) (t : Term) → Contains (flat_map listing_order (map normal_of (assertions_in items))) t → Contains (flat_map listing_order (flat_map item_terms items)) t
 asserted_listed [] t h = h
-asserted_listed (declared c ∷ items) t h =
-    Contains-append_right (listing_order (apply (constant c) no_terms)) (flat_map listing_order (flat_map item_terms items ++ [])) t (asserted_listed items t h)
+asserted_listed (declared c ∷ items) t h = Contains-append_right (listing_order (apply (constant c) no_terms)) (flat_map listing_order (flat_map item_terms items)) t (asserted_listed items t h)
 asserted_listed (defined d ∷ items) t h = asserted_listed items t h
 asserted_listed (asserted u ∷ items) t h =
     let first = listing_order (normal_of u) in
-    let others = flat_map listing_order (flat_map item_terms items ++ []) in
-    elim (Contains-append_cases first (flat_map listing_order (map normal_of (assertions_in items) ++ [])) t h) [
+    let others = flat_map listing_order (flat_map item_terms items) in
+    elim (Contains-append_cases first (flat_map listing_order (map normal_of (assertions_in items))) t h) [
       | inl here ↦ Contains-append_left first others t here
       | inr later ↦ Contains-append_right first others t (asserted_listed items t later)
     ]
-asserted_listed (sought g ∷ items) t h =
-    Contains-append_right (listing_order (normal_of g.term)) (flat_map listing_order (flat_map item_terms items ++ [])) t (asserted_listed items t h)
-asserted_listed (wished w ∷ items) t h =
-    Contains-append_right (listing_order (normal_of (cost_of w))) (flat_map listing_order (flat_map item_terms items ++ [])) t (asserted_listed items t h)
+asserted_listed (sought g ∷ items) t h = Contains-append_right (listing_order (normal_of g.term)) (flat_map listing_order (flat_map item_terms items)) t (asserted_listed items t h)
+asserted_listed (wished w ∷ items) t h = Contains-append_right (listing_order (normal_of (cost_of w))) (flat_map listing_order (flat_map item_terms items)) t (asserted_listed items t h)
 
-asks_that : NormalKeepsValue → (ns : List Node) (l : Standing) (s : State) → IsLive ns l s → AsksThat (task_in ns (l.asserted ∷ []) []) (task_of s [])
-asks_that keeps ns l s h =
-    let same : asserted_terms ns (l.asserted ∷ []) ≡ map normal_of (assertions_of s) = one_level ns (l.asserted ∷ []) l.asserted refl ∙ h.terms in
+-- beside the same assumed terms
+all_listed : (items : List Item) (us : List Term) (t : Term) → Contains (flat_map listing_order (map normal_of (assertions_in items) ++ us)) t → Contains (flat_map listing_order (flat_map item_terms items ++ us)) t
+all_listed items us t h =
+    let one = flat_map listing_order (map normal_of (assertions_in items)) in
+    let all = flat_map listing_order (flat_map item_terms items) in
+    let others = flat_map listing_order us in
+    subst (λ ts. Contains ts t) (sym (flat_map-append listing_order (flat_map item_terms items) us))
+    (elim (Contains-append_cases one others t (subst (λ ts. Contains ts t) (flat_map-append listing_order (map normal_of (assertions_in items)) us) h)) [
+      | inl here ↦ Contains-append_left all others t (asserted_listed items t here)
+      | inr later ↦ Contains-append_right all others t later
+    ])
+
+-- a literal by its number says what the literal says
+lit_true : NormalKeepsValue → (ns : List Node) (a : Assignment) (l : TermLit) (m : Literal) → IsLitOf ns l m → is_literal_true a (literal_of ns l) ≡ is_literal_true a m
+lit_true keeps ns a l (term_literal t sign) h =
+    ap (λ u. are_same_sign l.sign (is_true (value_of a u))) h.0 ∙ ap (λ v. are_same_sign l.sign (is_true v)) (keeps a t) ∙ ap (λ b. are_same_sign b (is_true (value_of a t))) h.1
+lit_true keeps ns a l (is_at_most ps b) h = absurd h
+lit_true keeps ns a l (is_below ps b) h = absurd h
+
+pub lits_true : NormalKeepsValue → (ns : List Node) (a : Assignment) (ls : List TermLit) (ms : List Literal) → AreLitsOf ns ls ms → AreTrueLiterals a ms → AreTrueLiterals a (map (literal_of ns) ls)
+lits_true keeps ns a [] [] h k = tt
+lits_true keeps ns a [] (m ∷ ms) h k = absurd h
+lits_true keeps ns a (l ∷ ls) [] h k = absurd h
+lits_true keeps ns a (l ∷ ls) (m ∷ ms) h k = (subst IsTrue (sym (lit_true keeps ns a l m h.0)) k.0, lits_true keeps ns a ls ms h.1 k.1)
+
+pub literals_true : NormalKeepsValue → (ns : List Node) (a : Assignment) (ls : List TermLit) (ms : List Literal) → AreLitsOf ns ls ms → AreTrueLiterals a (map (literal_of ns) ls) → AreTrueLiterals a ms
+literals_true keeps ns a [] [] h k = tt
+literals_true keeps ns a [] (m ∷ ms) h k = absurd h
+literals_true keeps ns a (l ∷ ls) [] h k = absurd h
+literals_true keeps ns a (l ∷ ls) (m ∷ ms) h k = (subst IsTrue (lit_true keeps ns a l m h.0) k.0, literals_true keeps ns a ls ms h.1 k.1)
+
+lit_term : (ns : List Node) (l : TermLit) (m : Literal) → IsLitOf ns l m → term_in ns l.term ∷ [] ≡ normals_in m
+lit_term ns l (term_literal t sign) h = ap (λ u. u ∷ []) h.0
+lit_term ns l (is_at_most ps b) h = absurd h
+lit_term ns l (is_below ps b) h = absurd h
+
+lit_terms : (ns : List Node) (ls : List TermLit) (ms : List Literal) → AreLitsOf ns ls ms → map (λ (l : TermLit). term_in ns l.term) ls ≡ flat_map normals_in ms
+lit_terms ns [] [] h = refl
+lit_terms ns [] (m ∷ ms) h = absurd h
+lit_terms ns (l ∷ ls) [] h = absurd h
+lit_terms ns (l ∷ ls) (m ∷ ms) h = ap (λ ts. ts ++ map (λ (k : TermLit). term_in ns k.term) ls) (lit_term ns l m h.0) ∙ ap (λ ts. normals_in m ++ ts) (lit_terms ns ls ms h.1)
+
+asks_that : NormalKeepsValue → (ns : List Node) (l : Standing) (s : State) (ls : List TermLit) (ms : List Literal) → IsLive ns l s → AreLitsOf ns ls ms
+    → AsksThat (task_in ns (asserted_by l) ls) (task_of s ms)
+asks_that keeps ns l s ls ms h k =
     record {
-      models = λ a m. subst (λ ts. IsModel ts [] a) (sym same) (normals_of_model keeps a (assertions_of s) [] m);
-      assumed = refl;
-      listed = λ t c. asserted_listed (items_of s.levels) t (subst (λ ts. Contains (flat_map listing_order (ts ++ [])) t) same c);
+      models = λ a m. subst (λ ts. IsModel ts [] a) (sym h.terms) (normals_of_model keeps a (assertions_of s) [] m);
+      assumed = λ a true_ms. lits_true keeps ns a ls ms k true_ms;
+      listed = λ t c.
+          subst (λ us. Contains (flat_map listing_order (flat_map item_terms (items_of s.levels) ++ us)) t) (lit_terms ns ls ms k)
+          (all_listed (items_of s.levels) (map (λ (i : TermLit). term_in ns i.term) ls) t
+          (subst (λ ts. Contains (flat_map listing_order (ts ++ map (λ (i : TermLit). term_in ns i.term) ls)) t) h.terms c));
     }
 
 -- ---- Lists with their notes by terms
@@ -148,42 +190,42 @@ same_units ns (NoteLine note ∷ lines) =
 
 -- ---- A search that wasn't decided
 
--- of the assertions in one level
-pub undecided_in_one_level : (ns : List Node) (levels : List (List ℕ)) (ids : List ℕ) (limit : ℕ) (work : WorkList own.Note) (r : Result Verdict Stop) → levels ≡ ids ∷ []
-    → work.limit ≡ limit → AreLegal (task_in ns levels []) (noted_list ns work).lines → AreNotedWithin ns work.lines → IfErr r (λ s. OnSpent s (IsSpent work))
-    → IfErr r (λ s. OnWide s (λ p. IsStoppedLegally (task_in ns levels []) (noted_list ns work) (place_of ns p))) → IfErr r (λ s. OnWide s (λ p. IsSiteWithin ns p.site))
-    → IfErr r (λ s. IfUndecided s (IsUndecided ns ids limit work))
-undecided_in_one_level ns levels ids limit work (Ok v) e limited legal noted spent stopped sited = tt
-undecided_in_one_level ns levels ids limit work (Err Memory) e limited legal noted spent stopped sited = tt
-undecided_in_one_level ns levels ids limit work (Err Spent) e limited legal noted spent stopped sited =
+-- of what the engine was told
+pub undecided_in_levels : (ns : List Node) (levels told : List (List ℕ)) (ls : List TermLit) (limit : ℕ) (work : WorkList own.Note) (r : Result Verdict Stop) → levels ≡ told
+    → work.limit ≡ limit → AreLegal (task_in ns levels ls) (noted_list ns work).lines → AreNotedWithin ns work.lines → IfErr r (λ s. OnSpent s (IsSpent work))
+    → IfErr r (λ s. OnWide s (λ p. IsStoppedLegally (task_in ns levels ls) (noted_list ns work) (place_of ns p))) → IfErr r (λ s. OnWide s (λ p. IsSiteWithin ns p.site))
+    → IfErr r (λ s. IfUndecided s (IsUndecided ns told ls limit work))
+undecided_in_levels ns levels told ls limit work (Ok v) e limited legal noted spent stopped sited = tt
+undecided_in_levels ns levels told ls limit work (Err Memory) e limited legal noted spent stopped sited = tt
+undecided_in_levels ns levels told ls limit work (Err Spent) e limited legal noted spent stopped sited =
     record {
       limited = limited;
-      ends = record { spent = same_units ns work.lines ∙ spent; legal = subst (λ ls. AreLegal (task_in ns ls []) (noted_list ns work).lines) e legal };
+      ends = record { spent = same_units ns work.lines ∙ spent; legal = subst (λ ks. AreLegal (task_in ns ks ls) (noted_list ns work).lines) e legal };
       noted = noted;
       sited = tt;
     }
-undecided_in_one_level ns levels ids limit work (Err (Wide place)) e limited legal noted spent stopped sited =
+undecided_in_levels ns levels told ls limit work (Err (Wide place)) e limited legal noted spent stopped sited =
     record {
       limited = limited;
-      ends = subst (λ ls. IsStoppedLegally (task_in ns ls []) (noted_list ns work) (place_of ns place)) e stopped;
+      ends = subst (λ ks. IsStoppedLegally (task_in ns ks ls) (noted_list ns work) (place_of ns place)) e stopped;
       noted = noted;
       sited = sited;
     }
 
-module _ (keeps : NormalKeepsValue) (ns : List Node) (l : Standing) (c : Context) (live : IsLive ns l c.state) (limit : ℕ) (bounded : limit ≡ c.limit)
-    (work : WorkList own.Note) (done : WorkDone) (lines : done.work ≡ work.lines) (limited : done.limit ≡ limit) where
+module _ (keeps : NormalKeepsValue) (ns : List Node) (l : Standing) (c : Context) (live : IsLive ns l c.state) (ls : List TermLit) (ms : List Literal) (are : AreLitsOf ns ls ms)
+    (limit : ℕ) (bounded : limit ≡ c.limit) (work : WorkList own.Note) (done : WorkDone) (lines : done.work ≡ work.lines) (limited : done.limit ≡ limit) where
   -- the work that is told is that of the search
   same_work : work.limit ≡ limit → noted_list ns work ≡ work_of ns done
   same_work e = λ i. let w : WorkList Note = record { lines = map (noted_line ns) (sym lines i); limit = (e ∙ sym limited) i } in w
 
   -- so the answer that a check of the live state wasn't decided is right
-  pub right_undecided : (place : Option own_place.Place) (r : Reason) (cause : Cause) → IsUndecided ns l.asserted limit work place → r ≡ reason_by limit place
-      → cause ≡ cause_by ns done place → IsRightCheck c [] (unknown r) cause
+  pub right_undecided : (place : Option own_place.Place) (r : Reason) (cause : Cause) → IsUndecided ns (asserted_by l) ls limit work place → r ≡ reason_by limit place
+      → cause ≡ cause_by ns done place → IsRightCheck c ms (unknown r) cause
   right_undecided None r cause u e f =
-      let legal = spent_too (task_in ns (l.asserted ∷ []) []) (task_of c.state []) (asks_that keeps ns l c.state live) (noted_list ns work) u.ends in
-      subst (IsRightCheck c [] (unknown r)) (sym f)
-      (e ∙ ap units_spent bounded, limited ∙ bounded, subst (IsSpentLegally (task_of c.state [])) (same_work u.limited) legal)
+      let legal = spent_too (task_in ns (asserted_by l) ls) (task_of c.state ms) (asks_that keeps ns l c.state ls ms live are) (noted_list ns work) u.ends in
+      subst (IsRightCheck c ms (unknown r)) (sym f)
+      (e ∙ ap units_spent bounded, limited ∙ bounded, subst (IsSpentLegally (task_of c.state ms)) (same_work u.limited) legal)
   right_undecided (Some place) r cause u e f =
-      let legal = stopped_too (task_in ns (l.asserted ∷ []) []) (task_of c.state []) (asks_that keeps ns l c.state live) (noted_list ns work) (place_of ns place) u.ends in
-      subst (IsRightCheck c [] (unknown r)) (sym f)
-      (e, limited ∙ bounded, subst (λ w. IsStoppedLegally (task_of c.state []) w (place_of ns place)) (same_work u.limited) legal)
+      let legal = stopped_too (task_in ns (asserted_by l) ls) (task_of c.state ms) (asks_that keeps ns l c.state ls ms live are) (noted_list ns work) (place_of ns place) u.ends in
+      subst (IsRightCheck c ms (unknown r)) (sym f)
+      (e, limited ∙ bounded, subst (λ w. IsStoppedLegally (task_of c.state ms) w (place_of ns place)) (same_work u.limited) legal)

@@ -1,9 +1,12 @@
+pub mod Acting
 pub mod Answering
 pub mod Assigning
 pub mod Checking
+pub mod Denying
 pub mod Feeding
 pub mod Fronts
 pub mod LegalWork
 pub mod Serving
+pub mod Telling
 pub mod ValuesKept
 pub mod Valuing

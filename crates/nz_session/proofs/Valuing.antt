@@ -34,7 +34,7 @@ use Rattle.nz_session.specs.Desk.{last_of, AreValuesOf, KeepsValues, Holds, IsAn
 use Rattle.nz_session.specs.Valued.{AreShown, numbers_typed, outcome_shown, outcomes_shown, terms_shown}
 use Rattle.nz_session.specs.declared.desk.Desk.{Desk}
 use Rattle.nz_session.specs.declared.desk.Answer.{Answer}
-use Rattle.nz_session.specs.declared.desk.FoundModel.{FoundModel}
+use Rattle.nz_session.specs.declared.models.FoundModel.{FoundModel}
 use Rattle.nz_session.specs.declared.desk.LastAnswer.TheVariants.{Model}
 use Rattle.nz_session.proofs.Answering.{plainly, holds_next, told_answer}
 

@@ -13,3 +13,11 @@ bound_at ns ps (Some n) = map (λ (c : Constant). let b : Binding = record { con
 -- so for each of these numbers
 abbrev pub completed : List Node → List (ℕ × Value) → List ℕ → List Binding
 completed ns ps ids = flat_map (λ (i : ℕ). bound_at ns ps (slice_get ns i)) ids
+
+-- the number of a node that is a constant, with the same
+abbrev pub valued_at : List Node → List (ℕ × Value) → ℕ → Option Node → List (ℕ × Value)
+valued_at ns ps i None = []
+valued_at ns ps i (Some n) = map (λ (c : Constant). (i, assignment_by ns ps c)) (constants_of_head n.head)
+
+abbrev pub completed_values : List Node → List (ℕ × Value) → List ℕ → List (ℕ × Value)
+completed_values ns ps ids = flat_map (λ (i : ℕ). valued_at ns ps i (slice_get ns i)) ids

@@ -1,21 +1,22 @@
 -- What a desk holds, and what its answers are.
-use Rattle.std.specs.Prelude.{◌≡◌, ℕ, ◌<◌, true, false, List, length, map, option_map, Option, Some, ⊤}
+use Rattle.std.specs.Prelude.{◌≡◌, ℕ, ◌<◌, Bool, true, false, List, length, map, option_map, Option, Some, ⊤}
 use Rattle.std.specs.List.{AllByRecursion}
 use Rattle.nz_spec.specs.Text.{What}
 use Rattle.nz_spec.specs.Term.{Term, Value}
-use Rattle.nz_spec.specs.Table.{Node, assignment_by, term_in}
-use Rattle.nz_spec.specs.Decide.{IsFrontOfTable}
+use Rattle.nz_spec.specs.Table.{Node, assignment_by}
+use Rattle.nz_spec.specs.Decide.{IsFrontOfTable, asserted_terms}
 use Rattle.nz_spec.specs.Model.{Binding, assignment_of}
 use Rattle.nz_spec.specs.Live as live_state
 use Rattle.nz_spec.specs.Live.{State, constants_of}
 use Rattle.nz_spec.specs.Sorts.{IsSortedState}
-use Rattle.nz_spec.specs.Right.{Context, IsRight, IsExit, context_after}
-use Rattle.nz_sort.specs.Live.{IsLive}
+use Rattle.nz_spec.specs.Right.{Context, IsRight, IsExit, context_after, done}
+use Rattle.nz_sort.specs.Live.{IsLive, asserted_by}
 use Rattle.nz_reply.specs.Reasons.{reason_of}
 use Rattle.nz_reply.specs.Replies.{reply_of, cause_of, IsCauseWithin}
 use Rattle.nz_session.specs.Told.{IsTold}
 use Rattle.nz_session.specs.declared.desk.Desk.{Desk}
 use Rattle.nz_session.specs.declared.desk.Answer.{Answer}
+use Rattle.nz_reply.specs.declared.reply.Cause.TheVariants as causes
 use Rattle.nz_session.specs.declared.desk.LastAnswer.{LastAnswer}
 use Rattle.nz_session.specs.declared.desk.LastAnswer.TheVariants.{Model, Refutation, Undecided}
 
@@ -25,7 +26,7 @@ table_of desk = desk.terms
 
 -- the terms that are asserted
 abbrev pub asserted_in : {E : Type 0} → Desk E → List Term
-asserted_in desk = map (term_in desk.terms) desk.live.asserted
+asserted_in desk = asserted_terms desk.terms (asserted_by desk.live)
 
 -- what the last answer was
 abbrev pub last_of : LastAnswer → live_state.LastAnswer
@@ -52,7 +53,7 @@ KeepsValues ns last = ⊤
 pub record Holds {E : Type 0} (levels : E → List (List ℕ)) (table : E → List Node) (desk : Desk E) (c : Context) : Type 0 where
   pub live : IsLive desk.terms desk.live c.state
   pub sorted : IsSortedState c.state
-  pub told : IsTold (levels desk.engine) desk.told desk.live.asserted
+  pub told : IsTold (levels desk.engine) desk.told (asserted_by desk.live)
   pub front : IsFrontOfTable (table desk.engine) desk.terms
   pub last : option_map last_of desk.last ≡ c.state.last
   pub bound : BindsConstants c.state.last c.state
@@ -67,3 +68,8 @@ pub record IsAnswer {E : Type 0} (levels : E → List (List ℕ)) (table : E →
   pub holds : Holds levels table desk (context_after c what (reply_of what answer.reply))
   pub exits : answer.exits ≡ true → IsExit c.state what (reply_of what answer.reply)
   pub stays : answer.exits ≡ false → IsExit c.state what (reply_of what answer.reply) → ⊥
+
+-- The answer goes on, and tells success or nothing, as this option says.
+pub record Succeeds (prints_success : Bool) (answer : Answer) : Type 0 where
+  pub plain : answer ≡ record { reply = answer.reply; cause = causes.Plain; exits = false }
+  pub tells : (what : What) → reply_of what answer.reply ≡ done (record { prints_success = prints_success })

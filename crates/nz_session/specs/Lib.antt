@@ -1,3 +1,4 @@
+pub mod Assumed
 pub mod Completed
 pub mod Desk
 pub mod Serve

@@ -1,49 +1,55 @@
 //! The desk: what a command acts on, and the answer to it.
-ghost use Rattle.std.specs.Prelude.{◌≡◌, ◌<◌, List, [], ◌∷◌, ◌++◌, length, map, slice_get, All, Some, IfOk, IfErr, IfSome, OnOk, false};
+ghost use Rattle.std.specs.Prelude.{◌≡◌, List, [], length, map, All, Some, IfOk, IfErr, IfSome, false};
 ghost use Rattle.nz_sexpr.specs.View.{view, what_view};
 ghost use Rattle.nz_spec.specs.Text as text;
 ghost use Rattle.nz_spec.specs.Text.{intact};
 ghost use Rattle.nz_spec.specs.Term as term;
-ghost use Rattle.nz_spec.specs.Decide.{IsFrontOfTable, AreModelValues};
+ghost use Rattle.nz_spec.specs.Literal.{Literal, AreTrueLiterals};
+ghost use Rattle.nz_spec.specs.Decide.{IsFrontOfTable, AreModelValues, asserted_numbers, asserted_terms};
+ghost use Rattle.nz_spec.specs.Legal.{IsDeadEnd, at_first};
 ghost use Rattle.nz_spec.specs.Model.{IsUnsatisfiable};
-ghost use Rattle.nz_spec.specs.Live.{items_of, items_hold_integers};
+ghost use Rattle.nz_spec.specs.Live.{assertions_of, items_of, items_hold_integers};
 ghost use Rattle.nz_spec.specs.Request.{Request};
 ghost use Rattle.nz_spec.specs.Parse.{request_of};
 ghost use Rattle.nz_spec.specs.Command.{Command};
 ghost use Rattle.nz_spec.specs.Right.{Context, done as done_by};
 ghost use Rattle.nz_spec.specs.Order.{HasCompanions};
-ghost use Rattle.nz_spec.specs.Table.{Node, term_in};
-ghost use Rattle.nz_spec.specs.Taken.{IsTakenBoolean};
+ghost use Rattle.nz_spec.specs.Table.{Node, assignment_by};
+ghost use Rattle.nz_log.specs.declared.term_lits.TermLit.{TermLit};
 ghost use Rattle.nz_log.specs.Notes.{AreNotedWithin};
 ghost use Rattle.nz_log.specs.Places.{IsSiteWithin};
-ghost use Rattle.nz_log.specs.Verdicts.{IfSat, OnUnsat};
+ghost use Rattle.nz_log.specs.TermLits.{AreConsistent, literal_of};
+ghost use Rattle.nz_log.specs.Verdicts.{IfSat, OnUnsat, task_in};
 ghost use Rattle.nz_reply.specs.Infos.{info_of};
 ghost use Rattle.nz_reply.specs.Reasons.{reason_of};
 ghost use Rattle.nz_reply.specs.Replies.{IsCauseWithin, cause_of as meant, reply_of};
 ghost use Rattle.nz_sort.specs.Acts.{info_meaning};
-ghost use Rattle.nz_sort.specs.Items.{table_numbers};
-ghost use Rattle.nz_sort.specs.Live.{AsksValues};
+ghost use Rattle.nz_sort.specs.Assuming.{AreAssumed};
+ghost use Rattle.nz_sort.specs.Live.{AsksValues, asserted_by};
 ghost use Rattle.nz_elaborate.specs.Typed.{AreTyped};
-ghost use Rattle.nz_session.specs.Completed.{bound_at, completed};
+ghost use Rattle.nz_session.specs.Assumed.{AreLitsOf, IsTakenAt};
 ghost use Rattle.nz_session.specs.Told.{IsTold};
 ghost use Rattle.nz_session.specs.Undecided.{IfUndecided, IsUndecided, cause_by, reason_by};
 
+use crate::assumed::{are_consistent, literals_of};
+use crate::models::{FoundModel, found_model};
+use crate::told::{Told, pop_told, tell};
 use crate::values::values_shown;
 use nz_base::{Error, Memory, Work};
 use nz_elaborate::Typed;
-use nz_log::{Decide, Note, Place, Stop, Verdict};
-use nz_reply::{Binding, Bindings, Cause, Info, Reason, Reply, Stopped, WorkDone};
+use nz_log::{Decide, Note, Place, Stop, TermLit, Verdict};
+use nz_reply::{Cause, Info, Reason, Reply, Stopped, WorkDone};
 use nz_sexpr::{Tree, What};
-use nz_sort::{Accepted, Act, Info as InfoAsked, Live};
+use nz_sort::{Act, Assumed, Info as InfoAsked, Live};
 use nz_spec::deciding::normal_terms_are_taken;
 use nz_spec::script::argument_tells;
-use nz_spec::table::{assigns_by_number, term_of_node};
+use nz_spec::table::term_of_node;
 use nz_spec::term::{
-    decimals_are_numbers, normal_keeps_value, normal_stays_sorted, numerals_are_whole,
+    constants_tell_values, decimals_are_numbers, normal_keeps_value, normal_stays_sorted,
+    numerals_are_whole,
 };
-use nz_spec::transcript::states_stay_sorted;
-use nz_term::{Assign, Head, TermId, Terms, known_table};
-use nz_truth::default_value;
+use nz_spec::transcript::{assertions_are_over, assumptions_are_taken, states_stay_sorted};
+use nz_term::{Assign, Terms, known_table};
 use std::alloc::{AllocError, Global};
 use std::rc::Rc;
 
@@ -63,8 +69,7 @@ pub struct Desk<E: Decide> {
     terms: Terms,
     live: Live,
     engine: E,
-    /// How many assertions the engine has been told, once it has a level for them.
-    told: Option<usize>,
+    told: Told,
     work: Work<Note>,
     limit: u64,
     prints_success: bool,
@@ -79,21 +84,13 @@ pub enum LastAnswer {
     Undecided(Reason),
 }
 
-/// A model that was found.
-#[derive(Debug, Drop)]
-pub struct FoundModel {
-    /// What it binds the live constants to, in their order; one list, shared with the replies that hold the model.
-    bindings: Rc<Bindings>,
-    /// The values of the constants by their numbers, for the terms that are asked for.
-    values: Assign,
-}
-
 impl<E: Decide> Desk<E> {
     ghost use Rattle.nz_spec.specs.Tree as script;
     ghost use Rattle.nz_spec.specs.Right.{beginning};
     ghost use Rattle.nz_spec.specs.Command.{accepted, check_sat, get_model, get_reason};
     ghost use Rattle.nz_spec.specs.Script.{outcome_of};
-    ghost use Rattle.nz_session.specs.Desk.{Holds, IsAnswer, asserted_in, table_of};
+    ghost use Rattle.nz_session.specs.Desk.{Holds, IsAnswer, Succeeds, asserted_in, table_of};
+    ghost use Rattle.nz_session.specs.Told.{IsToldNothing};
 
     /// The desk of the start, over an engine that was told nothing yet, with this limit of units for each check.
     pub fn new(alloc: Global, engine: E, limit: u64) -> Result<Desk<E>, Memory>
@@ -106,7 +103,7 @@ impl<E: Decide> Desk<E> {
             terms: Terms::new(alloc)?,
             live: Live::new(alloc)?,
             engine,
-            told: None,
+            told: Told::NOTHING,
             work: Work::new(alloc)?,
             limit,
             prints_success: false,
@@ -135,14 +132,25 @@ impl<E: Decide> Desk<E> {
         ensures front { IsFrontOfTable (table_of self.old) (table_of self.new) }
     {
         argument_tells();
+        assumptions_are_taken();
         states_stay_sorted();
         match self.live.command(&mut self.terms, tree) {
             Err(refusal) => said(Reply::Error(refusal)),
-            Ok(Act::Changed) => {
-                self.last = None;
-                said(done(self.prints_success))
+            Ok(Act::Changed) => self.changed(),
+            Ok(Act::Popped) => {
+                pop_told(&mut self.engine, &mut self.told, &self.live);
+                self.changed()
             }
-            Ok(Act::Check) => self.check(),
+            Ok(Act::Cleared) => {
+                self.forget();
+                self.succeeded()
+            }
+            Ok(Act::Reset) => {
+                self.forget();
+                self.prints_success = false;
+                self.succeeded()
+            }
+            Ok(Act::Check(assumed)) => self.check_under(&assumed),
             Ok(Act::ShowModel) => self.show_model(),
             Ok(Act::ShowValues(asked)) => self.show_values(&asked),
             Ok(Act::ShowReason) => self.show_reason(),
@@ -150,9 +158,9 @@ impl<E: Decide> Desk<E> {
             Ok(Act::ShowLevels) => said(Reply::Levels(self.live.levels())),
             Ok(Act::PrintSuccess(prints)) => {
                 self.prints_success = prints;
-                said(done(prints))
+                self.succeeded()
             }
-            Ok(Act::Nothing) => said(done(self.prints_success)),
+            Ok(Act::Nothing) => self.succeeded(),
             Ok(Act::Echo) => said(Reply::Echo),
             Ok(Act::Leave) => Answer {
                 reply: done(self.prints_success),
@@ -163,10 +171,60 @@ impl<E: Decide> Desk<E> {
         }
     }
 
-    /// The answer to `check-sat`.
-    fn check(&mut self) -> Answer
-        requires { (c : Context) × Holds E.levels E.table self.old c × (items_hold_integers (items_of c.state.levels) ≡ false) }
-        ensures right { (c : Context) (tree : script.Tree) → Holds E.levels E.table self.old c → outcome_of c.state tree ≡ accepted (check_sat []) → IsAnswer E.levels E.table c (intact tree) result self.new }
+    /// The answer to what has nothing to tell.
+    fn succeeded(&self) -> Answer
+        ensures succeeds { Succeeds self.now.prints_success result }
+    {
+        said(done(self.prints_success))
+    }
+
+    /// The answer to what changed what is live: the last answer has ended.
+    fn changed(&mut self) -> Answer
+        ensures rest { self.new ≡ record self.old { last = None } }
+        ensures succeeds { Succeeds self.old.prints_success result }
+    {
+        self.last = None;
+        self.succeeded()
+    }
+
+    /// Forgets the last answer, and all that the engine was told. Takes no memory.
+    fn forget(&mut self)
+        requires told { self.old.told.levels ≡ length (E.levels self.old.engine) }
+        ensures told { IsToldNothing (E.levels self.new.engine) self.new.told }
+        ensures table { E.table self.new.engine ≡ E.table self.old.engine }
+        ensures rest { self.new ≡ record self.old { engine = self.new.engine; told = self.new.told; last = None } }
+    {
+        self.engine.pop(self.told.levels);
+        self.told = Told::NOTHING;
+        self.last = None;
+    }
+
+    // ---- Checks
+
+    /// The answer to a check under what is assumed. Where one assumption denies another nothing is searched.
+    fn check_under(&mut self, assumed: &[Assumed]) -> Answer
+        requires holds { (c : Context) × Holds E.levels E.table self.old c × (items_hold_integers (items_of c.state.levels) ≡ false) }
+        requires taken { All (λ x. IsTakenAt self.old.terms x.term) assumed.now }
+        ensures right { (c : Context) (tree : script.Tree) (ls : List Literal) → Holds E.levels E.table self.old c → outcome_of c.state tree ≡ accepted (check_sat ls) → AreAssumed self.old.terms assumed.now ls → IsAnswer E.levels E.table c (intact tree) result self.new }
+        ensures terms { table_of self.new ≡ table_of self.old }
+    {
+        normal_keeps_value();
+        let Ok(literals) = literals_of(self.alloc, assumed) else {
+            return said(Reply::Error(Error::OutOfMemory));
+        };
+        match are_consistent(self.alloc, &literals) {
+            Ok(true) => self.check(&literals),
+            Ok(false) => self.refuted(),
+            Err(Memory) => said(Reply::Error(Error::OutOfMemory)),
+        }
+    }
+
+    /// The answer to a check under literals, none of which is the negation of another.
+    fn check(&mut self, assumed: &[TermLit]) -> Answer
+        requires holds { (c : Context) × Holds E.levels E.table self.old c × (items_hold_integers (items_of c.state.levels) ≡ false) }
+        requires taken { All (λ l. IsTakenAt self.old.terms l.term) assumed.now }
+        requires consistent { AreConsistent assumed.now }
+        ensures right { (c : Context) (tree : script.Tree) (ls : List Literal) → Holds E.levels E.table self.old c → outcome_of c.state tree ≡ accepted (check_sat ls) → AreLitsOf self.old.terms assumed.now ls → IsAnswer E.levels E.table c (intact tree) result self.new }
         ensures terms { table_of self.new ≡ table_of self.old }
     {
         normal_keeps_value();
@@ -175,26 +233,33 @@ impl<E: Decide> Desk<E> {
         let decided = decide(
             &mut self.engine,
             &mut self.told,
-            self.live.assertions(),
+            &self.live,
             &self.terms,
+            assumed,
             &mut self.work,
             self.limit,
         );
         match decided {
             Ok(Verdict::Sat(assign)) => self.found(assign),
-            Ok(Verdict::Unsat(_)) => {
-                self.last = Some(LastAnswer::Refutation);
-                said(Reply::Unsat)
-            }
+            Ok(Verdict::Unsat(_)) => self.refuted(),
             Err(Stop::Spent) => self.undecided(None),
             Err(Stop::Wide(place)) => self.undecided(Some(place)),
             Err(Stop::Memory) => said(Reply::Error(Error::OutOfMemory)),
         }
     }
 
+    /// The answer where there is no model.
+    fn refuted(&mut self) -> Answer
+        ensures right { (c : Context) (tree : script.Tree) (ls : List Literal) → Holds E.levels E.table self.old c → outcome_of c.state tree ≡ accepted (check_sat ls) → IsUnsatisfiable (assertions_of c.state) ls → IsAnswer E.levels E.table c (intact tree) result self.new }
+        ensures terms { table_of self.new ≡ table_of self.old }
+    {
+        self.last = Some(LastAnswer::Refutation);
+        said(Reply::Unsat)
+    }
+
     /// The answer where a check wasn't decided, which is kept for `get-info`.
     fn undecided(&mut self, place: Option<Place>) -> Answer
-        ensures right { (c : Context) (tree : script.Tree) → Holds E.levels E.table self.old c → outcome_of c.state tree ≡ accepted (check_sat []) → IsUndecided self.old.terms self.old.live.asserted self.old.limit self.old.work place → IsAnswer E.levels E.table c (intact tree) result self.new }
+        ensures right { (c : Context) (tree : script.Tree) (assumed : List TermLit) (ls : List Literal) → Holds E.levels E.table self.old c → outcome_of c.state tree ≡ accepted (check_sat ls) → AreLitsOf self.old.terms assumed ls → IsUndecided self.old.terms (asserted_by self.old.live) assumed self.old.limit self.old.work place → IsAnswer E.levels E.table c (intact tree) result self.new }
         ensures terms { table_of self.new ≡ table_of self.old }
     {
         normal_keeps_value();
@@ -218,15 +283,18 @@ impl<E: Decide> Desk<E> {
 
     /// The answer where a model was found, which is kept for `get-model`.
     fn found(&mut self, assign: Assign) -> Answer
-        ensures right { (c : Context) (tree : script.Tree) → Holds E.levels E.table self.old c → outcome_of c.state tree ≡ accepted (check_sat []) → AreModelValues self.old.terms (asserted_in self.old) [] assign → IsAnswer E.levels E.table c (intact tree) result self.new }
+        ensures right { (c : Context) (tree : script.Tree) (ls : List Literal) → Holds E.levels E.table self.old c → outcome_of c.state tree ≡ accepted (check_sat ls) → AreModelValues self.old.terms (asserted_in self.old) [] assign → AreTrueLiterals (assignment_by self.old.terms assign) ls → IsAnswer E.levels E.table c (intact tree) result self.new }
         ensures terms { table_of self.new ≡ table_of self.old }
     {
+        assertions_are_over();
+        assumptions_are_taken();
+        constants_tell_values();
         known_table(&self.terms);
         term_of_node();
         normal_keeps_value();
         decimals_are_numbers();
         numerals_are_whole();
-        match found_model(self.alloc, &self.terms, self.live.constants(), assign) {
+        match found_model(self.alloc, &self.terms, &self.live, &assign) {
             Ok((model, shown)) => {
                 self.last = Some(LastAnswer::Model(model));
                 said(Reply::Sat(shown))
@@ -234,6 +302,8 @@ impl<E: Decide> Desk<E> {
             Err(Memory) => said(Reply::Error(Error::OutOfMemory)),
         }
     }
+
+    // ---- What the last answer shows
 
     /// The answer to `get-model`.
     fn show_model(&self) -> Answer
@@ -363,113 +433,30 @@ fn info_told(info: InfoAsked) -> Info
     }
 }
 
-/// Tells the engine the assertions that it hasn't been told, in its one level.
-fn tell<E: Decide>(
-    engine: &mut E,
-    told: &mut Option<usize>,
-    assertions: &[Accepted],
-) -> Result<(), Memory>
-    requires told { IsTold (E.levels engine.old) told.old (table_numbers assertions.now) }
-    ensures told { IsTold (E.levels engine.new) told.new (table_numbers assertions.now) }
-    ensures all { OnOk result (E.levels engine.new ≡ table_numbers assertions.now ∷ []) }
-    ensures table { E.table engine.new ≡ E.table engine.old }
-{
-    let mut count = match *told {
-        Some(count) => count,
-        None => {
-            engine.push()?;
-            *told = Some(0);
-            0
-        }
-    };
-    while count < assertions.len() {
-        engine.add(assertions[count].term)?;
-        count += 1;
-        *told = Some(count);
-    }
-    Ok(())
-}
-
-/// Decides whether the assertions have a model, with a fresh work list of so many units.
+/// Decides whether the live assertions have a model under the assumed literals, with a fresh work list of so many units.
 fn decide<E: Decide>(
     engine: &mut E,
-    told: &mut Option<usize>,
-    assertions: &[Accepted],
+    told: &mut Told,
+    live: &Live,
     terms: &Terms,
+    assumed: &[TermLit],
     work: &mut Work<Note>,
     limit: u64,
 ) -> Result<Verdict, Stop>
-    requires told { IsTold (E.levels engine.old) told.old (table_numbers assertions.now) }
-    requires within { All (λ i. i < length terms.now) (table_numbers assertions.now) }
+    requires told { IsTold (E.levels engine.old) told.old (asserted_by live.now) }
     requires front { IsFrontOfTable (E.table engine.old) terms.now }
-    requires taken { All (λ i. IsTakenBoolean (term_in terms.now i)) (table_numbers assertions.now) }
     requires companions { HasCompanions terms.now }
-    ensures told { IsTold (E.levels engine.new) told.new (table_numbers assertions.now) }
-    ensures sat { IfOk result (λ v. IfSat v (AreModelValues terms.now (map (term_in terms.now) (table_numbers assertions.now)) [])) }
-    ensures unsat { IfOk result (λ v. OnUnsat v (IsUnsatisfiable (map (term_in terms.now) (table_numbers assertions.now)) [])) }
-    ensures undecided { IfErr result (λ s. IfUndecided s (IsUndecided terms.now (table_numbers assertions.now) limit work.new)) }
+    requires taken { All (IsTakenAt terms.now) (asserted_numbers (asserted_by live.now)) }
+    requires assumed_taken { All (λ l. IsTakenAt terms.now l.term) assumed.now }
+    requires consistent { AreConsistent assumed.now }
+    ensures told { IsTold (E.levels engine.new) told.new (asserted_by live.now) }
+    ensures sat { IfOk result (λ v. IfSat v (AreModelValues terms.now (asserted_terms terms.now (asserted_by live.now)) [])) }
+    ensures sat_assumed { IfOk result (λ v. IfSat v (λ ps. AreTrueLiterals (assignment_by terms.now ps) (map (literal_of terms.now) assumed.now))) }
+    ensures unsat { IfOk result (λ v. OnUnsat v (IsDeadEnd (task_in terms.now (asserted_by live.now) assumed.now) at_first)) }
+    ensures undecided { IfErr result (λ s. IfUndecided s (IsUndecided terms.now (asserted_by live.now) assumed.now limit work.new)) }
     ensures front { IsFrontOfTable (E.table engine.new) terms.now }
 {
-    tell(engine, told, assertions)?;
+    tell(engine, told, live)?;
     work.reserve(limit)?;
-    engine.check(terms, &[], work)
-}
-
-/// The model that an assignment makes of these constants, and its bindings to be shown: they are one list with those of
-/// the model.
-fn found_model(
-    alloc: Global,
-    terms: &Terms,
-    constants: &[Accepted],
-    assign: Assign,
-) -> Result<(FoundModel, Rc<Bindings>), Memory>
-    ensures kept { IfOk result (λ p. p.0.bindings.value ≡ completed terms.now assign (table_numbers constants.now)) }
-    ensures values { IfOk result (λ p. p.0.values ≡ assign) }
-    ensures shown { IfOk result (λ p. p.1.value ≡ completed terms.now assign (table_numbers constants.now)) }
-{
-    let bindings = Rc::new(alloc, bindings_of(alloc, terms, constants, &assign)?)?;
-    let shown = bindings.clone()?;
-    let model = FoundModel {
-        bindings,
-        values: assign,
-    };
-    Ok((model, shown))
-}
-
-/// The bindings of these constants: each with the value that the assignment gives it, or else the default of its sort.
-fn bindings_of(
-    alloc: Global,
-    terms: &Terms,
-    constants: &[Accepted],
-    assign: &Assign,
-) -> Result<Bindings, Memory>
-    ensures bindings { IfOk result (λ bs. bs ≡ completed terms.now assign.now (table_numbers constants.now)) }
-{
-    let mut bindings = Bindings::new(alloc);
-    for accepted in constants {
-        add_binding(&mut bindings, terms, accepted.term, assign)?;
-    }
-    Ok(bindings)
-}
-
-/// Adds what the constant of this number is bound to.
-fn add_binding(
-    bindings: &mut Bindings,
-    terms: &Terms,
-    id: TermId,
-    assign: &Assign,
-) -> Result<(), Memory>
-    ensures grown { OnOk result (bindings.new ≡ bindings.old ++ bound_at terms.now assign.now (slice_get terms.now id)) }
-{
-    assigns_by_number();
-    known_table(terms);
-    if id >= terms.len() {
-        return Ok(());
-    }
-    let Head::Constant(constant) = terms.head(id) else {
-        return Ok(());
-    };
-    let constant = constant.clone()?;
-    let value = assign.value(id).unwrap_or(default_value(constant.sort));
-    bindings.push(Binding { constant, value })
+    engine.check(terms, assumed, work)
 }

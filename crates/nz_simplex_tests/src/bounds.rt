@@ -1,181 +1,135 @@
 //! Bounds asserted and undone against a plain list.
-use crate::forms::{Taken, bounds, constant, delta, pair, put, undo_to};
-use crate::seeded::next;
-use crate::sums::{all_within, fits};
+use crate::acts::Wrong;
+use crate::random::{give, next};
+use crate::sums::is_point;
+use crate::system::{Given, System, bounds};
+use nz_base::Memory;
 use nz_delta::Delta;
-use nz_simplex::{Check, Simplex};
-use nz_term::{TermId, Terms};
-use nz_trail::{Bound, Limit, Side, Var};
-use std::alloc::Global;
-use std::process::Abort;
+use nz_simplex::Check;
+use nz_trail::{Limit, Side, Var};
 use std::test::Fail;
 
-/// A bound with whole parts, and its reason.
-#[derive(Clone, Copy, Debug, PartialEq, Eq)]
+/// A bound with whole parts, c + k*δ, and its reason.
+#[derive(Clone, Copy, PartialEq)]
 struct Plain {
-    var: Var,
-    side: Side,
-    value: (i128, i128),
+    c: i128,
+    k: i128,
     reason: usize,
 }
 
-fn is_tighter(side: Side, x: (i128, i128), y: (i128, i128)) -> bool {
+/// The same bound.
+fn plainly(value: &Delta, reason: usize) -> Plain {
+    Plain {
+        c: value.c.num(),
+        k: value.k.num(),
+        reason,
+    }
+}
+
+/// The bound that stands, if there is one.
+fn standing(limit: Option<Limit<Delta>>) -> Option<Plain> {
+    match limit {
+        Some(limit) => Some(plainly(&limit.value, limit.reason)),
+        None => None,
+    }
+}
+
+/// Whether a bound on a side is tighter than the one before it.
+fn is_tighter(side: Side, one: &Plain, before: Option<Plain>) -> bool {
+    let Some(other) = before else {
+        return true;
+    };
     match side {
-        Side::Lower => x > y,
-        Side::Upper => x < y,
+        Side::Lower => one.c > other.c || one.c == other.c && one.k > other.k,
+        Side::Upper => one.c < other.c || one.c == other.c && one.k < other.k,
     }
 }
 
 /// The tightest bound of a form on a side, the first one of its value.
-fn tightest(list: &[Plain], var: Var, side: Side) -> Option<((i128, i128), usize)> {
-    let mut found: Option<((i128, i128), usize)> = None;
-    for b in list {
-        if b.var == var && b.side == side {
-            let is_first = match found {
-                Some((value, _)) => is_tighter(side, b.value, value),
-                None => true,
-            };
-            if is_first {
-                found = Some((b.value, b.reason));
+fn tightest(given: &[Given<Delta>], var: Var, side: Side) -> Option<Plain> {
+    let mut found = None;
+    for (reason, (form, on, value)) in given.iter().enumerate() {
+        if *form == var && *on == side {
+            let one = plainly(value, reason);
+            if is_tighter(side, &one, found) {
+                found = Some(one);
             }
         }
     }
     found
 }
 
-fn plainly(limit: Option<Limit<Delta>>) -> Option<((i128, i128), usize)> {
-    match limit {
-        Some(limit) => Some(((limit.value.c.num(), limit.value.k.num()), limit.reason)),
-        None => None,
-    }
+/// Whether the bounds of a form are the tightest of the list.
+fn has_tightest(system: &System<Delta>, var: Var) -> bool {
+    let (lower, upper) = bounds(system.simplex(), var);
+    standing(lower) == tightest(system.given(), var, Side::Lower)
+        && standing(upper) == tightest(system.given(), var, Side::Upper)
 }
 
 /// Whether the bounds of each form are the tightest of the list.
-fn agrees(simplex: &Simplex<Delta>, list: &[Plain]) -> bool {
-    for var in 0..simplex.len() {
-        let (lower, upper) = bounds(simplex, var);
-        if plainly(lower) != tightest(list, var, Side::Lower) {
-            return false;
-        }
-        if plainly(upper) != tightest(list, var, Side::Upper) {
+fn agrees(system: &System<Delta>) -> bool {
+    for var in 0..system.simplex().len() {
+        if !has_tightest(system, var) {
             return false;
         }
     }
     true
 }
 
-/// A bound that looks random.
-fn random_bound(seed: &mut u64, forms: u64, reason: usize) -> Plain {
-    let var = (next(seed) % forms.max(1)) as usize;
-    let side = if next(seed) % 2 == 0 {
-        Side::Lower
-    } else {
-        Side::Upper
-    };
-    let c = (next(seed) % 9) as i128 - 4;
-    let k = (next(seed) % 3) as i128 - 1;
-    Plain {
-        var,
-        side,
-        value: (c, k),
-        reason,
+/// Whether a check answers, and a point that it finds is within the bounds.
+fn answers(system: &mut System<Delta>) -> Result<bool, Memory> {
+    match system.check(100)? {
+        Ok(Check::Feasible) => Ok(is_point(system.simplex())),
+        Ok(Check::Clash) => Ok(true),
+        Err(_) => Ok(false),
     }
 }
 
-/// A place of the simplex, and how long the list was there.
-type Mark = (usize, usize);
+/// Gives a form that looks random a bound that does too.
+fn give_any(system: &mut System<Delta>, seed: &mut u64) -> Result<bool, Memory> {
+    let count = (system.simplex().len() as u64).max(1);
+    let var = (next(seed) % count) as usize;
+    give(system, seed, var, -4, 9)?;
+    Ok(true)
+}
 
-/// One step that looks random: a mark, an undo, a check or a bound.
-fn step(
-    alloc: Global,
-    simplex: &mut Simplex<Delta>,
-    list: &mut Vec<Plain>,
-    marks: &mut Vec<Mark>,
-    units: &[(TermId, Var)],
-    seed: &mut u64,
-    reason: usize,
-) -> Result<bool, Fail> {
+/// One step that looks random: a mark, an undo, a check or a bound. Answers whether a check answered right.
+fn step(system: &mut System<Delta>, seed: &mut u64) -> Result<bool, Memory> {
     match next(seed) % 8 {
         0 => {
-            marks.push((simplex.mark(), list.len()))?;
+            system.mark()?;
             Ok(true)
         }
         1 => {
-            if let Some((mark, long)) = marks.pop() {
-                undo_to(simplex, mark);
-                list.truncate(long);
-            }
+            system.back();
             Ok(true)
         }
-        2 => {
-            let mut taken = Taken::new(alloc, 100)?;
-            match simplex.check(&mut taken) {
-                Ok(Check::Feasible) => Ok(fits(simplex, units) && all_within(simplex)),
-                Ok(Check::Clash) => Ok(true),
-                Err(_) => Ok(false),
-            }
-        }
-        _ => {
-            let b = random_bound(seed, simplex.len() as u64, reason);
-            match put(simplex, b.var, b.side, delta(b.value.0, b.value.1)?, reason)? {
-                Bound::Clash(_, _) => {}
-                _ => list.push(b)?,
-            }
-            Ok(true)
-        }
+        2 => answers(system),
+        _ => give_any(system, seed),
     }
 }
 
-/// A list of bounds, with the marks of a simplex.
-#[derive(Debug, Drop)]
-struct Kept {
-    list: Vec<Plain>,
-    marks: Vec<Mark>,
+/// Two forms of two units join.
+fn add_two(system: &mut System<Delta>) -> Result<(), Memory> {
+    system.add(&[(1, 0), (2, 1)])?;
+    system.add(&[(3, 0), (-1, 1)])?;
+    Ok(())
 }
 
-/// After each of many steps the bounds are those of the list.
-fn gives_back(
-    rt: &impl Abort,
-    alloc: Global,
-    simplex: &mut Simplex<Delta>,
-    kept: &mut Kept,
-    units: &[(TermId, Var)],
-) -> Result<(), Fail> {
+/// After each of many steps over two forms the bounds are those of the list.
+fn gives_back(system: &mut System<Delta>) -> Result<(), Fail> {
+    add_two(system)?;
     let mut seed = 19;
-    for number in 0..200 {
-        assert!(rt;
-            step(
-                alloc,
-                simplex,
-                &mut kept.list,
-                &mut kept.marks,
-                units,
-                &mut seed,
-                number
-            )?
-        );
-        assert!(rt; agrees(simplex, kept.list.as_slice()), "at step {number}");
+    for place in 0..200 {
+        if !step(system, &mut seed)? || !agrees(system) {
+            return Err(Fail::from(Wrong { place }));
+        }
     }
     Ok(())
 }
 
-/// Two forms of two units.
-fn two_forms(alloc: Global, simplex: &mut Simplex<Delta>) -> Result<[(TermId, Var); 2], Fail> {
-    let mut terms = Terms::new(alloc)?;
-    let x = constant(&mut terms, alloc, b"x")?;
-    let y = constant(&mut terms, alloc, b"y")?;
-    pair(alloc, &mut terms, simplex, (1, x), (2, y))?;
-    pair(alloc, &mut terms, simplex, (3, x), (-1, y))?;
-    Ok([(x, 0), (y, 1)])
-}
-
 #[test]
 fn undo_gives_back_the_bounds(rt: HostRuntime) -> Result<(), Fail> {
-    let mut simplex = Simplex::new(rt.alloc());
-    let units = two_forms(rt.alloc(), &mut simplex)?;
-    let mut kept = Kept {
-        list: Vec::new(rt.alloc()),
-        marks: Vec::new(rt.alloc()),
-    };
-    gives_back(&rt, rt.alloc(), &mut simplex, &mut kept, &units)
+    let mut system = System::new(rt.alloc())?;
+    gives_back(&mut system)
 }

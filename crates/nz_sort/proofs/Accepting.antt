@@ -13,13 +13,13 @@ use Rattle.nz_spec.specs.Live.{LiveItem, Item, cost_of, declared, defined, asser
 use Rattle.nz_spec.specs.Live as live_state
 use Rattle.nz_term.specs.Constants.{sort_of}
 use Rattle.nz_elaborate.specs.declared.typed.Typed.{Typed}
-use Rattle.nz_elaborate.specs.declared.names.Definition.{Definition}
 use Rattle.nz_sort.specs.declared.items.Accepted.{Accepted}
 use Rattle.nz_sort.specs.declared.items.Goal.{Goal}
 use Rattle.nz_sort.specs.declared.items.Wish.{Wish}
 use Rattle.nz_sort.specs.Items.{table_numbers, items_in, StandForAll, AreItems, AreConstants, AreAssertions, AreGoals, AreWishes}
-use Rattle.nz_sort.specs.Live.{Standing, HasItems}
-use Rattle.nz_sort.specs.Changes.{with_constant, with_definition, with_assertion}
+use Rattle.nz_sort.specs.Layers.{Layer}
+use Rattle.nz_sort.specs.Live.{HasItems}
+use Rattle.nz_sort.specs.Changes.{layer_with_constant, layer_with_assertion}
 
 -- ---- Kinds of items, with one at the end
 
@@ -71,7 +71,7 @@ hold_integers-append : (xs ys : List Item) → items_hold_integers (xs ++ ys) �
 hold_integers-append xs ys =
     ap (list_any holds_integer) (flat_map-append item_terms xs ys) ∙ list_any-append holds_integer (flat_map item_terms xs) (flat_map item_terms ys)
 
--- one item more, which holds a unit of sort Int or doesn't
+-- one item more, which holds a number or doesn't
 integers_last : (live : List Item) (i : Item) (before mine : Bool) → items_hold_integers live ≡ before → items_hold_integers (i ∷ []) ≡ mine
     → items_hold_integers (live ++ i ∷ []) ≡ (before || mine)
 integers_last live i before mine e f = hold_integers-append live (i ∷ []) ∙ ap (λ b. b || items_hold_integers (i ∷ [])) e ∙ ap (λ b. before || b) f
@@ -203,80 +203,81 @@ assertions_stay stays old new more items live l e other none h =
     items_longer stays old new more items _ _ _ _ e h (numbers_of-other is_assertion live l other)
     (ap (map normal_of) (last_other assertions_in assertions_in-append live l none))
 
-pub has_constant : TermStays → (old new more : List Node) (standing : Standing) (live : List LiveItem) (c : Constant) (x : Typed) → new ≡ old ++ more → HasItems old standing live
-    → x.id < length new → term_in new x.id ≡ apply (constant c) no_terms → sort_of x.sort ≡ c.sort
-    → HasItems new (with_constant standing c.name x) (live ++ record { number = standing.next; item = declared c } ∷ [])
-has_constant stays old new more standing live c x e h within term sort =
-    let l : LiveItem = record { number = standing.next; item = declared c } in
+pub has_constant : TermStays → (old new more : List Node) (layer : Layer) (live : List LiveItem) (number : ℕ) (c : Constant) (x : Typed) → new ≡ old ++ more → HasItems old layer live
+    → x.id < length new → term_in new x.id ≡ apply (constant c) no_terms → HasItems new (layer_with_constant layer number x) (live ++ record { number = number; item = declared c } ∷ [])
+has_constant stays old new more layer live number c x e h within term =
+    let l : LiveItem = record { number = number; item = declared c } in
     record {
       constants =
-          items_last stays old new more standing.constants _ _ _ _ standing.next x.id (apply (constant c) no_terms) e h.constants within term
+          items_last stays old new more layer.constants _ _ _ _ number x.id (apply (constant c) no_terms) e h.constants within term
           (sym (numbers_of-last is_constant live l))
           (sym (ap (map (λ (d : Constant). apply (constant d) no_terms)) (last_of constants_in constants_in-append live l)
           ∙ map-append (λ (d : Constant). apply (constant d) no_terms) (constants_in (items_in live)) (c ∷ [])));
-      assertions = assertions_stay stays old new more standing.assertions live l e refl refl h.assertions;
-      goals = goals_stay stays old new more standing.goals live l e refl refl h.goals;
-      wishes = wishes_stay stays old new more standing.wishes live l e refl refl h.wishes;
-      all = all_last stays old new more standing.accepted live l x.id (apply (constant c) no_terms) e h.all within term refl;
-      integers =
-          ap items_hold_integers (items_in-last live l)
-          ∙ integers_last (items_in live) (declared c) standing.holds_integers (is_int_sort (sort_of x.sort)) h.integers
-          (or_false (is_int_sort c.sort || false) ∙ or_false (is_int_sort c.sort) ∙ ap is_int_sort (sym sort));
+      assertions = assertions_stay stays old new more layer.assertions live l e refl refl h.assertions;
+      goals = goals_stay stays old new more layer.goals live l e refl refl h.goals;
+      wishes = wishes_stay stays old new more layer.wishes live l e refl refl h.wishes;
+      all = all_last stays old new more layer.accepted live l x.id (apply (constant c) no_terms) e h.all within term refl;
     }
 
-pub has_definition : TermStays → (old new more : List Node) (standing : Standing) (live : List LiveItem) (name : List ℕ) (d : Definition) (e : SpecDefinition) → new ≡ old ++ more
-    → HasItems old standing live → HasItems new (with_definition standing name d) (live ++ record { number = standing.next; item = defined e } ∷ [])
-has_definition stays old new more standing live name d e grown h =
-    let l : LiveItem = record { number = standing.next; item = defined e } in
+pub has_definition : TermStays → (old new more : List Node) (layer : Layer) (live : List LiveItem) (number : ℕ) (e : SpecDefinition) → new ≡ old ++ more
+    → HasItems old layer live → HasItems new layer (live ++ record { number = number; item = defined e } ∷ [])
+has_definition stays old new more layer live number e grown h =
+    let l : LiveItem = record { number = number; item = defined e } in
     record {
-      constants = constants_stay stays old new more standing.constants live l grown refl refl h.constants;
-      assertions = assertions_stay stays old new more standing.assertions live l grown refl refl h.assertions;
-      goals = goals_stay stays old new more standing.goals live l grown refl refl h.goals;
-      wishes = wishes_stay stays old new more standing.wishes live l grown refl refl h.wishes;
-      all = all_without stays old new more standing.accepted live l grown h.all refl;
-      integers =
-          ap items_hold_integers (items_in-last live l)
-          ∙ integers_last (items_in live) (defined e) standing.holds_integers false h.integers refl ∙ or_false standing.holds_integers;
+      constants = constants_stay stays old new more layer.constants live l grown refl refl h.constants;
+      assertions = assertions_stay stays old new more layer.assertions live l grown refl refl h.assertions;
+      goals = goals_stay stays old new more layer.goals live l grown refl refl h.goals;
+      wishes = wishes_stay stays old new more layer.wishes live l grown refl refl h.wishes;
+      all = all_without stays old new more layer.accepted live l grown h.all refl;
     }
 
-pub has_assertion : TermStays → (old new more : List Node) (standing : Standing) (live : List LiveItem) (t : Term) (id : ℕ) (holds : Bool) → new ≡ old ++ more → HasItems old standing live
-    → id < length new → term_in new id ≡ normal_of t → holds ≡ holds_integer (normal_of t)
-    → HasItems new (with_assertion standing id holds) (live ++ record { number = standing.next; item = asserted t } ∷ [])
-has_assertion stays old new more standing live t id holds e h within term number =
-    let l : LiveItem = record { number = standing.next; item = asserted t } in
+pub has_assertion : TermStays → (old new more : List Node) (layer : Layer) (live : List LiveItem) (number : ℕ) (t : Term) (id : ℕ) (holds : Bool) → new ≡ old ++ more → HasItems old layer live
+    → id < length new → term_in new id ≡ normal_of t → HasItems new (layer_with_assertion layer number id holds) (live ++ record { number = number; item = asserted t } ∷ [])
+has_assertion stays old new more layer live number t id holds e h within term =
+    let l : LiveItem = record { number = number; item = asserted t } in
     record {
-      constants = constants_stay stays old new more standing.constants live l e refl refl h.constants;
+      constants = constants_stay stays old new more layer.constants live l e refl refl h.constants;
       assertions =
-          items_last stays old new more standing.assertions _ _ _ _ standing.next id (normal_of t) e h.assertions within term
+          items_last stays old new more layer.assertions _ _ _ _ number id (normal_of t) e h.assertions within term
           (sym (numbers_of-last is_assertion live l))
           (sym (ap (map normal_of) (last_of assertions_in assertions_in-append live l) ∙ map-append normal_of (assertions_in (items_in live)) (t ∷ [])));
-      goals = goals_stay stays old new more standing.goals live l e refl refl h.goals;
-      wishes = wishes_stay stays old new more standing.wishes live l e refl refl h.wishes;
-      all = all_last stays old new more standing.accepted live l id (normal_of t) e h.all within term refl;
-      integers =
-          ap items_hold_integers (items_in-last live l)
-          ∙ integers_last (items_in live) (asserted t) standing.holds_integers holds h.integers (or_false (holds_integer (normal_of t)) ∙ sym number);
+      goals = goals_stay stays old new more layer.goals live l e refl refl h.goals;
+      wishes = wishes_stay stays old new more layer.wishes live l e refl refl h.wishes;
+      all = all_last stays old new more layer.accepted live l id (normal_of t) e h.all within term refl;
     }
 
+-- whether an item more brings a unit of sort Int
+pub constant_integer : (items : List Item) (c : Constant) (x : Typed) (holds : Bool) → items_hold_integers items ≡ holds → sort_of x.sort ≡ c.sort
+    → items_hold_integers (items ++ declared c ∷ []) ≡ (holds || is_int_sort (sort_of x.sort))
+constant_integer items c x holds h sort =
+    integers_last items (declared c) holds (is_int_sort (sort_of x.sort)) h
+    (or_false (is_int_sort c.sort || false) ∙ or_false (is_int_sort c.sort) ∙ ap is_int_sort (sym sort))
+
+pub definition_integer : (items : List Item) (e : SpecDefinition) (holds : Bool) → items_hold_integers items ≡ holds → items_hold_integers (items ++ defined e ∷ []) ≡ holds
+definition_integer items e holds h = integers_last items (defined e) holds false h refl ∙ or_false holds
+
+pub assertion_integer : (items : List Item) (t : Term) (holds number : Bool) → items_hold_integers items ≡ holds → number ≡ holds_integer (normal_of t)
+    → items_hold_integers (items ++ asserted t ∷ []) ≡ (holds || number)
+assertion_integer items t holds number h e = integers_last items (asserted t) holds number h (or_false (holds_integer (normal_of t)) ∙ sym e)
+
 -- where the table grows
-pub items_kept : TermStays → (old new more : List Node) (standing : Standing) (live : List LiveItem) → new ≡ old ++ more → HasItems old standing live → HasItems new standing live
-items_kept stays old new more standing live e h =
+pub items_kept : TermStays → (old new more : List Node) (layer : Layer) (live : List LiveItem) → new ≡ old ++ more → HasItems old layer live → HasItems new layer live
+items_kept stays old new more layer live e h =
     record {
-      constants = items_longer stays old new more standing.constants _ _ _ _ e h.constants refl refl;
-      assertions = items_longer stays old new more standing.assertions _ _ _ _ e h.assertions refl refl;
+      constants = items_longer stays old new more layer.constants _ _ _ _ e h.constants refl refl;
+      assertions = items_longer stays old new more layer.assertions _ _ _ _ e h.assertions refl refl;
       goals =
           record {
-            items = items_longer stays old new more (map (λ (g : Goal). g.accepted) standing.goals) _ _ _ _ e h.goals.items refl refl;
+            items = items_longer stays old new more (map (λ (g : Goal). g.accepted) layer.goals) _ _ _ _ e h.goals.items refl refl;
             directions = h.goals.directions;
             shown = h.goals.shown;
           };
       wishes =
           record {
-            items = items_longer stays old new more (map (λ (w : Wish). w.accepted) standing.wishes) _ _ _ _ e h.wishes.items refl refl;
+            items = items_longer stays old new more (map (λ (w : Wish). w.accepted) layer.wishes) _ _ _ _ e h.wishes.items refl refl;
             weights = h.wishes.weights;
             numerals = h.wishes.numerals;
             groups = h.wishes.groups;
           };
-      all = stand_longer stays old new more standing.accepted (flat_map item_terms (items_in live)) e h.all;
-      integers = h.integers;
+      all = stand_longer stays old new more layer.accepted (flat_map item_terms (items_in live)) e h.all;
     }

@@ -18,10 +18,10 @@ use Rattle.nz_elaborate.specs.Elaborate.{StandAs, are_unknown_in, IsWellNamed}
 use Rattle.nz_elaborate.specs.Typed.{Grows, AreTyped}
 use Rattle.nz_sort.specs.declared.acts.Act.{Act}
 use Rattle.nz_sort.specs.Acts.{asked}
-use Rattle.nz_sort.specs.Live.{Standing, IsLive, Leaves, IfSkipped, show_values}
+use Rattle.nz_sort.specs.Live.{Standing, asserted_by, IsLive, Leaves, IfSkipped, Moves, show_values}
 use Rattle.nz_sort.specs.Changes.{Comes, Shows}
 use Rattle.nz_sort.proofs.Living.{kept_where_grown, live_grown}
-use Rattle.nz_sort.proofs.Ruling.{past_names, take_whole}
+use Rattle.nz_sort.proofs.Ruling.{past_names}
 
 -- what becomes of the terms, behind the rules on names
 abbrev pub terms_outcome : List Question → Option Terms → Outcome
@@ -65,7 +65,7 @@ comes_values stays old new standing qs xs act e g companions may =
       unchanged = tt;
       skipped_terms = subst (λ ask. IfSkipped ask (new ≡ old)) (sym e) tt;
       skipped = subst (λ ask. IfSkipped ask (standing ≡ standing)) (sym e) tt;
-      front = take_whole standing.asserted;
+      moves = subst (λ ask. Moves ask (asserted_by standing) (asserted_by standing)) (sym e) refl;
     }
 
 -- all terms of a list are linear, where all that are numbered so are

@@ -1,8 +1,7 @@
 -- Assertions: the rules on one, and what it leaves.
-use Rattle.std.proofs.Common.{◌≡◌, ℕ, List, [], ◌∷◌, map, take, length, Option, None, Some, Ok, Bool, true, false, cond, sym, ap, ◌∙◌, append-nil, subst}
-use Rattle.std.specs.List.{AllByRecursion}
+use Rattle.std.proofs.Common.{◌≡◌, ℕ, List, [], ◌∷◌, ◌++◌, take, length, Option, None, Some, Ok, Bool, true, false, cond, refl, sym, ap, ◌∙◌, append-nil, subst}
+use Rattle.std.specs.Prelude.{reverse}
 use Rattle.std.proofs.lemmas.List.{map-append}
-use Rattle.nz_lists.proofs.Elements.{AllByRecursion-append}
 use Rattle.nz_spec.specs.Term.{bool_sort, Term, holds_integer, are_same_sort}
 use Rattle.nz_spec.specs.Normal.{normal_of}
 use Rattle.nz_spec.specs.Table.{Node, term_in, TermStays}
@@ -11,7 +10,7 @@ use Rattle.nz_spec.specs.Linear.{is_linear}
 use Rattle.nz_spec.specs.Expression.{Expression}
 use Rattle.nz_spec.specs.Request.{asserts}
 use Rattle.nz_spec.specs.Elaboration.{has_sort, term_of}
-use Rattle.nz_spec.specs.Live.{State, asserted, numbered_items, constants_of, definitions_of, assertions_of, grown}
+use Rattle.nz_spec.specs.Live.{State, asserted, LiveItem, items_of, items_hold_integers, constants_in, definitions_in, with_item, grown}
 use Rattle.nz_spec.specs.Script.{scope_of, linear_outcome, asserted_outcome, assertion_of}
 use Rattle.nz_spec.specs.Command.{assert_term, Outcome, refused}
 use Rattle.nz_spec.specs.Error.{wrong_sort, not_linear}
@@ -21,40 +20,51 @@ use Rattle.nz_elaborate.specs.declared.typed.Typed.{Typed}
 use Rattle.nz_elaborate.specs.Elaborate.{StandsAs, is_unknown_in, IsWellNamed}
 use Rattle.nz_elaborate.specs.Typed.{Grows, StandsFor}
 use Rattle.nz_sort.specs.declared.acts.Act.TheVariants as acts
-use Rattle.nz_sort.specs.Live.{Standing, IsLinearAssertion, IsLive}
-use Rattle.nz_sort.specs.Changes.{Comes, Asserts, with_assertion}
-use Rattle.nz_sort.proofs.Accepting.{stand_longer, stand_last, has_assertion}
-use Rattle.nz_sort.proofs.Naming.{scope_by, scope_stays}
-use Rattle.nz_sort.proofs.Living.{assertions_with, constants_with, definitions_with, items_with, kept_where_grown, next_after, pushed_with, same_constants, scope_as, take_front}
+use Rattle.nz_sort.specs.declared.items.Accepted.{Accepted}
+use Rattle.nz_sort.specs.Items.{table_numbers}
+use Rattle.nz_sort.specs.Live.{Standing, asserted_by, IsLevel, IsLive, GoesOn}
+use Rattle.nz_sort.specs.Changes.{Comes, Asserts, layer_with_assertion, with_assertion}
+use Rattle.nz_sort.proofs.Accepting.{has_assertion, assertion_integer}
+use Rattle.nz_sort.proofs.Leveling.{is_live, level_with, goes_on_top}
+use Rattle.nz_sort.proofs.Lists.{take_front}
+use Rattle.nz_sort.proofs.Naming.{scope_by, scope_as, scope_stays}
+use Rattle.nz_sort.proofs.Living.{constants_with, definitions_with, items_of-with_item, kept_where_grown, next_after}
 use Rattle.nz_sort.proofs.Ruling.{past_names}
 
 -- ---- What an assertion leaves
 
-live_asserted : TermStays → (old new : List Node) (before : Standing) (s : State) (t : Term) (id : ℕ) (holds : Bool) → IsLive old before s → Grows old new
-    → HasCompanions new → StandsFor new id (normal_of t) → IsLinearAssertion t → holds ≡ holds_integer (normal_of t) → IsLive new (with_assertion before id holds) (grown s (asserted t))
-live_asserted stays old new before s t id holds live g companions stands linear number =
-    let more : State = grown s (asserted t) in
-    let same : constants_of more ≡ constants_of s = constants_with s (asserted t) ∙ append-nil (constants_of s) in
-    let alike : definitions_of more ≡ definitions_of s = definitions_with s (asserted t) ∙ append-nil (definitions_of s) in
-    let stand =
-    stand_last new before.asserted (map normal_of (assertions_of s)) id (normal_of t)
-    (stand_longer stays old new g.more before.asserted (map normal_of (assertions_of s)) g.all (record { within = live.within; terms = live.terms })) stands.within stands.term in
+level_asserted : TermStays → (old new : List Node) (more : List Node) (before : Standing) (t : Term) (id : ℕ) (holds : Bool) → new ≡ old ++ more → StandsFor new id (normal_of t)
+    → holds ≡ holds_integer (normal_of t) → (number : ℕ) (items : List LiveItem) (older : List (List LiveItem)) → IsLevel old before.names before.top items older
+    → IsLevel new before.names (layer_with_assertion before.top number id holds) (items ++ record { number = number; item = asserted t } ∷ []) older
+level_asserted stays old new more before t id holds e stands integer_held number items older h =
+    let l : LiveItem = record { number = number; item = asserted t } in
+    let levels = items ∷ older in
+    let cs = constants_in (items_of levels) in
+    let ds = definitions_in (items_of levels) in
+    let same : constants_in (items_of (with_item levels l)) ≡ cs = constants_with levels l ∙ append-nil cs in
+    let alike : definitions_in (items_of (with_item levels l)) ≡ ds = definitions_with levels l ∙ append-nil ds in
     record {
-      named = scope_as new before.names more (constants_of s) (definitions_of s) same alike
-          (scope_stays stays old new g.more before.names (scope_by (constants_of s) (definitions_of s)) g.all live.named);
-      constants = same_constants old new g ∙ live.constants ∙ sym same;
-      companions = companions;
-      within = stand.within;
-      terms = stand.terms ∙ sym (ap (map normal_of) (assertions_with s (asserted t)) ∙ map-append normal_of (assertions_of s) (t ∷ []));
-      linear =
-          subst (AllByRecursion IsLinearAssertion) (sym (assertions_with s (asserted t)))
-          (AllByRecursion-append IsLinearAssertion (assertions_of s) (t ∷ []) live.linear (linear, tt));
-      items =
-          items_with new (with_assertion before id holds) s before.next (asserted t) live.next
-          (has_assertion stays old new g.more before (numbered_items s.levels) t id holds g.all live.items stands.within stands.term number);
-      next = next_after before.next s.next live.next;
-      unpushed = pushed_with s.levels (record { number = s.next; item = asserted t }) ∙ live.unpushed;
+      named = scope_as new before.names same alike (scope_stays stays old new more before.names (scope_by cs ds) e h.named);
+      before = h.before;
+      has = has_assertion stays old new more before.top items number t id holds e h.has stands.within stands.term;
+      count = h.count ∙ ap length (sym same);
+      integers = ap items_hold_integers (items_of-with_item levels l) ∙ assertion_integer (items_of levels) t before.top.holds_integers holds h.integers integer_held;
     }
+
+live_asserted : TermStays → (old new : List Node) (before : Standing) (s : State) (t : Term) (id : ℕ) (holds : Bool) → IsLive old before s → Grows old new
+    → HasCompanions new → StandsFor new id (normal_of t) → holds ≡ holds_integer (normal_of t) → IsLive new (with_assertion before id holds) (grown s (asserted t))
+live_asserted stays old new before s t id holds live g companions stands number =
+    let l : LiveItem = record { number = s.next; item = asserted t } in
+    is_live new (with_assertion before id holds) (grown s (asserted t))
+    (level_with stays old new g.more before.names before.names [] before.top (layer_with_assertion before.top before.next id holds) (reverse before.below) l g.all (sym (append-nil before.names)) refl
+    (λ items older k. subst (λ n. IsLevel new before.names (layer_with_assertion before.top before.next id holds) (items ++ record { number = n; item = asserted t } ∷ []) older) live.next
+    (level_asserted stays old new g.more before t id holds g.all stands number before.next items older k)) s.levels live.levels)
+    companions (next_after before.next s.next live.next)
+
+-- the terms of the assertions, with one more
+asserted_more : (items : List Accepted) (number id : ℕ) → take (length (table_numbers items)) (table_numbers (items ++ record { number = number; term = id } ∷ [])) ≡ table_numbers items
+asserted_more items number id =
+    ap (take (length (table_numbers items))) (map-append (λ (a : Accepted). a.term) items (record { number = number; term = id } ∷ [])) ∙ take_front (table_numbers items) (id ∷ [])
 
 pub comes_asserted : TermStays → (old new : List Node) (before after : Standing) (e : Expression) (id : ℕ) (holds : Bool) → Grows old new → HasCompanions new
     → ((s : State) → IsLive old before s → Asserts (assertion_of s e) new id) → holds ≡ holds_integer (term_in new id) → after ≡ with_assertion before id holds
@@ -68,14 +78,15 @@ comes_asserted stays old new before after e id holds g companions may number mor
             is = h.is;
             asks = tt;
             live = λ reply. subst (λ st. IsLive new st (grown s (asserted h.term))) (sym more)
-                (live_asserted stays old new before s h.term id holds live g companions h.stands h.linear (number ∙ ap holds_integer h.stands.term));
+                (live_asserted stays old new before s h.term id holds live g companions h.stands (number ∙ ap holds_integer h.stands.term));
           };
       refused = tt;
       kept = kept_where_grown old new g;
       unchanged = tt;
       skipped_terms = tt;
       skipped = tt;
-      front = ap (λ (st : Standing). take (length before.asserted) st.asserted) more ∙ take_front before.asserted (id ∷ []);
+      moves = subst (λ st. GoesOn (asserted_by before) (asserted_by st)) (sym more)
+          (goes_on_top before (with_assertion before id holds) refl (asserted_more before.top.assertions before.next id));
     }
 
 -- ---- The rules on an assertion
@@ -114,5 +125,4 @@ linear_assertion s e mid new x h bool straight stands =
       term = h.holds.term;
       is = of_bool s e mid x true h bool straight;
       stands = record { within = stands.within; term = stands.term ∙ h.holds.typed.normal };
-      linear = ap is_linear (sym h.holds.typed.normal) ∙ straight;
     }

@@ -1,36 +1,53 @@
 -- Declarations: the rules on one, and what it leaves.
-use Rattle.std.proofs.Common.{◌||◌, ◌≡◌, ◌⊎◌, inl, inr, ℕ, ◌<◌, List, [], ◌∷◌, ◌++◌, length, map, take, None, Some, Ok, true, false, nat_eq, slice_get, refl, sym, ap, ◌∙◌, append-nil, subst}
-use Rattle.std.specs.List.{AllByRecursion, list_any}
-use Rattle.std.proofs.lemmas.Grind.{flat_map-append}
+use Rattle.std.proofs.Common.{◌||◌, ◌+◌, ◌≡◌, ℕ, ◌<◌, List, [], ◌∷◌, ◌++◌, length, length-append, map, take, None, Some, Ok, true, false, nat_eq, refl, sym, ap, ◌∙◌, append-nil, subst, arith}
+use Rattle.std.specs.Prelude.{reverse}
+use Rattle.std.specs.List.{list_any}
 use Rattle.std.proofs.lemmas.Option.{slice_get_within}
-use Rattle.nz_spec.specs.Term.{Sort, Constant, constant}
-use Rattle.nz_spec.specs.Normal.{normal_of}
-use Rattle.nz_spec.specs.Table.{Node, TermStays}
-use Rattle.nz_spec.specs.Decide.{constants_of_head, constants_in_table}
-use Rattle.nz_spec.specs.Elaboration.{constant_named}
+use Rattle.nz_spec.specs.Term.{Sort, Constant, constant, apply, no_terms}
+use Rattle.nz_spec.specs.Table.{Node, term_in, TermStays}
 use Rattle.nz_spec.specs.Request.{WrittenSort, declares}
-use Rattle.nz_spec.specs.Live.{State, declared, numbered_items, constants_of, definitions_of, assertions_of, grown}
+use Rattle.nz_spec.specs.Live.{State, declared, LiveItem, items_of, items_hold_integers, constants_in, definitions_in, with_item, grown}
 use Rattle.nz_spec.specs.Script.{is_live_name, is_unknown_sort, constant_sort, declaration_of}
 use Rattle.nz_spec.specs.Command.{declare_const, accepted, refused}
 use Rattle.nz_spec.specs.Error.{unknown_symbol, wrong_sort, already_declared}
 use Rattle.nz_command.specs.Requests.{sort_view}
 use Rattle.nz_command.specs.declared.command.WrittenSort as code
+use Rattle.nz_term.specs.Constants.{sort_of}
+use Rattle.nz_elaborate.specs.declared.typed.Typed.{Typed}
+use Rattle.nz_elaborate.specs.declared.names.Named.TheVariants as kinds
 use Rattle.nz_elaborate.specs.Names.{named_by}
 use Rattle.nz_sort.specs.declared.acts.Act.TheVariants as acts
-use Rattle.nz_sort.specs.Live.{Standing, IsLinearAssertion, IsLive}
-use Rattle.nz_sort.specs.Changes.{Comes, constant_of, HasAdded, with_constant}
-use Rattle.nz_sort.proofs.Accepting.{stand_longer, has_constant}
-use Rattle.nz_sort.proofs.Naming.{scope_by, scope_stays, scope_with_constant, no_constant}
-use Rattle.nz_sort.proofs.Living.{assertions_with, companions_with_constant, constants_with, definitions_with, items_with, named_in_table, next_after, not_before, pushed_with, scope_as}
-use Rattle.nz_sort.proofs.Ruling.{take_whole}
+use Rattle.nz_sort.specs.Items.{table_numbers}
+use Rattle.nz_sort.specs.Live.{Standing, asserted_by, IsLevel, IsLive, GoesOn}
+use Rattle.nz_sort.specs.Changes.{Comes, constant_of, layer_with_constant, HasAdded, with_constant}
+use Rattle.nz_sort.proofs.Accepting.{has_constant, constant_integer}
+use Rattle.nz_sort.proofs.Leveling.{is_live, level_with, goes_on_top}
+use Rattle.nz_sort.proofs.Lists.{take_whole}
+use Rattle.nz_sort.proofs.Naming.{scope_by, scope_as, scope_stays, scope_with_constant}
+use Rattle.nz_sort.proofs.Living.{companions_with_constant, constants_with, definitions_with, items_of-with_item, goes_on_by, next_after}
 
 -- ---- What a declaration leaves
 
--- a constant that is not in the table yet is a node more
-grown_in : (old new : List Node) (id : ℕ) (c : Constant) → constant_named (constants_in_table old) c.name ≡ None → slice_get new id ≡ Some (record { head = constant c; kids = [] })
-    → (new ≡ old) ⊎ (new ≡ old ++ record { head = constant c; kids = [] } ∷ []) → new ≡ old ++ record { head = constant c; kids = [] } ∷ []
-grown_in old new id c none at (inl e) = absurd (named_in_table old id c (ap (λ ns. slice_get ns id) (sym e) ∙ at) none)
-grown_in old new id c none at (inr e) = e
+level_declared : TermStays → (old new : List Node) (more : List Node) (before : Standing) (c : Constant) (x : Typed) → new ≡ old ++ more → named_by before.names c.name ≡ None → x.id < length new
+    → term_in new x.id ≡ apply (constant c) no_terms → sort_of x.sort ≡ c.sort → (number : ℕ) (items : List LiveItem) (older : List (List LiveItem))
+    → IsLevel old before.names before.top items older
+    → IsLevel new (with_constant before c.name x).names (layer_with_constant before.top number x) (items ++ record { number = number; item = declared c } ∷ []) older
+level_declared stays old new more before c x e fresh within term sort number items older h =
+    let l : LiveItem = record { number = number; item = declared c } in
+    let levels = items ∷ older in
+    let cs = constants_in (items_of levels) in
+    let ds = definitions_in (items_of levels) in
+    let later : constants_in (items_of (with_item levels l)) ≡ cs ++ c ∷ [] = constants_with levels l in
+    let same : definitions_in (items_of (with_item levels l)) ≡ ds = definitions_with levels l ∙ append-nil ds in
+    record {
+      named = scope_as new (with_constant before c.name x).names later same
+          (scope_with_constant new before.names cs ds c x (scope_stays stays old new more before.names (scope_by cs ds) e h.named) fresh
+          (record { within = within; normal = term; sort = sort }));
+      before = (let far = length-append before.names ((c.name, kinds.Constant x) ∷ []) in let near = h.before in omega (arith, far, near));
+      has = has_constant stays old new more before.top items number c x e h.has within term;
+      count = (let longer : length (cs ++ c ∷ []) ≡ length cs + 1 = length-append cs (c ∷ []) in ap (λ n. n + 1) h.count ∙ sym longer ∙ ap length (sym later));
+      integers = ap items_hold_integers (items_of-with_item levels l) ∙ constant_integer (items_of levels) c x before.top.holds_integers h.integers sort;
+    }
 
 live_declared : TermStays → (old new : List Node) (before after : Standing) (s : State) (name : List ℕ) (sort : Sort) → IsLive old before s
     → named_by before.names name ≡ None → HasAdded name sort old new before after → IsLive new after (grown s (declared (constant_of name sort)))
@@ -38,34 +55,15 @@ live_declared stays old new before after s name sort live fresh h =
     let c = constant_of name sort in
     let x = h.added in
     let one : Node = record { head = constant c; kids = [] } in
-    let none : constant_named (constants_of s) name ≡ None = no_constant old before.names (scope_by (constants_of s) (definitions_of s)) name live.named fresh in
-    let unnamed : constant_named (constants_in_table old) name ≡ None = ap (λ cs. constant_named cs name) live.constants ∙ none in
-    let longer : new ≡ old ++ one ∷ [] = grown_in old new x.id c unnamed h.node h.grown in
+    let longer = goes_on_by old new one h.grown in
     let within : x.id < length new = slice_get_within new x.id one h.node in
-    let more : State = grown s (declared c) in
-    let later : constants_of more ≡ constants_of s ++ c ∷ [] = constants_with s (declared c) in
-    let same : definitions_of more ≡ definitions_of s = definitions_with s (declared c) ∙ append-nil (definitions_of s) in
-    let table : constants_in_table new ≡ constants_of s ++ c ∷ [] =
-    ap constants_in_table longer ∙ flat_map-append (λ (n : Node). constants_of_head n.head) old (one ∷ []) ∙ ap (λ l. l ++ c ∷ []) live.constants in
-    let assertions : assertions_of more ≡ assertions_of s = assertions_with s (declared c) ∙ append-nil (assertions_of s) in
-    let stand = stand_longer stays old new (one ∷ []) before.asserted (map normal_of (assertions_of s)) longer (record { within = live.within; terms = live.terms }) in
-    subst (λ standing. IsLive new standing more) (sym h.stands)
-    (record {
-      named = scope_as new (with_constant before name x).names more (constants_of s ++ c ∷ []) (definitions_of s) later same
-          (scope_with_constant new before.names (constants_of s) (definitions_of s) c x
-          (scope_stays stays old new (one ∷ []) before.names (scope_by (constants_of s) (definitions_of s)) longer live.named) fresh
-          (record { within = within; normal = h.term; sort = h.sorted }));
-      constants = table ∙ sym later;
-      companions = companions_with_constant stays old new x.id c live.companions longer within (not_before old new x.id c unnamed longer h.node) h.term;
-      within = stand.within;
-      terms = stand.terms ∙ ap (map normal_of) (sym assertions);
-      linear = subst (AllByRecursion IsLinearAssertion) (sym assertions) live.linear;
-      items =
-          items_with new (with_constant before name x) s before.next (declared c) live.next
-          (has_constant stays old new (one ∷ []) before (numbered_items s.levels) c x longer live.items within h.term h.sorted);
-      next = next_after before.next s.next live.next;
-      unpushed = pushed_with s.levels (record { number = s.next; item = declared c }) ∙ live.unpushed;
-    })
+    let l : LiveItem = record { number = s.next; item = declared c } in
+    subst (λ standing. IsLive new standing (grown s (declared c))) (sym h.stands)
+    (is_live new (with_constant before name x) (grown s (declared c))
+    (level_with stays old new longer.0 before.names (with_constant before name x).names ((name, kinds.Constant x) ∷ []) before.top (layer_with_constant before.top before.next x) (reverse before.below) l longer.1 refl refl
+    (λ items older k. subst (λ n. IsLevel new (with_constant before name x).names (layer_with_constant before.top before.next x) (items ++ record { number = n; item = declared c } ∷ []) older) live.next
+    (level_declared stays old new longer.0 before c x longer.1 fresh within h.term h.sorted before.next items older k)) s.levels live.levels)
+    (companions_with_constant stays old new x.id c live.companions h.grown h.table h.node h.term) (next_after before.next s.next live.next))
 
 pub comes_declared : TermStays → (old new : List Node) (before after : Standing) (name : List ℕ) (sorts : List WrittenSort) (sort : WrittenSort) (found : Sort)
     → ((s : State) → IsLive old before s → declaration_of s name sorts sort ≡ accepted (declare_const (constant_of name found))) → named_by before.names name ≡ None
@@ -80,7 +78,7 @@ comes_declared stays old new before after name sorts sort found may fresh h kept
       unchanged = tt;
       skipped_terms = tt;
       skipped = tt;
-      front = ap (λ (st : Standing). take (length before.asserted) st.asserted) h.stands ∙ take_whole before.asserted;
+      moves = subst (λ st. GoesOn (asserted_by before) (asserted_by st)) (sym h.stands) (goes_on_top before (with_constant before name h.added) refl (take_whole (table_numbers before.top.assertions)));
     }
 
 -- ---- The rules on a declaration

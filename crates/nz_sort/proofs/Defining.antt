@@ -1,5 +1,6 @@
 -- Definitions: the rules on one, and what it leaves.
-use Rattle.std.proofs.Common.{◌||◌, ◌&&◌, ◌+◌, option_and_then, ◌≡◌, ℕ, suc, List, [], ◌∷◌, ◌++◌, length, map, take, Option, None, Some, IfSome, Result, Ok, Err, IfOk, Bool, true, false, cond, slice_get, refl, sym, ap, ◌∙◌, append-nil, subst, arith}
+use Rattle.std.proofs.Common.{◌||◌, ◌&&◌, ◌+◌, option_and_then, ◌≡◌, ℕ, suc, List, [], ◌∷◌, ◌++◌, length, length-append, map, Option, None, Some, IfSome, Result, Ok, Err, IfOk, Bool, true, false, cond, slice_get, refl, sym, ap, ◌∙◌, append-nil, subst, arith}
+use Rattle.std.specs.Prelude.{reverse}
 use Rattle.std.specs.List.{AllByRecursion}
 use Rattle.nz_spec.specs.Term.{Sort, int_sort, real_sort, to_real, Term, no_terms, terms, apply, are_same_sort}
 use Rattle.nz_spec.specs.Normal.{normal_of}
@@ -9,7 +10,7 @@ use Rattle.nz_spec.specs.Linear.{is_linear}
 use Rattle.nz_spec.specs.Expression.{Expression}
 use Rattle.nz_spec.specs.Request.{Parameter, WrittenSort, defines}
 use Rattle.nz_spec.specs.Elaboration.{Definition, RootFits, TermFits, term_of, has_sort, placed}
-use Rattle.nz_spec.specs.Live.{State, defined, numbered_items, constants_of, definitions_of, assertions_of, grown}
+use Rattle.nz_spec.specs.Live.{State, defined, LiveItem, items_of, items_hold_integers, constants_in, definitions_in, definitions_of, with_item, grown}
 use Rattle.nz_spec.specs.Script.{is_live_name, scope_of, body_scope, parameters_from, parameter_names, parameter_sorts, sorts_written, sort_written, linear_outcome, definition_by, definition_of}
 use Rattle.nz_spec.specs.Command.{define, Outcome, refused}
 use Rattle.nz_spec.specs.Error.{unknown_symbol, wrong_sort, not_linear, already_declared}
@@ -24,39 +25,45 @@ use Rattle.nz_elaborate.specs.Definitions.{definition_unknown, definition_clash,
 use Rattle.nz_elaborate.specs.Elaborate.{ClashesFirst, IsWellNamed}
 use Rattle.nz_elaborate.specs.Typed.{Grows, IsTyped}
 use Rattle.nz_sort.specs.declared.acts.Act.TheVariants as acts
+use Rattle.nz_elaborate.specs.declared.names.Named.TheVariants as kinds
+use Rattle.nz_sort.specs.Live.{Standing, asserted_by, IsLevel, IsLive, GoesOn}
 use Rattle.nz_sort.specs.Acts.{rule_of, redeclared_by}
-use Rattle.nz_sort.specs.Live.{Standing, IsLinearAssertion, IsLive}
 use Rattle.nz_sort.specs.Changes.{Comes, Defines, with_definition}
-use Rattle.nz_sort.proofs.Accepting.{stand_longer, has_definition}
-use Rattle.nz_sort.proofs.Naming.{scope_by, scope_stays, scope_with_definition}
-use Rattle.nz_sort.proofs.Living.{assertions_with, constants_with, definitions_with, items_with, kept_where_grown, next_after, pushed_with, same_constants, scope_as}
-use Rattle.nz_sort.proofs.Ruling.{unknown_first, clash_next, past_names, take_whole}
+use Rattle.nz_sort.proofs.Accepting.{has_definition, definition_integer}
+use Rattle.nz_sort.proofs.Leveling.{is_live, level_with, goes_on_same}
+use Rattle.nz_sort.proofs.Naming.{scope_by, scope_as, scope_stays, scope_with_definition}
+use Rattle.nz_sort.proofs.Living.{constants_with, definitions_with, items_of-with_item, kept_where_grown, next_after}
+use Rattle.nz_sort.proofs.Ruling.{unknown_first, clash_next, past_names}
 
 -- ---- What a definition leaves
+
+level_defined : TermStays → (old new : List Node) (more : List Node) (before : Standing) (d : code.Definition) (e : Definition) → new ≡ old ++ more → IsDefined new d e → RootFits e.parameters e.body
+    → (number : ℕ) (items : List LiveItem) (older : List (List LiveItem)) → IsLevel old before.names before.top items older
+    → IsLevel new (with_definition before e.name d).names before.top (items ++ record { number = number; item = defined e } ∷ []) older
+level_defined stays old new more before d e grow is fit number items older h =
+    let l : LiveItem = record { number = number; item = defined e } in
+    let levels = items ∷ older in
+    let cs = constants_in (items_of levels) in
+    let ds = definitions_in (items_of levels) in
+    let same : constants_in (items_of (with_item levels l)) ≡ cs = constants_with levels l ∙ append-nil cs in
+    let later : definitions_in (items_of (with_item levels l)) ≡ ds ++ e ∷ [] = definitions_with levels l in
+    record {
+      named = scope_as new (with_definition before e.name d).names same later
+          (scope_with_definition new before.names cs ds e d (scope_stays stays old new more before.names (scope_by cs ds) grow h.named) is fit);
+      before = (let far = length-append before.names ((e.name, kinds.Definition d) ∷ []) in let near = h.before in omega (arith, far, near));
+      has = has_definition stays old new more before.top items number e grow h.has;
+      count = h.count ∙ ap length (sym same);
+      integers = ap items_hold_integers (items_of-with_item levels l) ∙ definition_integer (items_of levels) e before.top.holds_integers h.integers;
+    }
 
 live_defined : TermStays → (old new : List Node) (before : Standing) (s : State) (d : code.Definition) (e : Definition) → IsLive old before s → Grows old new
     → HasCompanions new → IsDefined new d e → RootFits e.parameters e.body → IsLive new (with_definition before e.name d) (grown s (defined e))
 live_defined stays old new before s d e live g companions is fit =
-    let more : State = grown s (defined e) in
-    let same : constants_of more ≡ constants_of s = constants_with s (defined e) ∙ append-nil (constants_of s) in
-    let later : definitions_of more ≡ definitions_of s ++ e ∷ [] = definitions_with s (defined e) in
-    let assertions : assertions_of more ≡ assertions_of s = assertions_with s (defined e) ∙ append-nil (assertions_of s) in
-    let stand = stand_longer stays old new g.more before.asserted (map normal_of (assertions_of s)) g.all (record { within = live.within; terms = live.terms }) in
-    record {
-      named = scope_as new (with_definition before e.name d).names more (constants_of s) (definitions_of s ++ e ∷ []) same later
-          (scope_with_definition new before.names (constants_of s) (definitions_of s) e d
-          (scope_stays stays old new g.more before.names (scope_by (constants_of s) (definitions_of s)) g.all live.named) is fit);
-      constants = same_constants old new g ∙ live.constants ∙ sym same;
-      companions = companions;
-      within = stand.within;
-      terms = stand.terms ∙ ap (map normal_of) (sym assertions);
-      linear = subst (AllByRecursion IsLinearAssertion) (sym assertions) live.linear;
-      items =
-          items_with new (with_definition before e.name d) s before.next (defined e) live.next
-          (has_definition stays old new g.more before (numbered_items s.levels) e.name d e g.all live.items);
-      next = next_after before.next s.next live.next;
-      unpushed = pushed_with s.levels (record { number = s.next; item = defined e }) ∙ live.unpushed;
-    }
+    let l : LiveItem = record { number = s.next; item = defined e } in
+    is_live new (with_definition before e.name d) (grown s (defined e))
+    (level_with stays old new g.more before.names (with_definition before e.name d).names ((e.name, kinds.Definition d) ∷ []) before.top before.top (reverse before.below) l g.all refl refl
+    (λ items older k. level_defined stays old new g.more before d e g.all is fit s.next items older k) s.levels live.levels)
+    companions (next_after before.next s.next live.next)
 
 pub comes_defined : TermStays → (old new : List Node) (before after : Standing) (name : List ℕ) (parameters : List Parameter) (sort : WrittenSort) (body : Expression) (d : code.Definition)
     → Grows old new → HasCompanions new → ((s : State) → IsLive old before s → Defines name (definition_of s name parameters sort body) new d) → after ≡ with_definition before name d
@@ -78,7 +85,7 @@ comes_defined stays old new before after name parameters sort body d g companion
       unchanged = tt;
       skipped_terms = tt;
       skipped = tt;
-      front = ap (λ (st : Standing). take (length before.asserted) st.asserted) more ∙ take_whole before.asserted;
+      moves = subst (λ st. GoesOn (asserted_by before) (asserted_by st)) (sym more) (goes_on_same (asserted_by before));
     }
 
 -- ---- Roots of bodies

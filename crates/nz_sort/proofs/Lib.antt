@@ -1,8 +1,12 @@
 pub mod Accepting
 pub mod AskedValues
 pub mod Asserting
+pub mod FoundLiterals
 pub mod Declaring
 pub mod Defining
+pub mod Leveling
+pub mod Lists
 pub mod Living
+pub mod Moving
 pub mod Naming
 pub mod Ruling

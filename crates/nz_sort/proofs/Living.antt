@@ -1,18 +1,15 @@
 -- The live state after commands.
-use Rattle.std.proofs.Common.{◌+◌, ◌-◌, ◌≤◌, ◌≡◌, ◌⊎◌, inl, inr, ℕ, zero, suc, ◌<◌, List, [], ◌∷◌, ◌++◌, length, map, take, All, Option, None, Some, IfSome, IfNone, is_some, true, false, cond, bytes_eq, slice_get, refl, sym, ap, ◌∙◌, append_assoc, append-nil, length-append, subst, arith}
-use Rattle.std.proofs.lemmas.Grind.{flat_map-append}
-use Rattle.std.proofs.lemmas.List.{length-map}
+use Rattle.std.proofs.Common.{◌+◌, ◌-◌, ◌≤◌, ◌≡◌, ◌⊎◌, inl, inr, ℕ, suc, ◌<◌, List, [], ◌∷◌, ◌++◌, length, map, take, All, Option, None, Some, IfSome, IfNone, is_some, true, false, slice_get, refl, sym, ap, ◌∙◌, append_assoc, append-nil, length-append, subst, arith}
+use Rattle.std.specs.Prelude.{flat_map, reverse}
 use Rattle.std.proofs.lemmas.List.Elements.{All-cons, All-nil}
-use Rattle.std.specs.Cmp.Lexicographic.{nat_list_eq_equiv}
 use Rattle.std.specs.List.{AllByRecursion}
 use Rattle.std.proofs.lemmas.Bool.{cases_lt}
-use Rattle.nz_spec.specs.Term.{Constant, Head, constant, parameter, integer, decimal_number, verum, falsum, negation, conjunction, disjunction, implication, exclusion, equality, distinction, choice, less, at_most, greater, at_least, sum, difference, product, quotient, integer_quotient, modulus, magnitude, to_real, to_int, is_int, Term, apply, Terms, no_terms, terms}
-use Rattle.nz_spec.specs.Normal.{normal_of}
-use Rattle.nz_spec.specs.Table.{Node, term_in, TermStays}
-use Rattle.nz_spec.specs.Order.{companions_of, IsInTable, HasCompanions}
-use Rattle.nz_spec.specs.Decide.{constants_of_head, constants_in_table}
-use Rattle.nz_spec.specs.Elaboration.{Definition, constant_named}
-use Rattle.nz_spec.specs.Live.{State, LiveItem, Item, numbered_items, items_of, constants_in, definitions_in, assertions_in, constants_of, definitions_of, assertions_of, with_item, grown, start}
+use Rattle.nz_spec.specs.Term.{Constant, constant, Term, apply, Terms, no_terms, terms}
+use Rattle.nz_spec.specs.Table.{Node, term_in, TermStays, IsTable}
+use Rattle.nz_spec.specs.Order.{listing_order, companions_of, AreFirst, IsInTable, HasCompanions}
+use Rattle.nz_spec.specs.TermList.{IsTermList}
+use Rattle.std.proofs.lemmas.List.{map-append}
+use Rattle.nz_spec.specs.Live.{State, LiveItem, numbered_items, items_of, items_hold_integers, constants_in, definitions_in, constants_of, with_item, start}
 use Rattle.std.specs.Borrow.{Bor}
 use Rattle.nz_spec.specs.Script.{scope_of, is_live_name}
 use Rattle.nz_spec.specs.Request.{Request}
@@ -22,15 +19,15 @@ use Rattle.nz_spec.specs.Right.{effect}
 use Rattle.nz_elaborate.specs.declared.names.Named as naming
 use Rattle.nz_elaborate.specs.Names.{IsScope, named_by, nothing_declared}
 use Rattle.nz_elaborate.specs.declared.typed.Typed.{Typed}
-use Rattle.nz_elaborate.specs.Typed.{IsOperator, Grows, StandsFor, IsTyped, AreTyped}
-use Rattle.nz_sort.specs.declared.items.Accepted.{Accepted}
-use Rattle.nz_sort.specs.declared.items.Goal.{Goal}
-use Rattle.nz_sort.specs.declared.items.Wish.{Wish}
-use Rattle.nz_sort.specs.Items.{table_numbers, items_in, StandForAll}
-use Rattle.nz_sort.specs.Live.{Standing, standing_of, HasItems, IsLinearAssertion, IsLive, IsAccepted, Leaves, IfSkipped, Ask, Asks, changed, check, show_model, show_values, show_reason, show_info, show_levels, print_success, nothing, echo, leave, unsupported}
-use Rattle.nz_sort.specs.Acts.{is_check}
-use Rattle.nz_sort.proofs.Naming.{scope_by, scope_stays, are_live}
-use Rattle.nz_sort.proofs.Accepting.{items_in-last, constants_in-append, definitions_in-append, assertions_in-append, stand_longer, items_kept}
+use Rattle.nz_elaborate.specs.Typed.{Grows, StandsFor, IsTyped, AreTyped}
+use Rattle.nz_sort.specs.Items.{items_in}
+use Rattle.nz_sort.specs.Layers.{Layer, empty_layer}
+use Rattle.nz_sort.specs.Live.{Standing, accepted_by, AreLevels, IsLive, IsAccepted, Leaves, IfSkipped, Ask, Asks, changed, popped, cleared, reset, check, show_model, show_values, show_reason, show_info, show_levels, print_success, nothing, echo, leave, unsupported}
+use Rattle.nz_sort.specs.Acts.{is_plain}
+use Rattle.nz_sort.proofs.Lists.{take_front}
+use Rattle.nz_sort.proofs.Naming.{are_live}
+use Rattle.nz_sort.proofs.Accepting.{items_in-last, constants_in-append, definitions_in-append}
+use Rattle.nz_sort.proofs.Leveling.{newest_first, is_live, live_longer, top_scope, top_count, top_integers, first_level}
 
 -- ---- Items
 
@@ -38,123 +35,26 @@ numbered_items-with_item : (levels : List (List LiveItem)) (l : LiveItem) → nu
 numbered_items-with_item [] l = refl
 numbered_items-with_item (items ∷ older) l = sym (append_assoc (numbered_items older) items (l ∷ []))
 
-items_of-with_item : (levels : List (List LiveItem)) (l : LiveItem) → items_of (with_item levels l) ≡ items_of levels ++ l.item ∷ []
+pub items_of-with_item : (levels : List (List LiveItem)) (l : LiveItem) → items_of (with_item levels l) ≡ items_of levels ++ l.item ∷ []
 items_of-with_item levels l = ap items_in (numbered_items-with_item levels l) ∙ items_in-last (numbered_items levels) l
 
-pub constants_with : (s : State) (i : Item) → constants_of (grown s i) ≡ constants_of s ++ constants_in (i ∷ [])
-constants_with s i =
-    ap constants_in (items_of-with_item s.levels (record { number = s.next; item = i })) ∙ constants_in-append (items_of s.levels) (i ∷ [])
+pub constants_with : (levels : List (List LiveItem)) (l : LiveItem) → constants_in (items_of (with_item levels l)) ≡ constants_in (items_of levels) ++ constants_in (l.item ∷ [])
+constants_with levels l = ap constants_in (items_of-with_item levels l) ∙ constants_in-append (items_of levels) (l.item ∷ [])
 
-pub definitions_with : (s : State) (i : Item) → definitions_of (grown s i) ≡ definitions_of s ++ definitions_in (i ∷ [])
-definitions_with s i =
-    ap definitions_in (items_of-with_item s.levels (record { number = s.next; item = i })) ∙ definitions_in-append (items_of s.levels) (i ∷ [])
-
-pub assertions_with : (s : State) (i : Item) → assertions_of (grown s i) ≡ assertions_of s ++ assertions_in (i ∷ [])
-assertions_with s i =
-    ap assertions_in (items_of-with_item s.levels (record { number = s.next; item = i })) ∙ assertions_in-append (items_of s.levels) (i ∷ [])
-
-pub pushed_with : (levels : List (List LiveItem)) (l : LiveItem) → length (with_item levels l) - 1 ≡ length levels - 1
-pushed_with [] l = refl
-pushed_with (items ∷ older) l = refl
-
--- the items with one more, of the next number
-pub items_with : (ns : List Node) (standing : Standing) (s : State) (number : ℕ) (i : Item) → number ≡ s.next
-    → HasItems ns standing (numbered_items s.levels ++ record { number = number; item = i } ∷ []) → HasItems ns standing (numbered_items (grown s i).levels)
-items_with ns standing s number i e h =
-    subst (HasItems ns standing)
-    (ap (λ n. numbered_items s.levels ++ record { number = n; item = i } ∷ []) e ∙ sym (numbered_items-with_item s.levels (record { number = s.next; item = i }))) h
+pub definitions_with : (levels : List (List LiveItem)) (l : LiveItem) → definitions_in (items_of (with_item levels l)) ≡ definitions_in (items_of levels) ++ definitions_in (l.item ∷ [])
+definitions_with levels l = ap definitions_in (items_of-with_item levels l) ∙ definitions_in-append (items_of levels) (l.item ∷ [])
 
 pub next_after : (n m : ℕ) → n ≡ m → n + 1 ≡ suc m
 next_after n m e = omega (arith, e)
 
 -- there are as many constants as live ones
-pub as_many : (ns : List Node) (standing : Standing) (s : State) → IsLive ns standing s → length standing.constants ≡ length (constants_of s)
-as_many ns standing s live =
-    sym (length-map (table_numbers standing.constants) (term_in ns) ∙ length-map standing.constants (λ (a : Accepted). a.term))
-    ∙ ap length live.items.constants.terms.terms ∙ length-map (constants_of s) (λ (c : Constant). apply (constant c) no_terms)
+pub as_many : (ns : List Node) (standing : Standing) (s : State) → IsLive ns standing s → standing.top.constant_count ≡ length (constants_of s)
+as_many ns standing s live = top_count ns standing.names standing.top (reverse standing.below) s.levels live.levels
 
--- ---- Constants of the table
-
-none_of_operator : (h : Head) → IsOperator h → constants_of_head h ≡ []
-none_of_operator (constant c) o = absurd o
-none_of_operator (parameter i s) o = refl
-none_of_operator (integer n) o = refl
-none_of_operator (decimal_number n places) o = refl
-none_of_operator verum o = refl
-none_of_operator falsum o = refl
-none_of_operator negation o = refl
-none_of_operator conjunction o = refl
-none_of_operator disjunction o = refl
-none_of_operator implication o = refl
-none_of_operator exclusion o = refl
-none_of_operator equality o = refl
-none_of_operator distinction o = refl
-none_of_operator (choice s) o = refl
-none_of_operator less o = refl
-none_of_operator at_most o = refl
-none_of_operator greater o = refl
-none_of_operator at_least o = refl
-none_of_operator (sum s) o = refl
-none_of_operator (difference s) o = refl
-none_of_operator (product s) o = refl
-none_of_operator quotient o = refl
-none_of_operator integer_quotient o = refl
-none_of_operator modulus o = refl
-none_of_operator magnitude o = refl
-none_of_operator to_real o = refl
-none_of_operator to_int o = refl
-none_of_operator is_int o = refl
-
--- operators bring none
-no_constants : (more : List Node) → AllByRecursion (λ (n : Node). IsOperator n.head) more → constants_in_table more ≡ []
-no_constants [] h = refl
-no_constants (n ∷ more) h = ap (λ l. l ++ constants_in_table more) (none_of_operator n.head h.0) ∙ no_constants more h.1
-
-pub same_constants : (old new : List Node) → Grows old new → constants_in_table new ≡ constants_in_table old
-same_constants old new g =
-    ap constants_in_table g.all
-    ∙ flat_map-append (λ (n : Node). constants_of_head n.head) old g.more
-    ∙ ap (λ l. constants_in_table old ++ l) (no_constants g.more g.operators)
-    ∙ append-nil (constants_in_table old)
-
--- a constant that no list names is in no part of it
-unnamed_behind : (xs ys : List Constant) (name : List ℕ) → constant_named (xs ++ ys) name ≡ None → constant_named ys name ≡ None
-unnamed_behind [] ys name h = h
-unnamed_behind (x ∷ xs) ys name h =
-    (elim (bytes_eq x.name name) as (λ b. cond b (Some x) (constant_named (xs ++ ys) name) ≡ None → constant_named ys name ≡ None) [
-      | true ↦ λ e. cc
-      | false ↦ λ e. unnamed_behind xs ys name e
-    ]) h
-
--- a constant of the table is named
-pub named_in_table : (ns : List Node) (i : ℕ) (c : Constant) → slice_get ns i ≡ Some (record { head = constant c; kids = [] }) → constant_named (constants_in_table ns) c.name ≡ None → ⊥
-named_in_table [] i c at none = cc
-named_in_table (n ∷ ns) zero c at none =
-    let one : Node = record { head = constant c; kids = [] } in
-    let e : n ≡ one = cc in
-    let h = subst (λ (m : Node). constant_named (constants_of_head m.head ++ constants_in_table ns) c.name ≡ None) e none in
-    let k = subst (λ b. cond b (Some c) (constant_named (constants_in_table ns) c.name) ≡ None) (nat_list_eq_equiv.refl c.name) h in
-    cc
-named_in_table (n ∷ ns) (suc i) c at none = named_in_table ns i c at (unnamed_behind (constants_of_head n.head) (constants_in_table ns) c.name none)
-
--- a node of a number below the front's length stands in the front
-front_at : (xs ys : List Node) (i : ℕ) (n : Node) → i < length xs → slice_get (xs ++ ys) i ≡ Some n → slice_get xs i ≡ Some n
-front_at [] ys i n below at = absurd (omega (arith, below))
-front_at (x ∷ xs) ys zero n below at = at
-front_at (x ∷ xs) ys (suc i) n below at = front_at xs ys i n (omega (arith, below)) at
-
--- the node of a constant that had no name in the table isn't one that was there
-pub not_before : (old new : List Node) (id : ℕ) (c : Constant) → constant_named (constants_in_table old) c.name ≡ None → new ≡ old ++ record { head = constant c; kids = [] } ∷ []
-    → slice_get new id ≡ Some (record { head = constant c; kids = [] }) → id < length old → ⊥
-not_before old new id c none longer at below =
-    let one : Node = record { head = constant c; kids = [] } in
-    named_in_table old id c (front_at old (one ∷ []) id one below (subst (λ ns. slice_get ns id ≡ Some one) longer at)) none
+pub live_integers : (ns : List Node) (standing : Standing) (s : State) → IsLive ns standing s → items_hold_integers (items_of s.levels) ≡ standing.top.holds_integers
+live_integers ns standing s live = top_integers ns standing.names standing.top (reverse standing.below) s.levels live.levels
 
 -- ---- Tables that are kept
-
-pub take_front : {A : Type 0} (xs ys : List A) → take (length xs) (xs ++ ys) ≡ xs
-take_front [] ys = refl
-take_front (x ∷ xs) ys = ap (λ l. x ∷ l) (take_front xs ys)
 
 pub kept_where_grown : (old new : List Node) → Grows old new → take (length old) new ≡ old
 kept_where_grown old new g = ap (take (length old)) g.all ∙ take_front old g.more
@@ -203,22 +103,39 @@ last_place i id n m count behind below within late =
       | inr after ↦ omega (arith, count, behind, below, within, after)
     ]
 
+at_end : (ns : List Node) (n : Node) → slice_get (ns ++ n ∷ []) (length ns) ≡ Some n
+at_end [] n = refl
+at_end (m ∷ ns) n = at_end ns n
+
 -- a constant has none, so a table with one more has them still
-pub companions_with_constant : TermStays → (old new : List Node) (id : ℕ) (c : Constant) → HasCompanions old → new ≡ old ++ record { head = constant c; kids = [] } ∷ [] → id < length new
-    → (id < length old → ⊥) → term_in new id ≡ apply (constant c) no_terms → HasCompanions new
-companions_with_constant stays old new id c has longer within late term i below =
+companions_one_more : TermStays → (old new : List Node) (id : ℕ) (c : Constant) → HasCompanions old → new ≡ old ++ record { head = constant c; kids = [] } ∷ [] → id ≡ length old
+    → term_in new id ≡ apply (constant c) no_terms → HasCompanions new
+companions_one_more stays old new id c has longer place term i below =
+    let one : Node = record { head = constant c; kids = [] } in
     elim (cases_lt i (length old)) [
       | inl before ↦
           subst (λ ns. AllByRecursion (IsInTable ns) (companions_of (term_in ns i))) (sym longer)
-          (subst (λ t. AllByRecursion (IsInTable (old ++ record { head = constant c; kids = [] } ∷ [])) (companions_of t))
-          (sym (stays old (record { head = constant c; kids = [] } ∷ []) i before))
-          (all_in_longer stays old (record { head = constant c; kids = [] } ∷ []) (companions_of (term_in old i)) (has i before)))
+          (subst (λ t. AllByRecursion (IsInTable (old ++ one ∷ [])) (companions_of t))
+          (sym (stays old (one ∷ []) i before))
+          (all_in_longer stays old (one ∷ []) (companions_of (term_in old i)) (has i before)))
       | inr behind ↦
-          let count : length new ≡ length old + 1 = ap length longer ∙ length-append old (record { head = constant c; kids = [] } ∷ []) in
-          let last : i ≡ id = last_place i id (length old) (length new) count behind below within late in
+          let count : length new ≡ length old + 1 = ap length longer ∙ length-append old (one ∷ []) in
+          let last : i ≡ id = omega (arith, count, behind, below, place) in
           subst (λ j. AllByRecursion (IsInTable new) (companions_of (term_in new j))) (sym last)
           (subst (λ t. AllByRecursion (IsInTable new) (companions_of t)) (sym term) tt)
     ]
+
+pub companions_with_constant : TermStays → (old new : List Node) (id : ℕ) (c : Constant) → HasCompanions old → (new ≡ old) ⊎ (new ≡ old ++ record { head = constant c; kids = [] } ∷ [])
+    → IsTable new → slice_get new id ≡ Some (record { head = constant c; kids = [] }) → term_in new id ≡ apply (constant c) no_terms → HasCompanions new
+companions_with_constant stays old new id c has (inl e) table at term = subst HasCompanions (sym e) has
+companions_with_constant stays old new id c has (inr e) table at term =
+    let one : Node = record { head = constant c; kids = [] } in
+    companions_one_more stays old new id c has e (table.once id (length old) one at (ap (λ ns. slice_get ns (length old)) e ∙ at_end old one)) term
+
+-- what was there, and then more or nothing
+pub goes_on_by : (old new : List Node) (n : Node) → (new ≡ old) ⊎ (new ≡ old ++ n ∷ []) → (more : List Node) × (new ≡ old ++ more)
+goes_on_by old new n (inl e) = ([], e ∙ sym (append-nil old))
+goes_on_by old new n (inr e) = (n ∷ [], e)
 
 -- those of what was made were made too
 pub companions_made : (old mid new : List Node) (mark : ℕ) → mark ≡ length old → Grows old mid → HasCompanions old → (HasCompanions (take mark mid) → HasCompanions new) → HasCompanions new
@@ -226,28 +143,10 @@ companions_made old mid new mark e g has made = made (subst HasCompanions (sym (
 
 -- ---- What commands leave that bring no item
 
--- the scope of a live state with more constants and definitions
-pub scope_as : (ns : List Node) (names : List (List ℕ × naming.Named)) (s : State) (cs : List Constant) (ds : List Definition) → constants_of s ≡ cs → definitions_of s ≡ ds
-    → IsScope ns names [] (scope_by cs ds) → IsScope ns names [] (scope_by (constants_of s) (definitions_of s))
-scope_as ns names s cs ds c d h =
-    subst (λ l. IsScope ns names [] (scope_by l (definitions_of s))) (sym c) (subst (λ l. IsScope ns names [] (scope_by cs l)) (sym d) h)
-
 -- what is live rests on the levels and the next number alone
-live_by_levels : (ns : List Node) (standing : Standing) (s t : State) → t.levels ≡ s.levels → t.next ≡ s.next → IsLive ns standing s → IsLive ns standing t
+pub live_by_levels : (ns : List Node) (standing : Standing) (s t : State) → t.levels ≡ s.levels → t.next ≡ s.next → IsLive ns standing s → IsLive ns standing t
 live_by_levels ns standing s t e f live =
-    let same : constants_of t ≡ constants_of s = ap (λ l. constants_in (items_of l)) e in
-    let alike : definitions_of t ≡ definitions_of s = ap (λ l. definitions_in (items_of l)) e in
-    record {
-      named = scope_as ns standing.names t (constants_of s) (definitions_of s) same alike live.named;
-      constants = live.constants ∙ sym same;
-      companions = live.companions;
-      within = live.within;
-      terms = live.terms ∙ ap (λ l. map normal_of (assertions_in (items_of l))) (sym e);
-      linear = subst (λ l. AllByRecursion IsLinearAssertion (assertions_in (items_of l))) (sym e) live.linear;
-      items = subst (λ l. HasItems ns standing (numbered_items l)) (sym e) live.items;
-      next = live.next ∙ sym f;
-      unpushed = ap (λ (l : List (List LiveItem)). length l - 1) e ∙ live.unpushed;
-    }
+    is_live ns standing t (subst (AreLevels ns standing.names (newest_first standing)) (sym e) live.levels) live.companions (live.next ∙ sym f)
 
 pub leaves_asked : (ns : List Node) (standing : Standing) (s : State) (r : Request) (outcome : Outcome) (ask : Ask) (c : Command) → outcome ≡ accepted c
     → Asks ns ask r c → ((reply : Reply) → (effect s c reply).levels ≡ s.levels) → ((reply : Reply) → (effect s c reply).next ≡ s.next) → IsLive ns standing s
@@ -257,25 +156,16 @@ leaves_asked ns standing s r outcome ask c is asks keeps counts live =
 
 -- what is live stays so where the table grows by operators and numbers
 pub live_grown : TermStays → (old new : List Node) (standing : Standing) (s : State) → Grows old new → HasCompanions new → IsLive old standing s → IsLive new standing s
-live_grown stays old new standing s g companions live =
-    let stand = stand_longer stays old new g.more standing.asserted (map normal_of (assertions_of s)) g.all (record { within = live.within; terms = live.terms }) in
-    record {
-      named = scope_stays stays old new g.more standing.names (scope_by (constants_of s) (definitions_of s)) g.all live.named;
-      constants = same_constants old new g ∙ live.constants;
-      companions = companions;
-      within = stand.within;
-      terms = stand.terms;
-      linear = live.linear;
-      items = items_kept stays old new g.more standing (numbered_items s.levels) g.all live.items;
-      next = live.next;
-      unpushed = live.unpushed;
-    }
+live_grown stays old new standing s g companions live = live_longer stays old new g.more standing s g.all companions live
 
--- an accepted command leaves what its ask says, where that is no check
-pub leaves_by : (s : State) (r : Request) (outcome : Outcome) (ask : Ask) (ns : List Node) (standing : Standing) (c : Command) → is_check ask ≡ false → Asks ns ask r c
+-- an accepted command leaves what its ask says, where that is plain
+pub leaves_by : (s : State) (r : Request) (outcome : Outcome) (ask : Ask) (ns : List Node) (standing : Standing) (c : Command) → is_plain ask ≡ true → Asks ns ask r c
     → IsAccepted s r outcome ask ns standing → Leaves s r outcome ask ns standing
 leaves_by s r outcome changed ns standing c other asks h = h
-leaves_by s r outcome check ns standing c other asks h = cc
+leaves_by s r outcome popped ns standing c other asks h = cc
+leaves_by s r outcome cleared ns standing c other asks h = h
+leaves_by s r outcome reset ns standing c other asks h = h
+leaves_by s r outcome (check xs) ns standing c other asks h = cc
 leaves_by s r outcome show_model ns standing c other asks h = h
 leaves_by s r outcome (show_values xs) ns standing c other asks h = h
 leaves_by s r outcome show_reason ns standing c other asks h = h
@@ -290,7 +180,10 @@ leaves_by s r outcome unsupported ns standing c other asks h = absurd asks
 -- what holds, holds where the command isn't taken
 pub if_skipped : {P : Type 0} (ask : Ask) → P → IfSkipped ask P
 if_skipped changed p = tt
-if_skipped check p = tt
+if_skipped popped p = tt
+if_skipped cleared p = tt
+if_skipped reset p = tt
+if_skipped (check xs) p = tt
 if_skipped show_model p = tt
 if_skipped (show_values xs) p = tt
 if_skipped show_reason p = tt
@@ -302,10 +195,20 @@ if_skipped echo p = tt
 if_skipped leave p = tt
 if_skipped unsupported p = p
 
+-- ---- The term list
+
+-- the order of these roots is that of the terms of the live items and the assumed ones
+pub listed_terms : (ns : List Node) (standing : Standing) (s : State) (assumed roots list : List ℕ) → roots ≡ accepted_by standing ++ assumed → IsLive ns standing s
+    → AreFirst [] (flat_map listing_order (map (term_in ns) roots)) (map (term_in ns) list) → IsTermList s (map (term_in ns) assumed) (map (term_in ns) list)
+listed_terms ns standing s assumed roots list e live first =
+    subst (λ ts. AreFirst [] (flat_map listing_order ts) (map (term_in ns) list))
+    (ap (map (term_in ns)) e ∙ map-append (term_in ns) (accepted_by standing) assumed ∙ ap (λ ts. ts ++ map (term_in ns) assumed) live.accepted.terms) first
+
 -- ---- The scope of the live names
 
 pub live_scope : (ns : List Node) (standing : Standing) (s : State) (names : List (List ℕ × naming.Named)) → names ≡ standing.names → IsLive ns standing s → IsScope ns names [] (scope_of s)
-live_scope ns standing s names e live = subst (λ l. IsScope ns l [] (scope_of s)) (sym e) live.named
+live_scope ns standing s names e live =
+    subst (λ l. IsScope ns l [] (scope_of s)) (sym e) (top_scope ns standing.names standing.top (reverse standing.below) s.levels live.levels)
 
 is_listed : {A B : Type 0} (o : Option A) (p : Option B) (f : A → B) → IfSome o (λ a. p ≡ Some (f a)) → IfNone o (p ≡ None) → is_some o ≡ is_some p
 is_listed (Some a) p f some none = sym (ap is_some some)
@@ -319,35 +222,12 @@ looked_up ns standing s names name o e live some none =
 
 -- ---- The start
 
-pub live_at_start : (names : List (List ℕ × naming.Named)) (cs assertions : List Accepted) (gs : List Goal) (ws : List Wish) (ids : List ℕ) → cs ≡ [] → assertions ≡ [] → gs ≡ [] → ws ≡ [] → ids ≡ []
-    → IsScope [] names [] nothing_declared → IsLive [] (standing_of names cs assertions gs ws ids 0 false) start
-live_at_start names cs assertions gs ws ids a b d e f h =
-    subst (λ l. IsLive [] (standing_of names l assertions gs ws ids 0 false) start) (sym a)
-    (subst (λ l. IsLive [] (standing_of names [] l gs ws ids 0 false) start) (sym b)
-    (subst (λ l. IsLive [] (standing_of names [] [] l ws ids 0 false) start) (sym d)
-    (subst (λ l. IsLive [] (standing_of names [] [] [] l ids 0 false) start) (sym e)
-    (subst (λ l. IsLive [] (standing_of names [] [] [] [] l 0 false) start) (sym f)
-    (let none = λ (i : ℕ). i < 0 in
-    let nothing : StandForAll [] [] [] = record { within = All-nil none; terms = refl } in
-    record {
-      named = h;
-      constants = refl;
-      companions = λ i below. absurd (omega (arith, below));
-      within = All-nil none;
-      terms = refl;
-      linear = tt;
-      items =
-          record {
-            constants = record { numbers = refl; terms = nothing };
-            assertions = record { numbers = refl; terms = nothing };
-            goals = record { items = record { numbers = refl; terms = nothing }; directions = refl; shown = refl };
-            wishes = record { items = record { numbers = refl; terms = nothing }; weights = refl; numerals = refl; groups = refl };
-            all = nothing;
-            integers = refl;
-          };
-      next = refl;
-      unpushed = refl;
-    })))))
+pub live_at_start : (names : List (List ℕ × naming.Named)) (top : Layer) (below : List Layer) → top ≡ empty_layer (length names) 0 false → below ≡ []
+    → IsScope [] names [] nothing_declared → IsLive [] (record { names = names; top = top; below = below; next = 0 }) start
+live_at_start names top below e f h =
+    subst (λ l. IsLive [] (record { names = names; top = l; below = below; next = 0 }) start) (sym e)
+    (subst (λ ls. IsLive [] (record { names = names; top = empty_layer (length names) 0 false; below = ls; next = 0 }) start) (sym f)
+    (is_live [] (record { names = names; top = empty_layer (length names) 0 false; below = []; next = 0 }) start (first_level [] names h) (λ i below. absurd (omega (arith, below))) refl))
 
 -- the numbers of typed terms are in the table
 pub all_within : (ns : List Node) (xs : List Typed) (ts : Terms) → AreTyped ns xs ts → All (λ (x : Typed). x.id < length ns) xs

@@ -36,18 +36,6 @@ pub are_live : (ns : List Node) (names : List (List ℕ × naming.Named)) (sc : 
 are_live ns names sc name h =
     named_together ns (named_by names name) (operator_named name) (constant_named sc.constants name) (definition_named sc.definitions name) (h.live name)
 
-no_named_constant : (ns : List Node) (n : Option naming.Named) (o : Option Operator) (c : Option Constant) (d : Option Definition) → SameNamed ns n o c d → n ≡ None → c ≡ None
-no_named_constant ns (Some n) o c d h e = cc
-no_named_constant ns None (Some o) c d h e = absurd h
-no_named_constant ns None None (Some c) d h e = absurd h
-no_named_constant ns None None None d h e = refl
-
--- a name that isn't listed is that of no constant
-pub no_constant : (ns : List Node) (names : List (List ℕ × naming.Named)) (sc : Scope) (name : List ℕ) → IsScope ns names [] sc → named_by names name ≡ None
-    → constant_named sc.constants name ≡ None
-no_constant ns names sc name h fresh =
-    no_named_constant ns (named_by names name) (operator_named name) (constant_named sc.constants name) (definition_named sc.definitions name) (h.live name) fresh
-
 -- ---- Names, where the table grows
 
 typed_stays : TermStays → (ns more : List Node) (x : Typed) (t : Term) → IsTyped ns x t → IsTyped (ns ++ more) x t
@@ -158,6 +146,11 @@ same_name (p ∷ ps) name other fresh e =
 -- the live names alone, none bound
 abbrev pub scope_by : List Constant → List Definition → Scope
 scope_by cs ds = record { constants = cs; definitions = ds; bound = [] }
+
+-- the scope of other lists that are these
+pub scope_as : (ns : List Node) (names : List (List ℕ × naming.Named)) {cs es : List Constant} {ds fs : List Definition} → es ≡ cs → fs ≡ ds → IsScope ns names [] (scope_by cs ds) → IsScope ns names [] (scope_by es fs)
+scope_as ns names {cs = cs} {es = es} {ds = ds} {fs = fs} c d h =
+    subst (λ l. IsScope ns names [] (scope_by l fs)) (sym c) (subst (λ l. IsScope ns names [] (scope_by cs l)) (sym d) h)
 
 pub scope_with_constant : (ns : List Node) (names : List (List ℕ × naming.Named)) (cs : List Constant) (ds : List Definition) (k : Constant) (x : Typed) → IsScope ns names [] (scope_by cs ds)
     → named_by names k.name ≡ None → IsTyped ns x (apply (constant k) no_terms) → IsScope ns (names ++ (k.name, kinds.Constant x) ∷ []) [] (scope_by (cs ++ k ∷ []) ds)

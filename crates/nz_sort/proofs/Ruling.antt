@@ -1,11 +1,11 @@
 -- What becomes of a command, by the rules in their order.
-use Rattle.std.proofs.Common.{◌≡◌, ◌||◌, List, [], ◌∷◌, length, take, Option, Some, None, IfSome, IfErr, IsErrAnd, Result, Ok, Err, Bool, true, false, cond, refl, sym, ap, ◌∙◌, subst}
+use Rattle.std.proofs.Common.{◌≡◌, ◌||◌, ℕ, List, [], length, take, Option, Some, None, IfSome, IfErr, IsErrAnd, Result, Ok, Err, Bool, true, false, cond, refl, sym, ap, ◌∙◌, subst}
 use Rattle.nz_spec.specs.Tree.{Tree}
 use Rattle.nz_spec.specs.Bounds.{has_token, is_wide_token, is_long_decimal}
 use Rattle.nz_spec.specs.Table.{Node}
 use Rattle.nz_spec.specs.Request.{Request, checks, other_request}
 use Rattle.nz_spec.specs.Parse.{request_of}
-use Rattle.nz_spec.specs.Live.{State}
+use Rattle.nz_spec.specs.Live.{State, constants_of, pushed_levels, start}
 use Rattle.nz_spec.specs.Limits.{passes_limit}
 use Rattle.nz_spec.specs.Command.{Command, check_sat, Outcome, accepted, refused, not_taken}
 use Rattle.nz_spec.specs.Error as spec
@@ -19,10 +19,12 @@ use Rattle.nz_elaborate.specs.declared.faults.ElaborateError.TheVariants as erro
 use Rattle.nz_elaborate.specs.Elaborate.{ClashesFirst, IsWellNamed}
 use Rattle.nz_elaborate.specs.Faults.{refusal_by}
 use Rattle.nz_sort.specs.declared.acts.Act.{Act}
-use Rattle.nz_sort.specs.Acts.{asked, rule_of, is_check, AsksBy}
+use Rattle.nz_sort.specs.declared.acts.Assumed.{Assumed}
+use Rattle.nz_sort.specs.Acts.{asked, rule_of, is_plain, AsksBy}
 use Rattle.nz_sort.specs.Changes.{Comes, ComesBy}
-use Rattle.nz_sort.specs.Live.{Standing, IsLive, IsCarriedOut, Leaves, Ask, Asks, changed, check, show_model, show_values, show_reason, show_info, show_levels, print_success, nothing, echo, leave, unsupported}
-use Rattle.nz_sort.proofs.Living.{leaves_asked, leaves_by, if_skipped, kept_where_same}
+use Rattle.nz_sort.specs.Live.{Standing, IsLive, IsCarriedOut, Leaves, Moves, asserted_by, Ask, Asks, changed, popped, cleared, reset, check, show_model, show_values, show_reason, show_info, show_levels, print_success, nothing, echo, leave, unsupported}
+use Rattle.nz_sort.proofs.Leveling.{goes_on_same, levels_pushed}
+use Rattle.nz_sort.proofs.Living.{as_many, leaves_asked, leaves_by, live_integers, if_skipped, kept_where_same}
 
 pub if_some_weaker : {P Q : spec.Error → Type 0} (o : Option spec.Error) → ((e : spec.Error) → P e → Q e) → IfSome o P → IfSome o Q
 if_some_weaker None f h = tt
@@ -78,11 +80,24 @@ pub within_bounds : (s : State) (t : Tree) (r : Request) → (passes_limit s r |
     → outcome_requested s t r ≡ outcome_by s r
 within_bounds s t r l w = rw (l, w) refl
 
--- ---- What comes of a command
+or_true : (b : Bool) → (b || true) ≡ true
+or_true true = refl
+or_true false = refl
 
-pub take_whole : {A : Type 0} (xs : List A) → take (length xs) xs ≡ xs
-take_whole [] = refl
-take_whole (x ∷ xs) = ap (λ l. x ∷ l) (take_whole xs)
+-- a decimal of too many places is past a limit, and so is a command that goes beyond one of its own
+pub breaks_places : (s : State) (t : Tree) (r : Request) → has_token is_long_decimal t ≡ true → outcome_requested s t r ≡ refused past_limit
+breaks_places s t r long = breaks_limit s t r (ap (λ b. passes_limit s r || b) long ∙ or_true (passes_limit s r))
+
+pub breaks_own : (s : State) (t : Tree) (r : Request) → passes_limit s r ≡ true → outcome_requested s t r ≡ refused past_limit
+breaks_own s t r own = breaks_limit s t r (ap (λ b. b || has_token is_long_decimal t) own)
+
+-- what is told of a limit by how many constants and levels are live
+pub limit_told : (ns : List Node) (standing : Standing) (s : State) (r : Request) (count pushed : ℕ) (told : Bool)
+    → ((s : State) → pushed_levels s ≡ pushed → length (constants_of s) ≡ count → told ≡ passes_limit s r) → count ≡ standing.top.constant_count → pushed ≡ length standing.below → IsLive ns standing s
+    → told ≡ passes_limit s r
+limit_told ns standing s r count pushed told tells e f live = tells s (sym (levels_pushed ns standing s live) ∙ sym f) (sym (as_many ns standing s live) ∙ sym e)
+
+-- ---- What comes of a command
 
 -- a refusal leaves what stood
 pub comes_refused : (old new : List Node) (before after : Standing) (r : Request) (becomes : State → Outcome) (refusal : Error)
@@ -96,13 +111,13 @@ comes_refused old new before after r becomes refusal told kept same =
       unchanged = same;
       skipped_terms = tt;
       skipped = tt;
-      front = ap (λ (st : Standing). take (length before.asserted) st.asserted) same ∙ take_whole before.asserted;
+      moves = tt;
     }
 
 -- what asks only leaves what stood
-pub comes_by_leaving : (ns : List Node) (standing : Standing) (r : Request) (becomes : State → Outcome) (act : Act)
+pub comes_by_leaving : (ns : List Node) (standing : Standing) (r : Request) (becomes : State → Outcome) (act : Act) → Moves (asked act) (asserted_by standing) (asserted_by standing)
     → ((s : State) → IsLive ns standing s → Leaves s r (becomes s) (asked act) ns standing) → Comes ns ns standing standing r becomes (Ok act)
-comes_by_leaving ns standing r becomes act h =
+comes_by_leaving ns standing r becomes act moved h =
     record {
       accepted = h;
       refused = tt;
@@ -110,48 +125,80 @@ comes_by_leaving ns standing r becomes act h =
       unchanged = tt;
       skipped_terms = if_skipped (asked act) refl;
       skipped = if_skipped (asked act) refl;
-      front = take_whole standing.asserted;
+      moves = moved;
     }
 
 leaves_only : (ns : List Node) (standing : Standing) (s : State) (r : Request) (outcome : Outcome) (act : Act) → AsksBy outcome act → IsLive ns standing s
     → Leaves s r outcome (asked act) ns standing
 leaves_only ns standing s r (accepted c) act h live =
-    leaves_by s r (accepted c) (asked act) ns standing c h.unchecked (h.asks ns r)
+    leaves_by s r (accepted c) (asked act) ns standing c h.plain (h.asks ns r)
     (leaves_asked ns standing s r (accepted c) (asked act) c refl (h.asks ns r) (h.keeps s) (h.counts s) live)
 leaves_only ns standing s r (refused e) act h live = absurd h
 leaves_only ns standing s r not_taken act h live = subst (λ ask. Leaves s r not_taken ask ns standing) (sym h) (record { is = refl; live = live })
 
+-- nothing comes of the assertions where what is asked is plain
+plain_stays : (ask : Ask) (standing : Standing) → is_plain ask ≡ true → Moves ask (asserted_by standing) (asserted_by standing)
+plain_stays changed standing e = goes_on_same (asserted_by standing)
+plain_stays popped standing e = cc
+plain_stays cleared standing e = tt
+plain_stays reset standing e = tt
+plain_stays (check xs) standing e = cc
+plain_stays show_model standing e = refl
+plain_stays (show_values xs) standing e = refl
+plain_stays show_reason standing e = refl
+plain_stays (show_info i) standing e = refl
+plain_stays show_levels standing e = refl
+plain_stays (print_success b) standing e = refl
+plain_stays nothing standing e = refl
+plain_stays echo standing e = refl
+plain_stays leave standing e = refl
+plain_stays unsupported standing e = refl
+
+asked_plain : (outcome : Outcome) (act : Act) → AsksBy outcome act → is_plain (asked act) ≡ true
+asked_plain (accepted c) act h = h.plain
+asked_plain (refused e) act h = absurd h
+asked_plain not_taken act h = ap is_plain h
+
+stays_put : (standing : Standing) (act : Act) (becomes : State → Outcome) → ((s : State) → AsksBy (becomes s) act) → Moves (asked act) (asserted_by standing) (asserted_by standing)
+stays_put standing act becomes h = plain_stays (asked act) standing (asked_plain (becomes start) act (h start))
+
 pub comes_only : (ns : List Node) (standing : Standing) (r : Request) (becomes : State → Outcome) (act : Act) → ((s : State) → AsksBy (becomes s) act)
     → Comes ns ns standing standing r becomes (Ok act)
-comes_only ns standing r becomes act h = comes_by_leaving ns standing r becomes act (λ s live. leaves_only ns standing s r (becomes s) act (h s) live)
+comes_only ns standing r becomes act h = comes_by_leaving ns standing r becomes act (stays_put standing act becomes h) (λ s live. leaves_only ns standing s r (becomes s) act (h s) live)
 
-pub comes_asked : (ns : List Node) (standing : Standing) (r : Request) (act : Act) (c : Command) → is_check (asked act) ≡ false → Asks ns (asked act) r c
+pub comes_asked : (ns : List Node) (standing : Standing) (r : Request) (act : Act) (c : Command) → is_plain (asked act) ≡ true → Asks ns (asked act) r c
     → ((s : State) (reply : Reply) → (effect s c reply).levels ≡ s.levels) → ((s : State) (reply : Reply) → (effect s c reply).next ≡ s.next)
     → Comes ns ns standing standing r (λ s. accepted c) (Ok act)
 comes_asked ns standing r act c other asks keeps counts =
-    comes_by_leaving ns standing r (λ s. accepted c) act
+    comes_by_leaving ns standing r (λ s. accepted c) act (plain_stays (asked act) standing other)
     (λ s live. leaves_by s r (accepted c) (asked act) ns standing c other asks (leaves_asked ns standing s r (accepted c) (asked act) c refl asks (keeps s) (counts s) live))
 
 pub comes_skipped : (ns : List Node) (standing : Standing) (r : Request) (act : Act) → asked act ≡ unsupported → Comes ns ns standing standing r (λ s. not_taken) (Ok act)
 comes_skipped ns standing r act e = comes_only ns standing r (λ s. not_taken) act (λ s. e)
 
-leaves_checked : (ns : List Node) (standing : Standing) (s : State) (act : Act) (holds : Bool) → standing.holds_integers ≡ holds → asked act ≡ cond holds unsupported check → IsLive ns standing s
+leaves_checked : (ns : List Node) (standing : Standing) (s : State) (act : Act) (holds : Bool) → standing.top.holds_integers ≡ holds → asked act ≡ cond holds unsupported (check []) → IsLive ns standing s
     → Leaves s checks (outcome_by s checks) (asked act) ns standing
 leaves_checked ns standing s act true e a live =
     subst (λ ask. Leaves s checks (outcome_by s checks) ask ns standing) (sym a)
-    (record { is = ap (λ b. cond b not_taken (accepted (check_sat []))) (live.items.integers ∙ e); live = live })
+    (record { is = ap (λ b. cond b not_taken (accepted (check_sat []))) (live_integers ns standing s live ∙ e); live = live })
 leaves_checked ns standing s act false e a live =
-    let none = live.items.integers ∙ e in
+    let none = live_integers ns standing s live ∙ e in
     subst (λ ask. Leaves s checks (outcome_by s checks) ask ns standing) (sym a)
     ((
-      leaves_asked ns standing s checks (outcome_by s checks) check (check_sat []) (ap (λ b. cond b not_taken (accepted (check_sat []))) none) refl (λ reply. refl) (λ reply. refl) live,
+      leaves_asked ns standing s checks (outcome_by s checks) (check []) (check_sat []) (ap (λ b. cond b not_taken (accepted (check_sat []))) none)
+          (record { literals = []; assumes = tt; is = refl }) (λ reply. refl) (λ reply. refl) live,
       none,
     ))
 
-pub comes_checked : (ns : List Node) (standing : Standing) (act : Act) → asked act ≡ cond standing.holds_integers unsupported check
+check_stays : (ask : Ask) (standing : Standing) (holds : Bool) (xs : List Assumed) → ask ≡ cond holds unsupported (check xs) → Moves ask (asserted_by standing) (asserted_by standing)
+check_stays ask standing true xs a = subst (λ x. Moves x (asserted_by standing) (asserted_by standing)) (sym a) refl
+check_stays ask standing false xs a = subst (λ x. Moves x (asserted_by standing) (asserted_by standing)) (sym a) refl
+
+pub comes_checked : (ns : List Node) (standing : Standing) (act : Act) → asked act ≡ cond standing.top.holds_integers unsupported (check [])
     → Comes ns ns standing standing checks (λ s. outcome_by s checks) (Ok act)
 comes_checked ns standing act a =
-    comes_by_leaving ns standing checks (λ s. outcome_by s checks) act (λ s live. leaves_checked ns standing s act standing.holds_integers refl a live)
+    comes_by_leaving ns standing checks (λ s. outcome_by s checks) act (check_stays (asked act) standing standing.top.holds_integers [] a)
+    (λ s live. leaves_checked ns standing s act standing.top.holds_integers refl a live)
 
 -- an outcome that is another
 pub comes_alike : (old new : List Node) (before after : Standing) (r : Request) (becomes others : State → Outcome) (result : Result Act Error)
@@ -164,7 +211,7 @@ comes_alike old new before after r becomes others (Ok act) alike h =
       unchanged = h.unchanged;
       skipped_terms = h.skipped_terms;
       skipped = h.skipped;
-      front = h.front;
+      moves = h.moves;
     }
 comes_alike old new before after r becomes others (Err refusal) alike h =
     record {
@@ -174,7 +221,7 @@ comes_alike old new before after r becomes others (Err refusal) alike h =
       unchanged = h.unchanged;
       skipped_terms = tt;
       skipped = tt;
-      front = h.front;
+      moves = tt;
     }
 
 -- ---- Trees that are commands, or none
@@ -185,7 +232,10 @@ outcome_parsed s t o e = ap (λ (p : Option Request). elim p [ Some r ↦ outcom
 -- what is refused leaves nothing
 no_leaving : (s : State) (r : Request) (e : spec.Error) (ask : Ask) (ns : List Node) (standing : Standing) → Leaves s r (refused e) ask ns standing → ⊥
 no_leaving s r e changed ns standing h = let no = h.is in cc
-no_leaving s r e check ns standing h = let no = h.0.is in cc
+no_leaving s r e popped ns standing h = let no = h.is in cc
+no_leaving s r e cleared ns standing h = let no = h.is in cc
+no_leaving s r e reset ns standing h = let no = h.is in cc
+no_leaving s r e (check xs) ns standing h = let no = h.0.is in cc
 no_leaving s r e show_model ns standing h = let no = h.is in cc
 no_leaving s r e (show_values xs) ns standing h = let no = h.is in cc
 no_leaving s r e show_reason ns standing h = let no = h.is in cc

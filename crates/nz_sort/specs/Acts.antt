@@ -11,12 +11,12 @@ use Rattle.nz_spec.specs.Error as spec
 use Rattle.nz_base.specs.Errors.{error_of}
 use Rattle.nz_base.specs.declared.reply_errors.Error.{Error}
 use Rattle.nz_base.specs.declared.reply_errors.Error.TheVariants as code
-use Rattle.nz_sort.specs.Live.{Ask, Asks, changed, check, show_model, show_values, show_reason, show_info, show_levels, print_success, nothing, echo, leave, unsupported}
+use Rattle.nz_sort.specs.Live.{Ask, Asks, changed, popped, cleared, reset, check, show_model, show_values, show_reason, show_info, show_levels, print_success, nothing, echo, leave, unsupported}
 use Rattle.nz_elaborate.specs.declared.faults.ElaborateError.{ElaborateError}
 use Rattle.nz_elaborate.specs.declared.faults.ElaborateError.TheVariants as errors
 use Rattle.nz_elaborate.specs.declared.names.Definition.{Definition}
 use Rattle.nz_sort.specs.declared.acts.Act.{Act}
-use Rattle.nz_sort.specs.declared.acts.Act.TheVariants.{Changed, Check, ShowModel, ShowValues, ShowReason, ShowInfo, ShowLevels, PrintSuccess, Nothing, Echo, Leave, Unsupported}
+use Rattle.nz_sort.specs.declared.acts.Act.TheVariants.{Changed, Popped, Cleared, Reset, Check, ShowModel, ShowValues, ShowReason, ShowInfo, ShowLevels, PrintSuccess, Nothing, Echo, Leave, Unsupported}
 use Rattle.nz_sort.specs.declared.acts.Info.{Info}
 use Rattle.nz_sort.specs.declared.acts.Info.TheVariants.{Name, Version, Authors, ErrorBehavior}
 
@@ -28,7 +28,10 @@ info_meaning ErrorBehavior = error_behavior_info
 
 abbrev pub asked : Act → Ask
 asked Changed = changed
-asked Check = check
+asked Popped = popped
+asked Cleared = cleared
+asked Reset = reset
+asked (Check v) = check v.items
 asked ShowModel = show_model
 asked (ShowValues v) = show_values v.items
 asked ShowReason = show_reason
@@ -40,13 +43,15 @@ asked Echo = echo
 asked Leave = leave
 asked Unsupported = unsupported
 
-abbrev pub is_check : Ask → Bool
-is_check check = true
-is_check ask = false
+-- a check, or a change of the levels
+abbrev pub is_plain : Ask → Bool
+is_plain (check xs) = false
+is_plain popped = false
+is_plain ask = true
 
--- The command asks this, which is no check, and leaves the live items.
+-- The command asks this, which is plain, and leaves the live items.
 pub record AsksOnly (c : Command) (ask : Ask) : Type 0 where
-  pub unchecked : is_check ask ≡ false
+  pub plain : is_plain ask ≡ true
   pub asks : (ns : List Node) (r : Request) → Asks ns ask r c
   pub keeps : (s : State) (reply : Reply) → (effect s c reply).levels ≡ s.levels
   pub counts : (s : State) (reply : Reply) → (effect s c reply).next ≡ s.next

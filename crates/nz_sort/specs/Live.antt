@@ -1,87 +1,101 @@
 -- The live state, as the code keeps it: names and items, with their numbers in the table of terms.
-use Rattle.std.specs.Prelude.{◌≡◌, ℕ, ◌<◌, Bool, false, List, [], length, map, flat_map, All, Some, IsTrue, ⊤}
-use Rattle.std.specs.List.{AllByRecursion}
+use Rattle.std.specs.Prelude.{◌≡◌, ℕ, ◌<◌, ◌≤◌, Bool, false, List, [], ◌∷◌, ◌++◌, length, take, map, flat_map, reverse, All, Some, ⊤}
 use Rattle.nz_spec.specs.Tree.{Tree}
-use Rattle.nz_spec.specs.Term.{Term, Terms}
+use Rattle.nz_spec.specs.Term.{Constant, constant, apply, Terms, no_terms}
+use Rattle.nz_spec.specs.Literal.{Literal}
 use Rattle.nz_spec.specs.Normal.{normal_of}
-use Rattle.nz_spec.specs.Linear.{is_linear}
 use Rattle.nz_spec.specs.Table.{Node, term_in}
 use Rattle.nz_spec.specs.Order.{HasCompanions}
-use Rattle.nz_spec.specs.Decide.{constants_in_table}
+use Rattle.nz_spec.specs.Decide.{asserted_numbers}
+use Rattle.nz_spec.specs.Elaboration.{Scope}
 use Rattle.nz_spec.specs.Command as commands
 use Rattle.nz_spec.specs.Request.{Question, Request, shows_values, echoes}
 use Rattle.nz_spec.specs.Parse.{request_of}
-use Rattle.nz_spec.specs.Live.{State, LiveItem, numbered_items, items_of, item_terms, items_hold_integers, constants_of, assertions_of, pushed_levels}
-use Rattle.nz_spec.specs.Command.{Info, Command, declare_const, define, assert_term, check_sat, get_model, get_value, get_info, get_levels, get_reason, set_print_success, no_effect, exit, Outcome, accepted, not_taken}
-use Rattle.nz_spec.specs.Script.{asked_of, scope_of, outcome_of}
+use Rattle.nz_spec.specs.Live.{State, LiveItem, items_of, item_terms, items_hold_integers, constants_in, definitions_in, constants_of, assertions_of}
+use Rattle.nz_spec.specs.Command.{Info, Command, declare_const, define, assert_term, push_levels, pop_levels, reset_assertions, check_sat, get_model, get_value, get_info, get_levels, get_reason, set_print_success, no_effect, exit, Outcome, accepted, not_taken}
+use Rattle.nz_spec.specs.Script.{asked_of, outcome_of}
 use Rattle.nz_spec.specs.Reply.{Reply}
 use Rattle.nz_spec.specs.Right.{effect}
 use Rattle.nz_elaborate.specs.declared.typed.Typed.{Typed}
 use Rattle.nz_elaborate.specs.declared.names.Named.{Named}
-use Rattle.nz_elaborate.specs.Names.{IsScope}
+use Rattle.nz_elaborate.specs.Names.{IsScope, nothing_declared}
 use Rattle.nz_elaborate.specs.Typed.{AreTyped}
-use Rattle.nz_sort.specs.declared.items.Accepted.{Accepted}
-use Rattle.nz_sort.specs.declared.items.Goal.{Goal}
-use Rattle.nz_sort.specs.declared.items.Wish.{Wish}
+use Rattle.nz_sort.specs.declared.acts.Assumed.{Assumed}
+use Rattle.nz_sort.specs.declared.levels.Level.{Level}
+use Rattle.nz_sort.specs.Assuming.{AreAssumed}
+use Rattle.nz_sort.specs.Layers.{Layer, layer_of}
 use Rattle.nz_sort.specs.Items.{table_numbers, StandForAll, items_in, AreConstants, AreAssertions, AreGoals, AreWishes}
 
--- What stands, each list in the order of acceptance.
+-- What stands: the names of the operators and then those of each level, the newest level, and the others, the oldest first.
 pub record Standing : Type 0 where
-  pub names : List (List ℕ × Named)  -- of the operators, the constants and the definitions
-  pub constants : List Accepted
-  pub assertions : List Accepted
-  pub asserted : List ℕ  -- the terms of the assertions
-  pub goals : List Goal
-  pub wishes : List Wish
-  pub accepted : List ℕ  -- the terms of the items of all kinds that have one
+  pub names : List (List ℕ × Named)
+  pub top : Layer
+  pub below : List Layer
   pub next : ℕ  -- the number of the next item
-  pub holds_integers : Bool  -- a term of theirs holds a unit of sort Int
 
 -- what stands, by the parts that the code keeps
-abbrev pub standing_of : List (List ℕ × Named) → List Accepted → List Accepted → List Goal → List Wish → List ℕ → ℕ → Bool → Standing
-standing_of names constants assertions goals wishes numbers next holds_integers =
-    record {
-      names = names;
-      constants = constants;
-      assertions = assertions;
-      asserted = table_numbers assertions;
-      goals = goals;
-      wishes = wishes;
-      accepted = numbers;
-      next = next;
-      holds_integers = holds_integers;
-    }
+abbrev pub standing_of : List (List ℕ × Named) → Level → List Level → ℕ → Standing
+standing_of names top below next = record { names = names; top = layer_of top; below = map layer_of below; next = next }
+
+-- the levels, the oldest first
+abbrev pub layers_of : Standing → List Layer
+layers_of standing = standing.below ++ standing.top ∷ []
+
+-- the terms of the assertions, by level
+abbrev pub asserted_by : Standing → List (List ℕ)
+asserted_by standing = map (λ (l : Layer). table_numbers l.assertions) (layers_of standing)
+
+-- the terms of the constants, and those of the items of all kinds that have one
+abbrev pub constants_by : Standing → List ℕ
+constants_by standing = flat_map (λ (l : Layer). table_numbers l.constants) (layers_of standing)
+
+abbrev pub accepted_by : Standing → List ℕ
+accepted_by standing = flat_map (λ (l : Layer). l.accepted) (layers_of standing)
 
 -- The items of each kind, and of all kinds, are those of these live items.
-pub record HasItems (ns : List Node) (standing : Standing) (live : List LiveItem) : Type 0 where
-  pub constants : AreConstants ns standing.constants live
-  pub assertions : AreAssertions ns standing.assertions live
-  pub goals : AreGoals ns standing.goals live
-  pub wishes : AreWishes ns standing.wishes live
-  pub all : StandForAll ns standing.accepted (flat_map item_terms (items_in live))
-  pub integers : items_hold_integers (items_in live) ≡ standing.holds_integers
+pub record HasItems (ns : List Node) (layer : Layer) (live : List LiveItem) : Type 0 where
+  pub constants : AreConstants ns layer.constants live
+  pub assertions : AreAssertions ns layer.assertions live
+  pub goals : AreGoals ns layer.goals live
+  pub wishes : AreWishes ns layer.wishes live
+  pub all : StandForAll ns layer.accepted (flat_map item_terms (items_in live))
 
--- the normal term of an assertion is linear
-abbrev pub IsLinearAssertion : Term → Type 0
-IsLinearAssertion t = IsTrue (is_linear (normal_of t))
+-- the scope of these levels
+abbrev pub scope_in : List (List LiveItem) → Scope
+scope_in levels = record { constants = constants_in (items_of levels); definitions = definitions_in (items_of levels); bound = [] }
 
--- The table and what stands are those of a live state: its names are its scope, its constants are those of the table; the terms are the normal ones of
--- its assertions, and linear; the items are its items; the table has the companions of its terms. No level is pushed.
+-- The newest of these levels has these items, and the names are those of all of them.
+pub record IsLevel (ns : List Node) (names : List (List ℕ × Named)) (layer : Layer) (items : List LiveItem) (older : List (List LiveItem)) : Type 0 where
+  pub named : IsScope ns names [] (scope_in (items ∷ older))
+  pub before : layer.names_before ≤ length names
+  pub has : HasItems ns layer items
+  pub count : layer.constant_count ≡ length (constants_in (items_of (items ∷ older)))
+  pub integers : items_hold_integers (items_of (items ∷ older)) ≡ layer.holds_integers
+
+-- So it is of each level, the newest first, where the names of newer levels are left out; without any, the names are the operators'.
+abbrev pub AreLevels : List Node → List (List ℕ × Named) → List Layer → List (List LiveItem) → Type 0
+AreLevels ns names [] [] = IsScope ns names [] nothing_declared
+AreLevels ns names (l ∷ ls) (items ∷ older) = IsLevel ns names l items older × AreLevels ns (take l.names_before names) ls older
+AreLevels ns names ls levels = ⊥
+
+-- The table and what stands are those of a live state: its levels are those that stand; the terms of its assertions, of its constants
+-- and of all its items are in the table; and the table has the companions of its terms.
 pub record IsLive (ns : List Node) (standing : Standing) (s : State) : Type 0 where
-  pub named : IsScope ns standing.names [] (scope_of s)
-  pub constants : constants_in_table ns ≡ constants_of s
+  pub levels : AreLevels ns standing.names (standing.top ∷ reverse standing.below) s.levels
   pub companions : HasCompanions ns
-  pub within : All (λ i. i < length ns) standing.asserted
-  pub terms : map (term_in ns) standing.asserted ≡ map normal_of (assertions_of s)
-  pub linear : AllByRecursion IsLinearAssertion (assertions_of s)
-  pub items : HasItems ns standing (numbered_items s.levels)
+  pub within : All (λ i. i < length ns) (asserted_numbers (asserted_by standing))
+  pub terms : map (term_in ns) (asserted_numbers (asserted_by standing)) ≡ map normal_of (assertions_of s)
+  pub constants : StandForAll ns (constants_by standing) (map (λ (c : Constant). apply (constant c) no_terms) (constants_of s))
+  pub accepted : StandForAll ns (accepted_by standing) (flat_map item_terms (items_of s.levels))
   pub next : standing.next ≡ s.next
-  pub unpushed : pushed_levels s ≡ 0
 
 -- what a command asks of the session
 pub data Ask : Type 0 where
   changed : Ask
-  check : Ask
+  popped : Ask
+  cleared : Ask
+  reset : Ask
+  check : List Assumed → Ask
   show_model : Ask
   show_values : List Typed → Ask
   show_reason : Ask
@@ -93,11 +107,12 @@ pub data Ask : Type 0 where
   leave : Ask
   unsupported : Ask
 
--- an item more
+-- an item more, or levels more
 abbrev pub IsChange : Command → Type 0
 IsChange (declare_const c) = ⊤
 IsChange (define d) = ⊤
 IsChange (assert_term t) = ⊤
+IsChange (push_levels n) = ⊤
 IsChange c = ⊥
 
 -- The command asks for the values of the terms of these questions, and these are the terms' numbers.
@@ -108,6 +123,12 @@ pub record AsksValues (ns : List Node) (xs : List Typed) (r : Request) (c : Comm
   pub typed : AreTyped ns xs terms
   pub is : c ≡ get_value (asked_of questions terms)
 
+-- The command is a check under literals, and these are they.
+pub record AsksCheck (ns : List Node) (xs : List Assumed) (c : Command) : Type 0 where
+  pub literals : List Literal
+  pub assumes : AreAssumed ns xs literals
+  pub is : c ≡ check_sat literals
+
 -- The command asks that its literal be told.
 pub record AsksEcho (r : Request) (c : Command) : Type 0 where
   pub text : List ℕ
@@ -117,7 +138,10 @@ pub record AsksEcho (r : Request) (c : Command) : Type 0 where
 -- the command that is written so, where it is accepted, asks this
 abbrev pub Asks : List Node → Ask → Request → Command → Type 0
 Asks ns changed r c = IsChange c
-Asks ns check r c = c ≡ check_sat []
+Asks ns popped r c = (n : ℕ) × (c ≡ pop_levels n)
+Asks ns cleared r c = c ≡ reset_assertions
+Asks ns reset r c = c ≡ commands.reset
+Asks ns (check xs) r c = AsksCheck ns xs c
 Asks ns show_model r c = c ≡ get_model
 Asks ns (show_values xs) r c = AsksValues ns xs r c
 Asks ns show_reason r c = c ≡ get_reason
@@ -144,7 +168,7 @@ pub record IsSkipped (s : State) (outcome : Outcome) (ns : List Node) (standing 
 -- what stands after a command that is written so, of this outcome, which asks this; a check is of items that hold no unit of sort Int
 abbrev pub Leaves : State → Request → Outcome → Ask → List Node → Standing → Type 0
 Leaves s r outcome unsupported ns standing = IsSkipped s outcome ns standing
-Leaves s r outcome check ns standing = IsAccepted s r outcome check ns standing × (items_hold_integers (items_of s.levels) ≡ false)
+Leaves s r outcome (check xs) ns standing = IsAccepted s r outcome (check xs) ns standing × (items_hold_integers (items_of s.levels) ≡ false)
 Leaves s r outcome ask ns standing = IsAccepted s r outcome ask ns standing
 
 -- The tree is a command which asks this, and this is what stands after it.
@@ -157,3 +181,25 @@ pub record IsCarriedOut (s : State) (tree : Tree) (ask : Ask) (ns : List Node) (
 abbrev pub IfSkipped : Ask → Type 0 → Type 0
 IfSkipped unsupported P = P
 IfSkipped ask P = ⊤
+
+-- ---- What comes of the assertions' terms, by level
+
+-- The levels stay, and more is asserted in the last, or in further ones.
+abbrev pub GoesOn : List (List ℕ) → List (List ℕ) → Type 0
+GoesOn [] after = ⊤
+GoesOn (l ∷ ls) [] = ⊥
+GoesOn (l ∷ []) (m ∷ ms) = take (length l) m ≡ l
+GoesOn (l ∷ k ∷ ls) (m ∷ ms) = (m ≡ l) × GoesOn (k ∷ ls) ms
+
+-- The first of them stay, one or more.
+pub record IsCutBack (before after : List (List ℕ)) : Type 0 where
+  pub some : 0 < length after
+  pub front : take (length after) before ≡ after
+
+-- What comes of them where a command asks this: but for items, levels and resets they stay.
+abbrev pub Moves : Ask → List (List ℕ) → List (List ℕ) → Type 0
+Moves changed before after = GoesOn before after
+Moves popped before after = IsCutBack before after
+Moves cleared before after = ⊤
+Moves reset before after = ⊤
+Moves ask before after = after ≡ before

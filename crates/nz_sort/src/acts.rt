@@ -6,6 +6,7 @@ ghost use Rattle.nz_sort.specs.Acts.{AsksBy};
 
 use nz_command::{InfoKey, Priority, Setting};
 use nz_elaborate::Typed;
+use nz_term::TermId;
 
 /// What a `get-info` tells whatever the state.
 #[derive(Clone, Copy, Debug, PartialEq, Eq)]
@@ -16,13 +17,27 @@ pub enum Info {
     ErrorBehavior,
 }
 
+/// A term that a check assumes to be true, or to be false.
+#[derive(Clone, Copy, Debug, PartialEq, Eq)]
+pub struct Assumed {
+    /// The number of the term in the table of terms.
+    pub term: TermId,
+    pub is_true: bool,
+}
+
 /// What a command that isn't refused asks of the session.
 #[derive(Debug, Drop)]
 pub enum Act {
-    /// Nothing: it added a constant, a definition or an assertion, and with that ended the last answer.
+    /// Nothing: it added a constant, a definition, an assertion or levels, and with that ended the last answer.
     Changed,
-    /// Whether the live assertions have a model.
-    Check,
+    /// That levels be forgotten which were taken off: those that are live are the first of those that were.
+    Popped,
+    /// That all levels be forgotten: one without items stands in their place.
+    Cleared,
+    /// The same, and that the options be set back.
+    Reset,
+    /// Whether the live assertions have a model in which these terms are so.
+    Check(Vec<Assumed>),
     /// The model of the last answer.
     ShowModel,
     /// The values of these terms, which stand for the trees of its list, in the model of the last answer.

@@ -4,10 +4,13 @@
 #![tactic(auto)]
 
 mod acts;
+mod assuming;
 mod items;
+mod levels;
 mod limits;
 mod live;
 
-pub use acts::{Act, Info};
+pub use acts::{Act, Assumed, Info};
 pub use items::{Accepted, Goal, Wish};
+pub use levels::Level;
 pub use live::Live;

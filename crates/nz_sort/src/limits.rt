@@ -13,25 +13,25 @@ const CONSTANT_LIMIT: usize = 65_535;
 /// The most levels that may be pushed.
 const LEVEL_LIMIT: u128 = 1000;
 
-/// The command goes beyond a limit in its own way, where there are so many live constants and no level is pushed.
-pub(crate) fn passes_limit(constant_count: usize, command: &Command) -> bool
-    ensures limit { (s : State) → pushed_levels s ≡ 0 → length (constants_of s) ≡ constant_count → result ≡ limits.passes_limit s (request command.now) }
+/// The command goes beyond a limit in its own way, where there are so many live constants and so many levels are pushed.
+pub(crate) fn passes_limit(constant_count: usize, level_count: usize, command: &Command) -> bool
+    ensures limit { (s : State) → pushed_levels s ≡ level_count → length (constants_of s) ≡ constant_count → result ≡ limits.passes_limit s (request command.now) }
 {
     match command {
         Command::Declare(_, _, _) => constant_count >= CONSTANT_LIMIT,
-        Command::Push(count) => are_too_many(*count),
+        Command::Push(count) => are_too_many(level_count, *count),
         Command::AssertSoft(_, attributes) => is_zero_weight(attributes.weight),
         _ => false,
     }
 }
 
-/// So many levels are too many where none is pushed.
-fn are_too_many(count: LevelCount) -> bool
-    ensures many { (s : State) → pushed_levels s ≡ 0 → result ≡ limits.are_too_many s (count_view count) }
+/// So many levels more are too many where so many are pushed.
+fn are_too_many(level_count: usize, count: LevelCount) -> bool
+    ensures many { (s : State) → pushed_levels s ≡ level_count → result ≡ limits.are_too_many s (count_view count) }
 {
-    match count {
-        LevelCount::Within(count) => count > LEVEL_LIMIT,
-        LevelCount::OutOfBounds => true,
+    match (LEVEL_LIMIT.checked_sub(level_count as u128), count) {
+        (Some(left), LevelCount::Within(count)) => count > left,
+        _ => true,
     }
 }
 

@@ -1,5 +1,5 @@
 //! The live state: what becomes of a command, and what it leaves.
-ghost use Rattle.std.specs.Prelude.{◌≡◌, All, ◌<◌, ◌+◌, ℕ, List, [], length, map, take, OnOk, OnErr, IfOk, IfErr, IfSome, Some, None, ◌||◌, false, if◌then◌else◌};
+ghost use Rattle.std.specs.Prelude.{◌≡◌, All, ◌<◌, ◌≤◌, ◌+◌, vec_len, vec_capacity, ℕ, List, [], ◌∷◌, ◌++◌, length, map, flat_map, take, OnOk, OnErr, IfOk, IfErr, IfSome, Some, None, ◌||◌, false, if◌then◌else◌};
 ghost use Rattle.std.specs.List.{list_any};
 ghost use Rattle.nz_sexpr.specs.View.{view};
 ghost use Rattle.nz_spec.specs.Bounds.{has_token, is_long_decimal};
@@ -11,23 +11,29 @@ ghost use Rattle.nz_spec.specs.Parse.{request_of};
 ghost use Rattle.nz_spec.specs.Limits.{passes_limit as beyond_limit};
 ghost use Rattle.nz_spec.specs.Live.{State, pushed_levels, start};
 ghost use Rattle.nz_spec.specs.Command.{accepted, refused, declare_const};
-ghost use Rattle.nz_spec.specs.Script.{outcome_of, outcome_requested, outcome_by, declaration_of, definition_of, assertion_of, values_asked, all_linear, is_unknown_sort as is_unknown};
+ghost use Rattle.nz_spec.specs.Script.{outcome_of, outcome_requested, outcome_by, declaration_of, definition_of, assertion_of, values_asked, push_of, pop_of, check_under, all_linear, is_unknown_sort as is_unknown};
 ghost use Rattle.nz_spec.specs.TermList.{IsTermList};
 ghost use Rattle.nz_term.specs.Constants.{sort_of};
 ghost use Rattle.nz_command.specs.View.{view as written};
-ghost use Rattle.nz_command.specs.Requests.{request, sort_view, parameter_view, question_view};
+ghost use Rattle.nz_command.specs.Requests.{request, sort_view, parameter_view, question_view, assumption_view, count_view};
 ghost use Rattle.nz_elaborate.specs.Names.{named_by};
 ghost use Rattle.nz_elaborate.specs.Typed.{Grows, AreTyped};
-ghost use Rattle.nz_sort.specs.Items.{table_numbers};
-ghost use Rattle.nz_sort.specs.Live.{IsLive, IsCarriedOut, IfSkipped, standing_of, check, unsupported};
+ghost use Rattle.nz_sort.specs.Layers.{Layer, layer_of, empty_layer};
+ghost use Rattle.nz_sort.specs.Live.{IsLive, IsCarriedOut, IfSkipped, Moves, accepted_by, asserted_by, standing_of, check, unsupported};
+ghost use Rattle.nz_elaborate.specs.declared.names.Named.{Named};
 ghost use Rattle.nz_sort.specs.Acts.{asked, rule_of, redeclared_by};
-ghost use Rattle.nz_sort.specs.Changes.{Comes, ComesBy, Defines, Asserts, Shows, HasAdded, constant_of, with_constant, with_definition, with_assertion};
+ghost use Rattle.nz_sort.specs.Changes.{Comes, ComesBy, Defines, Asserts, Shows, HasAdded, IsCleared, Drops, DropsMany, constant_of, with_constant, with_definition, with_assertion, with_levels};
 
 use crate::acts::{Act, info_act, setting_act};
-use crate::items::{Accepted, Goal, Wish};
+use crate::assuming::{FoundAssumptions, assumed};
+use crate::items::Accepted;
+use crate::levels::Level;
 use crate::limits::passes_limit;
 use nz_base::{Error, Memory, Text};
-use nz_command::{Command, Expression, Parameter, Question, WrittenSort, number_faults, parse};
+use nz_command::{
+    Assumption, Command, Expression, LevelCount, Parameter, Question, WrittenSort, number_faults,
+    parse,
+};
 use nz_elaborate::{
     Definition, ElaborateError, Named, Names, Typed, elaborate, elaborate_all, elaborate_body,
     is_unknown_sort, written_sort,
@@ -38,24 +44,22 @@ use nz_spec::table::term_stays;
 use nz_term::{Constant, Head, Sort, TermId, Terms, add_companions, grows_twice, listing_order};
 use std::alloc::Global;
 use std::marker::Model;
+use std::mem;
 
-/// The live state. A contract sees what stands in it: its names, and its items by kind, in the order of acceptance.
+/// The live state. A contract sees what stands in it: its names, and its levels with their items by kind, in the order of acceptance.
 ///
-/// No command brings a goal, a wish or a level yet.
+/// No command brings a goal or a wish yet.
 #[derive(Drop)]
 pub struct Live {
     alloc: Global,
+    /// The names of the operators, and then those of each level, the oldest first.
     names: Names,
-    constants: Vec<Accepted>,
-    assertions: Vec<Accepted>,
-    goals: Vec<Goal>,
-    wishes: Vec<Wish>,
-    /// The terms of the items that have one, of all kinds.
-    accepted: Vec<TermId>,
+    /// The newest level.
+    top: Level,
+    /// The others, the oldest first.
+    below: Vec<Level>,
     /// The number of the next item, definitions among them.
     next: usize,
-    /// Whether one of these terms holds a unit of sort `Int`.
-    holds_integers: bool,
 }
 
 impl Model for Live {
@@ -67,7 +71,7 @@ impl Model for Live {
 
     ghost coded = { Prim.hlevel (codes, tree.the_row.coded) };
 
-    ghost view = { λ l. standing_of l.names l.constants.items l.assertions.items l.goals.items l.wishes.items l.accepted.items l.next l.holds_integers };
+    ghost view = { λ l. standing_of l.names l.top l.below.items l.next };
 }
 
 impl Live {
@@ -77,56 +81,40 @@ impl Live {
     ///
     /// `Memory`.
     pub fn new(alloc: Global) -> Result<Live, Memory>
-        ensures start { IfOk result (λ live. live ≡ standing_of live.names [] [] [] [] [] 0 false) }
         ensures live { IfOk result (λ live. IsLive [] live start) }
+        ensures asserted { IfOk result (λ live. asserted_by live ≡ [] ∷ []) }
     {
+        let names = Names::new(alloc)?;
+        let top = Level::new(alloc, names.count(), 0, false);
         Ok(Live {
             alloc,
-            names: Names::new(alloc)?,
-            constants: Vec::new(alloc),
-            assertions: Vec::new(alloc),
-            goals: Vec::new(alloc),
-            wishes: Vec::new(alloc),
-            accepted: Vec::new(alloc),
+            names,
+            top,
+            below: Vec::new(alloc),
             next: 0,
-            holds_integers: false,
         })
     }
 
-    /// The live constants, in the order of declaration.
-    pub fn constants(&self) -> &[Accepted]
-        ensures constants { result.now ≡ self.now.constants }
+    /// The newest level.
+    pub fn top(&self) -> &Level
+        ensures top { layer_of result.now ≡ self.now.top }
     {
-        self.constants.as_slice()
+        &self.top
     }
 
-    /// The live assertions.
-    pub fn assertions(&self) -> &[Accepted]
-        ensures assertions { result.now ≡ self.now.assertions }
-        ensures terms { table_numbers result.now ≡ self.now.asserted }
+    /// The levels below the newest, the oldest first.
+    pub fn below(&self) -> &[Level]
+        ensures below { map layer_of result.now ≡ self.now.below }
     {
-        self.assertions.as_slice()
-    }
-
-    /// The live goals.
-    pub fn goals(&self) -> &[Goal]
-        ensures goals { result.now ≡ self.now.goals }
-    {
-        self.goals.as_slice()
-    }
-
-    /// The live wishes.
-    pub fn wishes(&self) -> &[Wish]
-        ensures wishes { result.now ≡ self.now.wishes }
-    {
-        self.wishes.as_slice()
+        self.below.as_slice()
     }
 
     /// How many levels were pushed.
     pub fn levels(&self) -> usize
         ensures levels { (ns : List Node) (s : State) → IsLive ns self.now s → result ≡ pushed_levels s }
+        ensures count { result ≡ length self.now.below }
     {
-        0
+        self.below.len()
     }
 
     /// The terms of the live state, by which they are numbered: those of its items, in the order of acceptance, and then the
@@ -142,9 +130,18 @@ impl Live {
         ensures list { IfOk result (λ ids. (s : State) → IsLive terms.now self.now s → IsTermList s (map (term_in terms.now) assumed.now) (map (term_in terms.now) ids.items)) }
         ensures within { IfOk result (λ ids. All (λ i. i < length terms.now) ids.items) }
     {
-        let mut roots = Vec::from_slice(alloc, self.accepted.as_slice())?;
-        roots.extend_from_slice(assumed)?;
+        let roots = self.roots(alloc, assumed)?;
         listing_order(alloc, terms, roots.as_slice())
+    }
+
+    /// The terms of the items, in the order of acceptance, and then the assumed ones.
+    fn roots(&self, alloc: Global, assumed: &[TermId]) -> Result<Vec<TermId>, Memory>
+        ensures roots { IfOk result (λ ids. ids.items ≡ accepted_by self.now ++ assumed.now) }
+    {
+        let mut roots = accepted_in(alloc, self.below.as_slice())?;
+        roots.extend_from_slice(self.top.accepted.as_slice())?;
+        roots.extend_from_slice(assumed)?;
+        Ok(roots)
     }
 
     /// Carries out what a command changes in the live state, and answers what it asks. Whether the last answer has a model or a
@@ -164,7 +161,7 @@ impl Live {
         ensures unchanged { OnErr result (self.new ≡ self.old) }
         ensures skipped_terms { IfOk result (λ act. IfSkipped (asked act) (terms.new ≡ terms.old)) }
         ensures skipped { IfOk result (λ act. IfSkipped (asked act) (self.new ≡ self.old)) }
-        ensures front { take (length self.old.asserted) self.new.asserted ≡ self.old.asserted }
+        ensures moves { IfOk result (λ act. Moves (asked act) (asserted_by self.old) (asserted_by self.new)) }
     {
         let mark = terms.mark();
         match self.carried_out(terms, tree) {
@@ -194,7 +191,7 @@ impl Live {
         ensures comes { Comes terms.old terms.new self.old self.new (request command.now) (λ s. outcome_requested s (view tree.now) (request command.now)) result }
     {
         let faults = number_faults(tree);
-        if faults.long || passes_limit(self.constants.len(), command) {
+        if faults.long || passes_limit(self.top.constant_count, self.below.len(), command) {
             return Err(Error::Limit);
         }
         if faults.wide {
@@ -217,6 +214,19 @@ impl Live {
             }
             Command::Assert(term) => self.assert_term(terms, term),
             Command::CheckSat => Ok(self.check_act()),
+            Command::CheckSatAssuming(assumptions) => {
+                self.check_under(terms, assumptions.as_slice())
+            }
+            Command::Push(count) => self.push_counted(*count),
+            Command::Pop(count) => self.pop_counted(*count),
+            Command::Reset => {
+                self.clear();
+                Ok(Act::Reset)
+            }
+            Command::ResetAssertions => {
+                self.clear();
+                Ok(Act::Cleared)
+            }
             Command::GetModel => Ok(Act::ShowModel),
             Command::GetValue(questions) => self.show_values(terms, questions.as_slice()),
             Command::GetInfo(key) => Ok(info_act(*key)),
@@ -228,15 +238,137 @@ impl Live {
         }
     }
 
+    // ---- Levels
+
+    /// Pushes levels, so many.
+    fn push_counted(&mut self, count: LevelCount) -> Result<Act, Error>
+        ensures comes { (ns : List Node) → Comes ns ns self.old self.new (requests.pushes (count_view count)) (λ s. push_of (count_view count)) result }
+    {
+        let LevelCount::Within(count) = count else {
+            return Err(Error::Limit);
+        };
+        let Ok(count) = usize::try_from(count) else {
+            return Err(Error::OutOfMemory);
+        };
+        self.push(count)?;
+        Ok(Act::Changed)
+    }
+
+    /// Pushes so many levels, in which nothing is accepted yet.
+    fn push(&mut self, count: usize) -> Result<(), Memory>
+        ensures pushed { OnOk result (self.new ≡ with_levels count self.old) }
+        ensures unchanged { OnErr result (self.new ≡ self.old) }
+    {
+        self.below.reserve(count)?;
+        let names_before = self.names.count();
+        begin_levels(
+            self.alloc,
+            names_before,
+            &mut self.top,
+            &mut self.below,
+            count,
+        );
+        Ok(())
+    }
+
+    /// Takes levels off, where so many were pushed.
+    fn pop_counted(&mut self, count: LevelCount) -> Result<Act, Error>
+        ensures comes { (ns : List Node) → Comes ns ns self.old self.new (requests.pops (count_view count)) (λ s. pop_of s (count_view count)) result }
+    {
+        let LevelCount::Within(count) = count else {
+            return Err(Error::TooWide);
+        };
+        if count > self.below.len() as u128 {
+            return Err(Error::BelowZero);
+        }
+        self.pop(count as usize);
+        Ok(Act::Popped)
+    }
+
+    /// Takes the newest levels off, so many. Takes no memory.
+    fn pop(&mut self, count: usize)
+        requires some { count ≤ length self.old.below }
+        ensures dropped { DropsMany count self.old self.new }
+    {
+        for _ in 0..count {
+            self.pop_newest();
+        }
+    }
+
+    /// Takes the newest level off, with its names, where another is below it.
+    fn pop_newest(&mut self)
+        requires some { 0 < length self.old.below }
+        ensures dropped { Drops self.old self.new }
+    {
+        let Some(older) = self.below.pop() else {
+            return;
+        };
+        self.names.truncate(self.top.names_before);
+        self.top = older;
+    }
+
+    /// Back to the live state of the start. Takes no memory.
+    fn clear(&mut self)
+        ensures cleared { IsCleared self.old self.new }
+    {
+        let count = self.below.len();
+        self.pop(count);
+        self.begin_anew();
+    }
+
+    /// Takes all that was accepted off the newest level, with its names, and numbers items anew.
+    fn begin_anew(&mut self)
+        ensures names { self.new.names ≡ take self.old.top.names_before self.old.names }
+        ensures top { self.new.top ≡ empty_layer (length self.new.names) 0 false }
+        ensures below { self.new.below ≡ self.old.below }
+        ensures next { self.new.next ≡ 0 }
+    {
+        self.names.truncate(self.top.names_before);
+        self.top = Level::new(self.alloc, self.names.count(), 0, false);
+        self.next = 0;
+    }
+
+    // ---- Checks
+
     /// No check is over Int, yet.
     fn check_act(&self) -> Act
-        ensures check { asked result ≡ (if self.now.holds_integers then unsupported else check) }
+        ensures check { asked result ≡ (if self.now.top.holds_integers then unsupported else check []) }
     {
-        if self.holds_integers {
+        if self.top.holds_integers {
             Act::Unsupported
         } else {
-            Act::Check
+            Act::Check(Vec::new(self.alloc))
         }
+    }
+
+    /// A check under assumptions.
+    fn check_under(&self, terms: &mut Terms, assumptions: &[Assumption]) -> Result<Act, Error>
+        requires live { (s : State) × IsLive terms.old self.now s }
+        ensures comes { Comes terms.old terms.new self.now self.now (requests.checks_assuming (map assumption_view assumptions.now)) (λ s. check_under s (map assumption_view assumptions.now)) result }
+    {
+        grows_twice();
+        term_stays();
+        let mark = terms.mark();
+        let found = assumed(self.alloc, &self.names, terms, assumptions)?;
+        if self.holds_integer_with(&found) {
+            terms.cut(mark);
+            return Ok(Act::Unsupported);
+        }
+        if found.is_unknown {
+            return Err(Error::UnknownSymbol);
+        }
+        if found.is_missorted {
+            return Err(Error::Sort);
+        }
+        add_companions(self.alloc, terms, mark)?;
+        Ok(Act::Check(found.literals))
+    }
+
+    /// A live term, or one that is assumed, holds a unit of sort `Int`.
+    fn holds_integer_with(&self, found: &FoundAssumptions) -> bool
+        ensures holds { result ≡ (self.now.top.holds_integers || found.now.holds_integer) }
+    {
+        self.top.holds_integers || found.holds_integer
     }
 
     // ---- Declarations
@@ -308,16 +440,18 @@ impl Live {
     {
         let number = self.next;
         let next = number_after(number)?;
-        self.constants.reserve(1)?;
-        self.accepted.reserve(1)?;
+        let constant_count = number_after(self.top.constant_count)?;
+        self.top.constants.reserve(1)?;
+        self.top.accepted.reserve(1)?;
         self.names.insert(name, Named::Constant(term))?;
-        self.constants.push_reserved(Accepted {
+        self.top.constants.push_reserved(Accepted {
             number,
             term: term.id,
         });
-        self.accepted.push_reserved(term.id);
+        self.top.accepted.push_reserved(term.id);
+        self.top.constant_count = constant_count;
+        self.top.holds_integers = self.top.holds_integers || term.sort == Sort::Int;
         self.next = next;
-        self.holds_integers = self.holds_integers || term.sort == Sort::Int;
         Ok(())
     }
 
@@ -436,11 +570,11 @@ impl Live {
     {
         let number = self.next;
         let next = number_after(number)?;
-        self.assertions.reserve(1)?;
-        self.accepted.push(term)?;
-        self.assertions.push_reserved(Accepted { number, term });
+        self.top.assertions.reserve(1)?;
+        self.top.accepted.push(term)?;
+        self.top.assertions.push_reserved(Accepted { number, term });
+        self.top.holds_integers = self.top.holds_integers || holds;
         self.next = next;
-        self.holds_integers = self.holds_integers || holds;
         Ok(())
     }
 
@@ -464,6 +598,7 @@ impl Live {
         ensures accepted { IfOk result (λ xs. (s : State) → IsLive terms.old self.now s → Shows (map question_view questions.now) (values_asked s (map question_view questions.now)) terms.new xs.items) }
         ensures refused { IfErr result (λ refusal. IfSome (rule_of refusal) (λ e. (s : State) → IsLive terms.old self.now s → values_asked s (map question_view questions.now) ≡ refused e)) }
     {
+        grows_twice();
         let mark = terms.mark();
         let values = elaborate_all(self.alloc, &self.names, terms, questions)?;
         if !are_linear(terms, values.as_slice()) {
@@ -471,6 +606,35 @@ impl Live {
         }
         add_companions(self.alloc, terms, mark)?;
         Ok(values)
+    }
+}
+
+/// The terms of the items of these levels.
+fn accepted_in(alloc: Global, levels: &[Level]) -> Result<Vec<TermId>, Memory>
+    ensures accepted { IfOk result (λ ids. ids.items ≡ flat_map (λ (l : Layer). l.accepted) (map layer_of levels.now)) }
+{
+    let mut terms = Vec::new(alloc);
+    for level in levels {
+        terms.extend_from_slice(level.accepted.as_slice())?;
+    }
+    Ok(terms)
+}
+
+/// Puts so many levels above these, for which there is room, each without items and above the names of all of them.
+fn begin_levels(
+    alloc: Global,
+    names_before: usize,
+    top: &mut Level,
+    below: &mut Vec<Level>,
+    count: usize,
+)
+    requires room { vec_len below.old + count ≤ vec_capacity below.old }
+    ensures begun { (names : List (List ℕ × Named)) (next : ℕ) → length names ≡ names_before → standing_of names top.new below.new.items next ≡ with_levels count (standing_of names top.old below.old.items next) }
+{
+    for _ in 0..count {
+        let level = Level::new(alloc, names_before, top.constant_count, top.holds_integers);
+        let older = mem::replace(top, level);
+        below.push_reserved(older);
     }
 }
 

@@ -43,6 +43,7 @@ pub mod Instances
 pub mod IntegerSums
 pub mod LegalWork
 pub mod LinearLiterals
+pub mod LinearNames
 pub mod LinkTruths
 pub mod Literals
 pub mod Normal
@@ -50,6 +51,7 @@ pub mod NormalGates
 pub mod NormalHeads
 pub mod NormalSorts
 pub mod OperandSorts
+pub mod OverConstants
 pub mod Pieces
 pub mod PivotRuns
 pub mod Placed

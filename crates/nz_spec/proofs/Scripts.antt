@@ -18,7 +18,7 @@ use Rattle.nz_spec.specs.Reply.{Reply}
 use Rattle.nz_spec.specs.Right.{Context, beginning, IsRight, IsExit, context_after}
 use Rattle.nz_spec.specs.Transcript.{Kept, AreRight, things_of, IsTranscript}
 use Rattle.nz_spec.specs.Run.{solve_limit}
-use Rattle.nz_spec.specs.WorkedScripts.{Worked, replied, kept_of_worked, IsWorked, express_is, prices, errors}
+use Rattle.nz_spec.specs.WorkedScripts.{Worked, replied, kept_of_worked, IsWorked, express_is, prices, errors, p_fails, levelled, renamed}
 use Rattle.nz_spec.specs.Samples.{constant_of_sort}
 use Rattle.nz_spec.proofs.Readings.{hears}
 use Rattle.nz_spec.proofs.Sorted.{same_sorts}
@@ -197,3 +197,21 @@ prices_right =
 pub prices_worked : IsWorked prices
 unfolding digits over denominator
 prices_worked = record { transcript = worked_by prices refl prices_right; output = refl }
+
+-- ---- Levels
+
+levelled_right : AreRight (beginning solve_limit) (kept_of_worked levelled)
+unfolding digits gcd_within gcd lcm floor_div denominator over fraction_eq fraction_le fraction_lt neg_ℚ ◌+ℚ◌ ◌-ℚ◌ ◌*ℚ◌ ◌/ℚ◌ flipped reciprocal floor reduce is_wide_sum is_wide_product exact outcome is_wide first_wide div_of mod_of
+levelled_right = all_right (beginning solve_limit) (kept_of_worked levelled) (inl (refl, refl), refl, (inl (refl, refl), refl, (inl (refl, refl), refl, (inl (λ a m. no_contradiction (is_true (a (constant_of_sort bool_sort (codes "p")))) m.asserted_hold.0 m.assumed_hold.0, refl), refl, (inl (refl, refl), refl, (inl (record { constants = refl; numbers = (tt, tt); makes = record { sorts = bindings_assign p_fails (tt, tt); asserted_hold = tt; assumed_hold = (refl, tt) } }, refl), refl, (inl (refl, refl), refl, (inl (refl, refl), refl, (inl (refl, refl), refl, (inl (refl, refl), refl, (inl (refl, refl), refl, (inl (refl, refl), refl, (inl (refl, refl), refl, (inl (refl, refl), refl, (inl (refl, refl), refl, (inl (refl, refl), refl, (inl (record { constants = refl; numbers = tt; makes = record { sorts = bindings_assign [] tt; asserted_hold = tt; assumed_hold = tt } }, refl), refl, (inl (refl, refl), refl, (inl (refl, refl), refl, tt)))))))))))))))))))
+
+pub levelled_worked : IsWorked levelled
+unfolding digits
+levelled_worked = record { transcript = worked_by levelled refl levelled_right; output = refl }
+
+renamed_right : AreRight (beginning solve_limit) (kept_of_worked renamed)
+unfolding digits gcd_within gcd lcm floor_div denominator over fraction_eq fraction_le fraction_lt neg_ℚ ◌+ℚ◌ ◌-ℚ◌ ◌*ℚ◌ ◌/ℚ◌ flipped reciprocal floor reduce is_wide_sum is_wide_product exact outcome is_wide first_wide div_of mod_of
+renamed_right = all_right (beginning solve_limit) (kept_of_worked renamed) (inl (refl, refl), refl, (inl (refl, refl), refl, (inl (refl, refl), refl, (inl (refl, refl), refl, (inl (refl, refl), refl, (inl (refl, refl), refl, (inl (refl, refl), refl, (inl (refl, refl), refl, (inl (refl, refl), refl, tt)))))))))
+
+pub renamed_worked : IsWorked renamed
+unfolding digits
+renamed_worked = record { transcript = worked_by renamed refl renamed_right; output = refl }

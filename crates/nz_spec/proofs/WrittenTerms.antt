@@ -22,6 +22,12 @@ are_constants [] = tt
 are_constants (c ∷ cs) = (tt, are_constants cs)
 
 module _ (P : Term → Type 0) (Q : Constant → Type 0) (R : Definition → Type 0) where
+  -- Constants that are Q, operators, and uses of definitions that are R, all over no terms, are P.
+  pub record NamesAreSo : Type 0 where
+    pub constants : (c : Constant) → Q c → P (apply (constant c) no_terms)
+    pub operators : (o : Operator) → IfFound P (applied o no_terms)
+    pub uses : (d : Definition) → R d → IfFound P (expansion d no_terms)
+
   -- Numbers, constants that are Q, operators, and uses of definitions that are R, all over terms that are P, are P.
   pub record StaysSo : Type 0 where
     pub numerals : (n : ℕ) → P (apply (integer n) no_terms)
@@ -35,18 +41,34 @@ module _ (P : Term → Type 0) (Q : Constant → Type 0) (R : Definition → Typ
     pub definitions : AllByRecursion R sc.definitions
     pub bound : AreBound P sc.bound
 
+  listed_found : (ps : List (List ℕ × Term)) (name : List ℕ) → AreBound P ps → IfFound P (listed ps name)
+  listed_found [] name h = tt
+  listed_found (p ∷ ps) name h = if_found P (bytes_eq name p.0) (Some p.1) (listed ps name) h.0 (listed_found ps name h.1)
+
+  constant_found : (cs : List Constant) (name : List ℕ) → AllByRecursion Q cs → IfFound Q (constant_named cs name)
+  constant_found [] name h = tt
+  constant_found (c ∷ cs) name h = if_found Q (bytes_eq c.name name) (Some c) (constant_named cs name) h.0 (constant_found cs name h.1)
+
+  definition_found : (ds : List Definition) (name : List ℕ) → AllByRecursion R ds → IfFound R (definition_named ds name)
+  definition_found [] name h = tt
+  definition_found (d ∷ ds) name h = if_found R (bytes_eq d.name name) (Some d) (definition_named ds name) h.0 (definition_found ds name h.1)
+
+  module _ (k : NamesAreSo) where
+    name_by : (l : Option Term) (o : Option Operator) (c : Option Constant) (d : Option Definition) → IfFound P l → IfFound Q c → IfFound R d
+        → IfFound P (elim l [ Some t ↦ Some t | None ↦ (elim o [ Some o ↦ applied o no_terms | None ↦ (elim c [ Some c ↦ Some (apply (constant c) no_terms) | None ↦ option_and_then (λ d. expansion d no_terms) d ]) ]) ])
+    name_by (Some t) o c d h i j = h
+    name_by None (Some o) c d h i j = k.operators o
+    name_by None None (Some c) d h i j = k.constants c i
+    name_by None None None d h i j = and_then_found R P (λ d. expansion d no_terms) d k.uses j
+
+    pub name_found : (sc : Scope) (name : List ℕ) → IsScope sc → IfFound P (name_term sc name)
+    name_found sc name g =
+        name_by (listed sc.bound name) (operator_named name) (constant_named sc.constants name) (definition_named sc.definitions name) (listed_found sc.bound name g.bound) (constant_found sc.constants name g.constants)
+        (definition_found sc.definitions name g.definitions)
+
   module _ (k : StaysSo) where
-    listed_found : (ps : List (List ℕ × Term)) (name : List ℕ) → AreBound P ps → IfFound P (listed ps name)
-    listed_found [] name h = tt
-    listed_found (p ∷ ps) name h = if_found P (bytes_eq name p.0) (Some p.1) (listed ps name) h.0 (listed_found ps name h.1)
-
-    constant_found : (cs : List Constant) (name : List ℕ) → AllByRecursion Q cs → IfFound Q (constant_named cs name)
-    constant_found [] name h = tt
-    constant_found (c ∷ cs) name h = if_found Q (bytes_eq c.name name) (Some c) (constant_named cs name) h.0 (constant_found cs name h.1)
-
-    definition_found : (ds : List Definition) (name : List ℕ) → AllByRecursion R ds → IfFound R (definition_named ds name)
-    definition_found [] name h = tt
-    definition_found (d ∷ ds) name h = if_found R (bytes_eq d.name name) (Some d) (definition_named ds name) h.0 (definition_found ds name h.1)
+    named : NamesAreSo
+    named = record { constants = k.constants; operators = λ o. k.operators o no_terms tt; uses = λ d r. k.uses d no_terms r tt }
 
     bound_append : (ps qs : List (List ℕ × Term)) → AreBound P ps → AreBound P qs → AreBound P (ps ++ qs)
     bound_append [] qs h i = i
@@ -54,18 +76,6 @@ module _ (P : Term → Type 0) (Q : Constant → Type 0) (R : Definition → Typ
 
     bound_scope : (sc : Scope) (ps : List (List ℕ × Term)) → IsScope sc → AreBound P ps → IsScope (binding sc ps)
     bound_scope sc ps g h = record { constants = g.constants; definitions = g.definitions; bound = bound_append ps sc.bound h g.bound }
-
-    name_by : (l : Option Term) (o : Option Operator) (c : Option Constant) (d : Option Definition) → IfFound P l → IfFound Q c → IfFound R d
-        → IfFound P (elim l [ Some t ↦ Some t | None ↦ (elim o [ Some o ↦ applied o no_terms | None ↦ (elim c [ Some c ↦ Some (apply (constant c) no_terms) | None ↦ option_and_then (λ d. expansion d no_terms) d ]) ]) ])
-    name_by (Some t) o c d h i j = h
-    name_by None (Some o) c d h i j = k.operators o no_terms tt
-    name_by None None (Some c) d h i j = k.constants c i
-    name_by None None None d h i j = and_then_found R P (λ d. expansion d no_terms) d (λ d r. k.uses d no_terms r tt) j
-
-    names : (sc : Scope) (name : List ℕ) → IsScope sc → IfFound P (name_term sc name)
-    names sc name g =
-        name_by (listed sc.bound name) (operator_named name) (constant_named sc.constants name) (definition_named sc.definitions name) (listed_found sc.bound name g.bound) (constant_found sc.constants name g.constants)
-        (definition_found sc.definitions name g.definitions)
 
     application_by : (b c : Bool) (o : Option Operator) (d : Option Definition) (ts : Terms) → IfFound R d → AllAre P ts
         → IfFound P (if b then None else (elim o [ Some o ↦ applied o ts | None ↦ (if c then None else option_and_then (λ d. expansion d ts) d) ]))
@@ -105,7 +115,7 @@ module _ (P : Term → Type 0) (Q : Constant → Type 0) (R : Definition → Typ
     mutual
       pub term_found : (sc : Scope) (e : Expression) → IsScope sc → IfFound P (term_of sc e)
       term_found sc (written_number n) g = number_found n
-      term_found sc (written_name name) g = names sc name g
+      term_found sc (written_name name) g = name_found named sc name g
       term_found sc (written_use name es) g = and_then_found (AllAre P) P (application sc name) (terms_of sc es) (λ us h. applications sc name us g h) (terms_found sc es g)
       term_found sc (written_let ls e) g = under sc (bindings_of sc ls) e (bindings_found sc ls g) (λ ps h. term_found (binding sc ps) e (bound_scope sc ps g h))
 

@@ -2,6 +2,7 @@
 use Rattle.std.specs.Prelude.{ℕ, Bool, List}
 use Rattle.nz_spec.specs.Tree.{Tree}
 use Rattle.nz_spec.specs.Term.{Constant, Term}
+use Rattle.nz_spec.specs.Literal.{Literal}
 use Rattle.nz_spec.specs.Elaboration.{Definition}
 use Rattle.nz_spec.specs.Error.{Error}
 
@@ -21,7 +22,11 @@ pub data Command : Type 0 where
   declare_const : Constant → Command
   define : Definition → Command
   assert_term : Term → Command
-  check_sat : List Term → Command  -- under these assumed terms
+  push_levels : ℕ → Command
+  pop_levels : ℕ → Command
+  reset : Command
+  reset_assertions : Command
+  check_sat : List Literal → Command  -- under these assumed literals
   get_model : Command
   get_value : List Asked → Command
   get_info : Info → Command

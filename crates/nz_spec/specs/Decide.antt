@@ -3,6 +3,7 @@ use Rattle.std.specs.Prelude.{◌≡◌, ℕ, ◌<◌, List, [], ◌∷◌, ◌+
 use Rattle.std.specs.List.{AllByRecursion}
 use Rattle.nz_spec.specs.Term.{Constant, Head, constant, constant_of, Term, Value, IsOfSort, ValueFits}
 use Rattle.nz_spec.specs.Table.{Node, term_in, assignment_by}
+use Rattle.nz_spec.specs.Literal.{Literal}
 use Rattle.nz_spec.specs.Model.{IsModel}
 
 -- ---- Constants and asserted terms
@@ -47,7 +48,7 @@ pub record IsValueOf (ns : List Node) (p : ℕ × Value) : Type 0 where
   pub sort : IsOfSort of.sort p.1
   pub fits : ValueFits p.1
 
--- The values are those of constants, and under them the asserted terms and the assumed ones are true.
-pub record AreModelValues (ns : List Node) (asserted assumed : List Term) (ps : List (ℕ × Value)) : Type 0 where
+-- The values are those of constants, and under them the asserted terms and the assumed literals are true.
+pub record AreModelValues (ns : List Node) (asserted : List Term) (assumed : List Literal) (ps : List (ℕ × Value)) : Type 0 where
   pub values : AllByRecursion (IsValueOf ns) ps
   pub makes : IsModel asserted assumed (assignment_by ns ps)

@@ -38,6 +38,7 @@ pub mod Numerals
 pub mod Operations
 pub mod Order
 pub mod Outside
+pub mod OverConstants
 pub mod Parse
 pub mod Pivots
 pub mod Places

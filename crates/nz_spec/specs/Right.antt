@@ -1,15 +1,18 @@
 -- Which reply to a thing heard is right, and what it leaves (SMT-LIB 2.6, section 4.2).
-use Rattle.std.specs.Prelude.{◌≡◌, ℕ, List, [], ◌∷◌, map, Option, Some, None, ◌⊎◌, if◌then◌else◌}
+use Rattle.std.specs.Prelude.{◌≡◌, ℕ, List, [], ◌∷◌, ◌++◌, map, flat_map, drop, Option, Some, None, ◌⊎◌, if◌then◌else◌}
+use Rattle.std.specs.List.{repeat}
 use Rattle.nz_spec.specs.Tree.{Tree}
 use Rattle.nz_spec.specs.Term.{Term, Assignment}
+use Rattle.nz_spec.specs.Normal.{normal_of}
+use Rattle.nz_spec.specs.Literal.{Literal, term_literal, is_at_most, is_below}
+use Rattle.nz_spec.specs.Form.{Part}
 use Rattle.nz_spec.specs.Text.{What, intact, faulty, unclosed, unread}
 use Rattle.nz_spec.specs.Error.{nothing_to_show, incomplete, out_of_memory}
 use Rattle.nz_spec.specs.Model.{assignment_of, AreModel, IsUnsatisfiable}
 use Rattle.nz_spec.specs.Live.{units_spent, number_left, declared, defined, asserted, LastAnswer, model_found, refutation, undecided, Options, State, start, constants_of, assertions_of, grown, pushed_levels}
-use Rattle.nz_spec.specs.Command.{Asked, Command, declare_const, define, assert_term, check_sat, get_model, get_value, get_info, get_levels, get_reason, set_print_success, echo, exit, Outcome, accepted, refused, not_taken}
+use Rattle.nz_spec.specs.Command.{Asked, Command, declare_const, define, assert_term, push_levels, pop_levels, reset, reset_assertions, check_sat, get_model, get_value, get_info, get_levels, get_reason, set_print_success, echo, exit, Outcome, accepted, refused, not_taken}
 use Rattle.nz_spec.specs.Script.{outcome_of}
 use Rattle.nz_spec.specs.TermList.{terms_added}
-use Rattle.nz_spec.specs.Gates.{holds}
 use Rattle.nz_spec.specs.Legal.{Task, IsSpentLegally}
 use Rattle.nz_spec.specs.Places.{IsStoppedLegally}
 use Rattle.nz_spec.specs.Reply.{Shown, term_shown, Reply, quiet, success, sat, unsat, unknown, model, values, info, levels, reason, echoed, unsupported, error, Cause, plain, spent, stopped}
@@ -25,12 +28,18 @@ pub record Context : Type 0 where
 abbrev pub beginning : ℕ → Context
 beginning limit = record { limit = limit; before = []; state = start }
 
--- what a check under these assumed terms asks a search
-abbrev pub task_of : State → List Term → Task
-task_of s assumed = record { asserted = assertions_of s; assumed = map holds assumed; listed = terms_added s assumed }
+-- the normal terms that a literal is of: its term, or the units of its sum
+abbrev pub normals_in : Literal → List Term
+normals_in (term_literal t sign) = normal_of t ∷ []
+normals_in (is_at_most ps b) = map (λ (p : Part). normal_of p.unit) ps
+normals_in (is_below ps b) = map (λ (p : Part). normal_of p.unit) ps
 
--- An answer to a check under these assumed terms.
-abbrev pub IsRightCheck : Context → List Term → Reply → Cause → Type 0
+-- what a check under these assumed literals asks a search
+abbrev pub task_of : State → List Literal → Task
+task_of s assumed = record { asserted = assertions_of s; assumed = assumed; listed = terms_added s (flat_map normals_in assumed) }
+
+-- An answer to a check under these assumed literals.
+abbrev pub IsRightCheck : Context → List Literal → Reply → Cause → Type 0
 IsRightCheck c assumed (sat bs) cause = AreModel (constants_of c.state) (assertions_of c.state) assumed bs × (cause ≡ plain)
 IsRightCheck c assumed unsat cause = IsUnsatisfiable (assertions_of c.state) assumed × (cause ≡ plain)
 -- Each unit of the limit was used, step by step as a search may.
@@ -72,6 +81,7 @@ IsRightCommand c get_levels reply cause = (reply ≡ levels (pushed_levels c.sta
 IsRightCommand c get_reason reply cause = IsRightReason c.state.last reply × (cause ≡ plain)
 IsRightCommand c (echo bs) reply cause = (reply ≡ echoed bs) × (cause ≡ plain)
 IsRightCommand c (set_print_success b) reply cause = (reply ≡ done (record { prints_success = b })) × (cause ≡ plain)
+IsRightCommand c reset reply cause = (reply ≡ done start.options) × (cause ≡ plain)
 IsRightCommand c k reply cause = (reply ≡ done c.state.options) × (cause ≡ plain)
 
 abbrev pub IsRightOutcome : Context → Outcome → Reply → Cause → Type 0
@@ -103,6 +113,11 @@ abbrev pub effect : State → Command → Reply → State
 effect s (declare_const c) reply = grown s (declared c)
 effect s (define d) reply = grown s (defined d)
 effect s (assert_term t) reply = grown s (asserted t)
+-- new levels are empty; what stood in a level that is taken off is live no more, and the numbers of its items aren't given again
+effect s (push_levels n) reply = record s { levels = repeat n ([] ∷ []) ++ s.levels; last = None }
+effect s (pop_levels n) reply = record s { levels = drop n s.levels; last = None }
+effect s reset reply = start
+effect s reset_assertions reply = record start { options = s.options }
 effect s (check_sat assumed) reply = record s { last = last_after reply }
 effect s (set_print_success b) reply = record s { options = record { prints_success = b } }
 effect s c reply = s

@@ -1,19 +1,20 @@
 -- What becomes of a command over a live state (SMT-LIB 2.6, section 3.9 and chapter 4): it is accepted, or refused by the first
 -- rule that it breaks.
-use Rattle.std.specs.Prelude.{ℕ, ◌&&◌, ◌||◌, suc, Bool, true, false, List, [], ◌∷◌, map, Option, Some, None, option_and_then, is_none, if◌then◌else◌}
+use Rattle.std.specs.Prelude.{ℕ, ◌&&◌, ◌||◌, suc, nat_lt, Bool, true, false, List, [], ◌∷◌, map, Option, Some, None, option_and_then, is_none, if◌then◌else◌}
 use Rattle.std.specs.List.{list_any}
 use Rattle.nz_spec.specs.Bounds.{has_token, is_wide_token, is_long_decimal}
 use Rattle.nz_spec.specs.Tree.{Tree}
-use Rattle.nz_spec.specs.Term.{Sort, bool_sort, parameter, Term, apply, Terms, no_terms, terms}
+use Rattle.nz_spec.specs.Term.{Sort, bool_sort, parameter, Term, apply, Terms, no_terms, terms, holds_integer}
 use Rattle.nz_spec.specs.Normal.{normal_of}
 use Rattle.nz_spec.specs.Linear.{is_linear}
-use Rattle.nz_spec.specs.Expression.{Expression, Expressions, no_expressions, expressions}
-use Rattle.nz_spec.specs.Request.{WrittenSort, named_sort, listed_sort, Parameter, Question, lex_priority, Setting, success_setting, models_setting, priority_setting, InfoKey, name_key, version_key, authors_key, behavior_key, levels_key, reason_key, other_key, Request, declares, defines, asserts, checks, shows_model, shows_values, shows_info, sets_option, sets_nothing, echoes, exits}
-use Rattle.nz_spec.specs.Parse.{request_of}
+use Rattle.nz_spec.specs.Literal.{Literal, term_literal}
+use Rattle.nz_spec.specs.Expression.{Expression, written_name, Expressions, no_expressions, expressions}
+use Rattle.nz_spec.specs.Request.{WrittenSort, named_sort, listed_sort, Parameter, Assumption, Question, lex_priority, Setting, success_setting, models_setting, priority_setting, InfoKey, name_key, version_key, authors_key, behavior_key, levels_key, reason_key, other_key, Request, declares, defines, asserts, checks, checks_assuming, pushes, pops, resets, resets_assertions, shows_model, shows_values, shows_info, sets_option, sets_nothing, echoes, exits}
+use Rattle.nz_spec.specs.Parse.{cons_onto, request_of}
 use Rattle.nz_spec.specs.Elaboration.{is_declared, sort_named, has_sort, placed, Scope, term_of, terms_of}
-use Rattle.nz_spec.specs.Live.{State, items_of, items_hold_integers, constants_of, definitions_of}
-use Rattle.nz_spec.specs.Command.{name_info, version_info, authors_info, error_behavior_info, Asked, Command, declare_const, define, assert_term, check_sat, get_model, get_value, get_info, get_levels, get_reason, set_print_success, no_effect, echo, exit, Outcome, accepted, refused, not_taken}
-use Rattle.nz_spec.specs.Error.{bad_syntax, unknown_symbol, wrong_sort, not_linear, too_wide, past_limit, already_declared}
+use Rattle.nz_spec.specs.Live.{State, items_of, items_hold_integers, constants_of, definitions_of, pushed_levels}
+use Rattle.nz_spec.specs.Command.{name_info, version_info, authors_info, error_behavior_info, Asked, Command, declare_const, define, assert_term, push_levels, pop_levels, reset, reset_assertions, check_sat, get_model, get_value, get_info, get_levels, get_reason, set_print_success, no_effect, echo, exit, Outcome, accepted, refused, not_taken}
+use Rattle.nz_spec.specs.Error.{bad_syntax, unknown_symbol, wrong_sort, not_linear, too_wide, past_limit, below_zero, already_declared}
 use Rattle.nz_spec.specs.Limits.{passes_limit}
 use Rattle.nz_spec.specs.Scoping.{has_unknown, have_unknown, clash, has_clash, have_clash}
 
@@ -121,6 +122,45 @@ values_asked s qs =
     else (if have_clash es then refused already_declared
     else elim (terms_of (scope_of s) es) [ Some us ↦ linear_outcome (all_linear us) (get_value (asked_of qs us)) | None ↦ refused wrong_sort ])
 
+-- ---- Levels
+
+-- so many levels are pushed; a number beyond the bounds passes a limit
+abbrev pub push_of : Option ℕ → Outcome
+push_of (Some n) = accepted (push_levels n)
+push_of None = refused past_limit
+
+-- no more levels are popped than were pushed
+abbrev pub pop_of : State → Option ℕ → Outcome
+pop_of s (Some n) = if nat_lt (pushed_levels s) n then refused below_zero else accepted (pop_levels n)
+pop_of s None = refused too_wide
+
+-- ---- Checks
+
+-- the term that an assumed name stands for
+abbrev pub assumed_term : State → Assumption → Option Term
+assumed_term s x = term_of (scope_of s) (written_name x.name)
+
+abbrev pub assumes_unknown : State → Assumption → Bool
+assumes_unknown s x = has_unknown (is_live_name s) [] (written_name x.name)
+
+abbrev pub assumes_integer : State → Assumption → Bool
+assumes_integer s x = elim (assumed_term s x) [ Some t ↦ holds_integer (normal_of t) | None ↦ false ]
+
+-- a name of sort Bool is assumed, to be true or to be false
+abbrev pub assumed_literal : State → Assumption → Option Literal
+assumed_literal s x = option_and_then (λ t. if has_sort bool_sort t then Some (term_literal t x.is_true) else None) (assumed_term s x)
+
+abbrev pub assumed_literals : State → List Assumption → Option (List Literal)
+assumed_literals s [] = Some []
+assumed_literals s (x ∷ xs) = cons_onto (assumed_literal s x) (assumed_literals s xs)
+
+-- a check under these assumptions; the program takes none yet where a term that is live, or assumed, is of sort Int or made of one that is
+abbrev pub check_under : State → List Assumption → Outcome
+check_under s xs =
+    if items_hold_integers (items_of s.levels) || list_any (assumes_integer s) xs then not_taken
+    else (if list_any (assumes_unknown s) xs then refused unknown_symbol
+    else elim (assumed_literals s xs) [ Some ls ↦ accepted (check_sat ls) | None ↦ refused wrong_sort ])
+
 -- what a get-info of this key asks
 abbrev pub info_asked : InfoKey → Outcome
 info_asked name_key = accepted (get_info name_info)
@@ -144,6 +184,11 @@ outcome_by s (declares name arguments sort) = declaration_of s name arguments so
 outcome_by s (defines name parameters sort body) = definition_of s name parameters sort body
 outcome_by s (asserts e) = assertion_of s e
 outcome_by s checks = if items_hold_integers (items_of s.levels) then not_taken else accepted (check_sat [])
+outcome_by s (checks_assuming xs) = check_under s xs
+outcome_by s (pushes n) = push_of n
+outcome_by s (pops n) = pop_of s n
+outcome_by s resets = accepted reset
+outcome_by s resets_assertions = accepted reset_assertions
 outcome_by s shows_model = accepted get_model
 outcome_by s (shows_values qs) = values_asked s qs
 outcome_by s (shows_info k) = info_asked k

@@ -79,6 +79,14 @@ IsSortedDefinition d = IsWellSorted d.parameters d.body
 abbrev pub IsSortedAssertion : Term → Type 0
 IsSortedAssertion t = IsWellSorted [] t × (sort_of t ≡ bool_sort)
 
+-- a term whose normal term is linear
+abbrev pub HasLinearNormal : Term → Type 0
+HasLinearNormal t = IsTrue (is_linear (normal_of t))
+
+-- a definition whose body is such a term
+abbrev pub HasLinearBody : Definition → Type 0
+HasLinearBody d = HasLinearNormal d.body
+
 -- ---- Laws
 
 -- The normal term of a well sorted term without parameters is one of the gate table, where it holds no number.

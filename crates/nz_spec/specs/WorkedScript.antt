@@ -1,17 +1,18 @@
 -- A worked script: what becomes of commands, one at a time, where a few constants and definitions are live.
 use Rattle.std.specs.Prelude.{◌≡◌, ℕ, true, false, List, [], ◌∷◌, map, Some, None, codes}
 use Rattle.nz_spec.specs.Tree.{Tree, leaf, symbol, numeral}
-use Rattle.nz_spec.specs.Term.{bool_sort, int_sort, real_sort, over_int, parameter, less, sum, decimal_number}
+use Rattle.nz_spec.specs.Term.{bool_sort, int_sort, real_sort, over_int, parameter, verum, falsum, less, magnitude, sum, decimal_number}
 use Rattle.nz_spec.specs.Normal.{paired}
-use Rattle.nz_spec.specs.Live.{State, start, declared, asserted, model_found, refutation}
-use Rattle.nz_spec.specs.Command.{declare_const, define, assert_term, get_model, get_value, get_info, name_info, get_levels, get_reason, set_print_success, no_effect, echo, exit, Outcome, accepted, refused, not_taken}
+use Rattle.nz_spec.specs.Literal.{term_literal}
+use Rattle.nz_spec.specs.Live.{State, start, declared, defined, asserted, model_found, refutation}
+use Rattle.nz_spec.specs.Command.{declare_const, define, assert_term, get_model, get_value, get_info, name_info, get_levels, get_reason, set_print_success, no_effect, echo, exit, push_levels, pop_levels, reset, reset_assertions, check_sat, Outcome, accepted, refused, not_taken}
 use Rattle.nz_spec.specs.Script.{outcome_of}
 use Rattle.nz_spec.specs.Text.{intact}
 use Rattle.nz_spec.specs.Reply.{Reply, quiet, success, unsat, values, error, unsupported}
 use Rattle.nz_spec.specs.Error as fault
 use Rattle.nz_spec.specs.Right.{after}
 use Rattle.nz_spec.specs.TruthTables.{of_three}
-use Rattle.nz_spec.specs.Samples.{constant_of_sort, alone, a_term, x_term, u_term, numeral_term, real_of, half, above, below, tree_in, sample_constants, state_with, outcome_in}
+use Rattle.nz_spec.specs.Samples.{constant_of_sort, alone, over_one, a_term, x_term, u_term, numeral_term, real_of, half, above, below, tree_in, sample_constants, state_with, outcome_in}
 
 abbrev pub outcomes_in : List (List ℕ) → List Outcome
 outcomes_in texts = map outcome_in texts
@@ -175,3 +176,66 @@ pub record HasEffects : Type 0 where
   pub lacks_memory : left_by answered (codes "(assert a)") (error fault.out_of_memory) ≡ answered
   pub denies : left_by answered (codes "(check-sat)") unsat ≡ record answered { last = Some refutation }
   pub sets : left_by answered (codes "(set-option :print-success true)") success ≡ record answered { options = record { prints_success = true } }
+
+-- ---- Levels and assumptions
+
+-- the Boolean a, the real number u, and definitions: of a truth, of a function, of what asks something of an integer, and of what u is below
+abbrev pub taken_state : State
+taken_state =
+    state_with
+    (declared (constant_of_sort bool_sort (codes "a")) ∷ declared (constant_of_sort real_sort (codes "u"))
+    ∷ defined (record { name = codes "b"; parameters = []; body = a_term }) ∷ defined half
+    ∷ defined (record { name = codes "c"; parameters = []; body = paired less (numeral_term 1) (over_one magnitude (numeral_term 2)) })
+    ∷ defined (record { name = codes "d"; parameters = []; body = paired less u_term (real_of (numeral_term 1)) }) ∷ [])
+    None
+
+abbrev pub outcomes_over : List (List ℕ) → List Outcome
+outcomes_over texts = map (λ text. outcome_of taken_state (tree_in text)) texts
+
+-- one level beside the first, in which a is asserted, and a model to show
+abbrev pub pushed : State
+pushed =
+    record {
+      levels =
+          (record { number = 1; item = asserted a_term } ∷ [])
+          ∷ (record { number = 0; item = declared (constant_of_sort bool_sort (codes "a")) } ∷ []) ∷ [];
+      next = 2;
+      last = Some (model_found []);
+      options = record { prints_success = true };
+    }
+
+-- A check is of what is live and assumed, a name of sort Bool without parameters, or true or false, or the negation of one. The program takes none
+-- that is of integers, whatever rule it breaks. No more is taken off than was pushed, and the numbers of items go on.
+pub record HasLevels : Type 0 where
+  pub pushes : outcomes_over (codes "(push)" ∷ codes "(push 0)" ∷ codes "(push 1000)" ∷ []) ≡ accepted (push_levels 1) ∷ accepted (push_levels 0) ∷ accepted (push_levels 1000) ∷ []
+  pub pops : outcomes_over (codes "(pop 0)" ∷ codes "(pop)" ∷ codes "(pop 2)" ∷ []) ≡ accepted (pop_levels 0) ∷ refused fault.below_zero ∷ refused fault.below_zero ∷ []
+  pub takes_off : outcome_of pushed (tree_in (codes "(pop)")) ≡ accepted (pop_levels 1)
+  pub wide : outcome_in (codes "(pop 170141183460469231731687303715884105728)") ≡ refused fault.too_wide
+  pub resets : outcomes_over (codes "(reset)" ∷ codes "(reset-assertions)" ∷ []) ≡ accepted reset ∷ accepted reset_assertions ∷ []
+  pub assumes : outcome_of taken_state (tree_in (codes "(check-sat-assuming (a (not b) true (not false)))"))
+      ≡ accepted
+      (check_sat (term_literal a_term true ∷ term_literal a_term false ∷ term_literal (alone verum) true ∷ term_literal (alone falsum) false ∷ []))
+  pub none : outcome_of taken_state (tree_in (codes "(check-sat-assuming ())")) ≡ accepted (check_sat [])
+  pub unknown : outcome_of taken_state (tree_in (codes "(check-sat-assuming (and z))")) ≡ refused fault.unknown_symbol
+  pub sorts : outcomes_over (codes "(check-sat-assuming (and))" ∷ codes "(check-sat-assuming (a half))" ∷ []) ≡ refused fault.wrong_sort ∷ refused fault.wrong_sort ∷ []
+  pub reals : outcome_of taken_state (tree_in (codes "(check-sat-assuming (d))"))
+      ≡ accepted (check_sat (term_literal (paired less u_term (real_of (numeral_term 1))) true ∷ []))
+  pub integers : outcome_of taken_state (tree_in (codes "(check-sat-assuming (z c))")) ≡ not_taken
+  pub live_integers : outcome_in (codes "(check-sat-assuming (z))") ≡ not_taken
+  pub begins : left_by answered (codes "(push 2)") quiet
+      ≡ record {
+        levels = [] ∷ [] ∷ (record { number = 0; item = declared (constant_of_sort bool_sort (codes "a")) } ∷ []) ∷ [];
+        next = 1;
+        last = None;
+        options = record { prints_success = false };
+      }
+  pub ends : left_by pushed (codes "(pop)") success
+      ≡ record {
+        levels = (record { number = 0; item = declared (constant_of_sort bool_sort (codes "a")) } ∷ []) ∷ [];
+        next = 2;
+        last = None;
+        options = record { prints_success = true };
+      }
+  pub stays : left_by pushed (codes "(pop 2)") (error fault.below_zero) ≡ pushed
+  pub starts_anew : left_by pushed (codes "(reset)") quiet ≡ start
+  pub keeps_options : left_by pushed (codes "(reset-assertions)") success ≡ record start { options = record { prints_success = true } }

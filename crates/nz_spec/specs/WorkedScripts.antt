@@ -1,12 +1,12 @@
 -- Worked scripts: whole texts, the replies to what is heard in them, and what is written.
-use Rattle.std.specs.Prelude.{◌≡◌, ℕ, true, List, [], ◌∷◌, pos, negsuc, codes}
+use Rattle.std.specs.Prelude.{◌≡◌, ℕ, true, false, List, [], ◌∷◌, pos, negsuc, codes}
 use Rattle.nz_fractions.specs.Fraction.{whole, over}
 use Rattle.nz_spec.specs.Text.{Heard, script_limits}
 use Rattle.nz_spec.specs.Reading.{reading_start, hear_on}
 use Rattle.nz_spec.specs.Term.{bool_sort, int_sort, real_sort, truth, number}
 use Rattle.nz_spec.specs.Model.{Binding}
-use Rattle.nz_spec.specs.Reply.{Reply, quiet, sat, unsat, values, echoed, unsupported, error, shown_value, plain}
-use Rattle.nz_spec.specs.Error.{bad_syntax, unknown_symbol, wrong_sort, not_linear, too_wide, past_limit, nothing_to_show, already_declared, incomplete}
+use Rattle.nz_spec.specs.Reply.{Reply, quiet, success, sat, unsat, model, values, levels, echoed, unsupported, error, shown_value, plain}
+use Rattle.nz_spec.specs.Error.{bad_syntax, unknown_symbol, wrong_sort, not_linear, too_wide, past_limit, nothing_to_show, below_zero, already_declared, incomplete}
 use Rattle.nz_spec.specs.Transcript.{Kept, IsTranscript, texts_of}
 use Rattle.nz_spec.specs.Run.{solve_limit}
 use Rattle.nz_spec.specs.Samples.{constant_of_sort, tree_in}
@@ -64,4 +64,32 @@ errors =
       output =
           codes
           "(error \"1 syntax\")\n(error \"1 syntax\")\n(error \"2 unknown symbol\")\n(error \"3 sort\")\n(error \"4 not linear\")\n(error \"5 number too wide\")\n(error \"6 limit\")\n(error \"7 no answer to show\")\n(error \"9 already declared\")\nunsupported\n\"a\"\"b\"\n(error \"10 incomplete command\")\n";
+    }
+
+abbrev pub p_fails : List Binding
+p_fails = record { constant = constant_of_sort bool_sort (codes "p"); value = truth false } ∷ []
+
+-- What is asserted in a level goes with it, and what is assumed with its check; a level pushed or taken off ends the answer, and so do
+-- both resets, of which one keeps the options.
+abbrev pub levelled : Worked
+levelled =
+    record {
+      text =
+          codes
+          "(declare-const p Bool)(push 1)(assert p)(check-sat-assuming ((not p)))(pop 1)(check-sat-assuming ((not p)))(get-model)(push 0)(get-model)(pop)(push)(get-info :assertion-stack-levels)(set-option :print-success true)(push 2)(reset-assertions)(assert p)(check-sat)(reset)(get-model)";
+      replies =
+          quiet ∷ quiet ∷ quiet ∷ unsat ∷ quiet ∷ sat p_fails ∷ model p_fails ∷ quiet ∷ error nothing_to_show ∷ error below_zero ∷ quiet ∷ levels 1 ∷ success ∷ success
+          ∷ success ∷ error unknown_symbol ∷ sat [] ∷ quiet ∷ error nothing_to_show ∷ [];
+      output =
+          codes
+          "unsat\nsat\n(\n(define-fun p () Bool false)\n)\n(error \"7 no answer to show\")\n(error \"8 pop below zero\")\n(:assertion-stack-levels 1)\nsuccess\nsuccess\nsuccess\n(error \"2 unknown symbol\")\nsat\n(error \"7 no answer to show\")\n";
+    }
+
+-- A name of a level that is taken off may be declared again, of another sort.
+abbrev pub renamed : Worked
+renamed =
+    record {
+      text = codes "(push)(declare-const x Bool)(assert x)(declare-const x Int)(pop)(assert x)(declare-const x Int)(check-sat)(assert (< x 1))";
+      replies = quiet ∷ quiet ∷ quiet ∷ error already_declared ∷ quiet ∷ error unknown_symbol ∷ quiet ∷ unsupported ∷ quiet ∷ [];
+      output = codes "(error \"9 already declared\")\n(error \"2 unknown symbol\")\nunsupported\n";
     }

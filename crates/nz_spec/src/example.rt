@@ -12,8 +12,11 @@ pub fn worked_example()
     ensures output { texts_of example_transcript ≡ example_output }
 {}
 
-/// Scripts with each error that a command can meet, and with values, models and what contradicts, by the definitions alone.
+/// Scripts with each error that a command can meet, with values, models and what contradicts, and with levels, by the definitions
+/// alone.
 pub fn worked_scripts()
     ensures errors { IsWorked scripts.errors }
     ensures values { IsWorked scripts.prices }
+    ensures levels { IsWorked scripts.levelled }
+    ensures names { IsWorked scripts.renamed }
 {}

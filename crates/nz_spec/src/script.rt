@@ -1,7 +1,7 @@
 //! Laws of commands.
 ghost use Rattle.nz_spec.specs.Argument.{ArgumentTells};
 ghost use Rattle.nz_spec.specs.TermList.{IntegersAreListed};
-ghost use Rattle.nz_spec.specs.WorkedScript.{HasAdditions, HasAsking, HasEffects, HasRefusals};
+ghost use Rattle.nz_spec.specs.WorkedScript.{HasAdditions, HasAsking, HasEffects, HasLevels, HasRefusals};
 
 /// What becomes of commands, and what they leave, by the definitions alone.
 pub fn worked_script()
@@ -9,6 +9,7 @@ pub fn worked_script()
     ensures additions { HasAdditions }
     ensures asking { HasAsking }
     ensures effects { HasEffects }
+    ensures levels { HasLevels }
 {}
 
 /// The live items hold a unit of sort Int exactly where their term list has one.

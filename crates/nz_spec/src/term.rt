@@ -3,6 +3,7 @@ ghost use Rattle.nz_spec.specs.Term.{DecimalsAreNumbers, Divides, DividesOnce};
 ghost use Rattle.nz_spec.specs.Same.{TellsHeads, TellsTerms};
 ghost use Rattle.nz_spec.specs.Numerals.{NumeralsAreWhole};
 ghost use Rattle.nz_spec.specs.Normal.{NormalKeepsValue};
+ghost use Rattle.nz_spec.specs.OverConstants.{ConstantsTellValues};
 ghost use Rattle.nz_spec.specs.Elaboration.{InstanceKeepsNormal};
 ghost use Rattle.nz_spec.specs.WellSorted.{NormalStaysSorted, NormalTermsAreGated, OperandsAreSorted};
 ghost use Rattle.nz_spec.specs.TruthTables.{HasNormalTerms, HasPairs, HasTriples};
@@ -14,6 +15,11 @@ ghost use Rattle.nz_spec.specs.WorkedNumbers.{HasArithmetic, HasComparisons, Has
 /// A term and its normal term have one value.
 pub fn normal_keeps_value()
     ensures keeps { NormalKeepsValue }
+{}
+
+/// Assignments that give the constants of a term the same values give it one value.
+pub fn constants_tell_values()
+    ensures tell { ConstantsTellValues }
 {}
 
 /// Terms may be put for the parameters of a body before or after both are made normal.

@@ -1,5 +1,5 @@
 //! Laws of transcripts.
-ghost use Rattle.nz_spec.specs.Sorts.{AssertionsAreGated, StatesStaySorted, TermsHaveTheirSorts};
+ghost use Rattle.nz_spec.specs.Sorts.{AssertionsAreGated, AssertionsAreOver, AssumptionsAreTaken, StatesStaySorted, TermsHaveTheirSorts};
 ghost use Rattle.nz_spec.specs.Transcript.{TranscriptGrows};
 
 /// A transcript goes on by one thing told and its right reply.
@@ -15,6 +15,16 @@ pub fn terms_have_their_sorts()
 /// Definitions and assertions are well sorted at first, and stay so.
 pub fn states_stay_sorted()
     ensures stay { StatesStaySorted }
+{}
+
+/// In a state whose assertions are well sorted, they are over the live constants.
+pub fn assertions_are_over()
+    ensures over { AssertionsAreOver }
+{}
+
+/// In such a state the terms that a check assumes are over the live constants, and their normal terms are such as checks take.
+pub fn assumptions_are_taken()
+    ensures taken { AssumptionsAreTaken }
 {}
 
 /// In a state whose assertions are well sorted, their normal terms are of the gate table, where they hold no number.

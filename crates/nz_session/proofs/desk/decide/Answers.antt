@@ -1,17 +1,57 @@
-use Rattle.std.proofs.Common.{ap, ◌∙◌}
+use Rattle.std.proofs.Common.{ℕ, ◌<◌, List, [], length, ap, ◌∙◌, sym, subst, All, IfOk}
+use Rattle.std.proofs.lemmas.List.Elements.{All-weaker, recursion_from_All}
+use Rattle.nz_spec.specs.Decide.{AreInTable, AreModelValues, asserted_numbers, asserted_terms}
+use Rattle.nz_spec.specs.Legal.{IsDeadEnd, at_first}
+use Rattle.nz_spec.specs.Table.{term_in}
+use Rattle.nz_spec.specs.Taken.{IsTakenBoolean}
 use Rattle.nz_spec.specs.Work.{WorkList}
 use Rattle.nz_log.specs.declared.note.Note.{Note}
-use Rattle.nz_sort.specs.Items.{table_numbers}
-use Rattle.nz_session.proofs.Answering.{unsat_in_one_level}
-use Rattle.nz_session.proofs.LegalWork.{undecided_in_one_level}
+use Rattle.nz_log.specs.declared.term_lits.TermLit.{TermLit}
+use Rattle.nz_log.specs.Verdicts.{IfSat, OnUnsat, task_in}
+use Rattle.nz_sort.specs.Live.{asserted_by}
+use Rattle.nz_session.specs.Assumed.{IsTakenAt}
+use Rattle.nz_session.specs.Told.{IsTold}
+use Rattle.nz_session.proofs.LegalWork.{undecided_in_levels}
 use Rattle.nz_session.proofs.desk.decide.Goals as goal
+
+pub check-requires-clause-known : goal.check-requires-clause-known
+check-requires-clause-known g c =
+    let ns = c.args.terms.now in
+    subst (AreInTable ns) (sym c.in_ok-tell.ensures.all) (All-weaker (IsTakenAt ns) (λ i. i < length ns) (λ i h. h.0) (asserted_numbers (asserted_by c.args.live.now)) c.requires.taken)
+
+pub check-requires-clause-within : goal.check-requires-clause-within
+check-requires-clause-within g c =
+    let ns = c.args.terms.now in
+    let within : TermLit → Type 0 = λ l. l.term < length ns in
+    recursion_from_All within c.args.assumed.now (All-weaker (λ (l : TermLit). IsTakenAt ns l.term) within (λ l h. h.0) c.args.assumed.now c.requires.assumed_taken)
+
+pub check-requires-clause-taken : goal.check-requires-clause-taken
+check-requires-clause-taken g c =
+    let ns = c.args.terms.now in
+    let taken : ℕ → Type 0 = λ i. IsTakenBoolean (term_in ns i) in
+    subst (λ (ls : List (List ℕ)). All taken (asserted_numbers ls)) (sym c.in_ok-tell.ensures.all)
+    (All-weaker (IsTakenAt ns) taken (λ i h. h.1) (asserted_numbers (asserted_by c.args.live.now)) c.requires.taken)
+
+pub check-requires-clause-assumed_taken : goal.check-requires-clause-assumed_taken
+check-requires-clause-assumed_taken g c =
+    let ns = c.args.terms.now in
+    All-weaker (λ (l : TermLit). IsTakenAt ns l.term) (λ (l : TermLit). IsTakenBoolean (term_in ns l.term)) (λ l h. h.1) c.args.assumed.now c.requires.assumed_taken
+
+pub returns-clause-told : goal.returns-clause-told
+returns-clause-told g c = subst (λ (ls : List (List ℕ)). IsTold ls c.tell.new.told (asserted_by c.args.live.now)) (sym c.check.ensures.levels) c.tell.ensures.told
+
+pub returns-clause-sat : goal.returns-clause-sat
+returns-clause-sat g c =
+    let ns = c.args.terms.now in
+    subst (λ (ls : List (List ℕ)). IfOk c.check.result (λ v. IfSat v (AreModelValues ns (asserted_terms ns ls) []))) c.in_ok-tell.ensures.all c.check.ensures.sat
 
 pub returns-clause-unsat : goal.returns-clause-unsat
 returns-clause-unsat g c =
-    unsat_in_one_level c.args.terms.now (g.E.Decide.levels c.tell.new.engine) (table_numbers c.args.assertions.now) c.check.result c.in_ok-tell.ensures.all c.check.ensures.unsat
+    let ns = c.args.terms.now in
+    subst (λ (ls : List (List ℕ)). IfOk c.check.result (λ v. OnUnsat v (IsDeadEnd (task_in ns ls c.args.assumed.now) at_first))) c.in_ok-tell.ensures.all c.check.ensures.unsat
 
 pub returns-clause-undecided : goal.returns-clause-undecided
 returns-clause-undecided g c =
-    undecided_in_one_level c.args.terms.now (g.E.Decide.levels c.tell.new.engine) (table_numbers c.args.assertions.now) c.args.limit c.check.new.work c.check.result
+    undecided_in_levels c.args.terms.now (g.E.Decide.levels c.tell.new.engine) (asserted_by c.args.live.now) c.args.assumed.now c.args.limit c.check.new.work c.check.result
     c.in_ok-tell.ensures.all (c.check.ensures.limit ∙ ap (λ (w : WorkList Note). w.limit) c.in_ok-reserve.ensures.ok) c.check.ensures.legal c.check.ensures.named c.check.ensures.spent c.check.ensures.stopped
     c.check.ensures.place_within

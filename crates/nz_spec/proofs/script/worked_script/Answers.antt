@@ -14,4 +14,5 @@ returns c =
       additions = record { constants = refl; functions = refl; sort_names = refl; halves = refl; over_constant = refl; parameters_hide = refl; widened = refl; hides_definition = refl; asserts = refl; vanishes = refl; greatest = refl; most_places = refl };
       asking = record { shows = refl; models = refl; names = refl; levels = refl; reasons = refl; echoes = refl; reports = refl; is_quiet = refl; unheeded = refl; ends = refl };
       effects = record { declares = refl; asserts = refl; shows = refl; refuses = refl; passes = refl; lacks_memory = refl; denies = refl; sets = refl };
+      levels = record { pushes = refl; pops = refl; takes_off = refl; wide = refl; resets = refl; assumes = refl; none = refl; unknown = refl; sorts = refl; reals = refl; integers = refl; live_integers = refl; begins = refl; ends = refl; stays = refl; starts_anew = refl; keeps_options = refl };
     }

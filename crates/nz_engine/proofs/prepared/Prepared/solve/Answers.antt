@@ -10,15 +10,17 @@ use Rattle.nz_log.specs.declared.stop.Stop.TheVariants.{Memory}
 use Rattle.nz_log.specs.Logs.{IsLive, literals_at}
 use Rattle.nz_log.specs.Standing.{Ends}
 use Rattle.nz_log.specs.Verdicts.{OnSpent, task_in}
+use Rattle.nz_reals.specs.Exclusions.{HasNeighbours}
 use Rattle.nz_reals.specs.Stands.{IsAt, IsOf}
 use Rattle.nz_sat.specs.Conflicts.{Refutes}
+use Rattle.nz_sat.specs.Sats.{AreHeld}
 use Rattle.nz_engine.specs.Checking.{IsPosed}
-use Rattle.nz_engine.specs.Preparing.{PreparedState}
+use Rattle.nz_engine.specs.Preparing.{PreparedState, atoms_of, ids_held}
 use Rattle.nz_engine.proofs.Excluding.{prepared_in, ready_excluded}
 use Rattle.nz_engine.proofs.Ending.{legal_none, on_spent, works_begun, works_none, works_solved}
 use Rattle.nz_engine.proofs.Naming.{err_ends}
 use Rattle.nz_engine.proofs.Refuting.{refuted_by}
-use Rattle.nz_engine.proofs.Solving.{are_consistent, are_named, found_of, ids_learnable, ids_told, ids_within, is_asked, may_begin, named_have, named_lits, named_searched, posed_after, ready_as}
+use Rattle.nz_engine.proofs.Solving.{are_consistent, are_named, found_of, ids_learnable, ids_told, ids_within, is_asked, may_begin, named_have, named_ids, named_lits, named_searched, posed_after, ready_as}
 use Rattle.nz_engine.proofs.prepared.Prepared.solve.Goals as goal
 
 pub ready-requires : goal.ready-requires
@@ -55,6 +57,11 @@ returns-in_err-theory-clause-works c =
     let laws = c.search_laws.ensures.laws in
     let r = ready_as c.self.view_is c.deref-atoms.ensures.value c.deref-literals.ensures.value c.in_ok-named.ensures.ready in
     works_begun c.args.terms.now c.self.inside.log.atoms c.deref-atoms.result.now c.args.work.now c.begun.new.work (ids_within laws.rows laws.atoms r.some.1 r.handed) c.begun.ensures.begun
+
+pub exclude-requires-clause-held : goal.exclude-requires-clause-held
+exclude-requires-clause-held c =
+    let first = ready_as c.self.view_is c.deref-atoms.ensures.value c.deref-literals.ensures.value c.in_ok-named.ensures.ready in
+    subst (λ (s : PreparedState). AreHeld s.log s.sat.clauses) c.self.view_is first.some.1.standing.raised.held
 
 pub returns-in_err-exclude-clause-ends : goal.returns-in_err-exclude-clause-ends
 returns-in_err-exclude-clause-ends c =
@@ -178,3 +185,31 @@ returns-clause-works c =
 
 pub returns-clause-spent : goal.returns-clause-spent
 returns-clause-spent c = on_spent c.solve.result (IsSpent c.solve.new.work) c.solve.ensures.spent
+
+pub returns-clause-excluded : goal.returns-clause-excluded
+returns-clause-excluded c =
+    let laws = c.search_laws.ensures.laws in
+    let first = ready_as c.self.view_is c.deref-atoms.ensures.value c.deref-literals.ensures.value c.in_ok-named.ensures.ready in
+    let excludes = c.in_ok-exclude.ensures.excludes in
+    let view = ap prepared_in c.self-inside.view_is ∙ c.self-2.view_is in
+    let r = ready_excluded laws first c.self.view_is excludes view in
+    let new : PreparedState = record { log = c.solve.new.log; form = c.self-inside.inside.0.1.1.0; sat = c.solve.new.self; given = c.self-inside.inside.0.1.1.1.1.0; above = c.self-inside.inside.0.1.1.1.1.1.0 } in
+    let log = c.self-inside.inside.0.1.0 in
+    let ns = c.args.terms.now in
+    let ids = c.deref-atoms.result.now in
+    let theory = c.in_ok-theory.theory in
+    let atoms : log.atoms ≡ c.self.inside.log.atoms = ap (λ (s : PreparedState). s.log.atoms) view ∙ excludes.adds.keeps.atoms ∙ sym (ap (λ (s : PreparedState). s.log.atoms) c.self.view_is) in
+    let own : ids ≡ atoms_of ns new = named_ids laws.rows laws.atoms r.some.1 r.handed new c.solve.ensures.grows refl in
+    let held = c.self-inside.inside.0.1.1.1.0.clauses.items in
+    let neighbours : HasNeighbours theory log ids (ids_held held) = subst (λ (s : PreparedState). HasNeighbours theory s.log ids (ids_held s.sat.clauses)) (sym view) excludes.neighbours in
+    on_ok c.solve.result
+    (record {
+      theory = theory;
+      untold = c.in_ok-theory.ensures.untold;
+      log = log;
+      of = subst (λ (is : List ℕ). IsOf theory log.atoms is) own (subst (λ (all : List Atom). IsOf theory all ids) (sym atoms) c.in_ok-theory.ensures.of);
+      held = held;
+      neighbours = subst (λ (is : List ℕ). HasNeighbours theory log is (ids_held held)) own neighbours;
+      grown = c.solve.ensures.grows;
+      learned = c.solve.ensures.held;
+    })

@@ -1,43 +1,52 @@
-use Rattle.std.proofs.Common.{◌≡◌, ℕ, List, Err, refl, sym, subst, rules}
-use Rattle.std.specs.Prelude.{All}
+use Rattle.std.proofs.Common.{◌≡◌, Err, rules}
 use Rattle.nz_log.specs.declared.stop.Stop.TheVariants.{Wide, Spent}
-use Rattle.nz_spec.specs.Taken.{IsTakenBoolean}
-use Rattle.nz_spec.specs.Table.{term_in}
-use Rattle.nz_reply.specs.declared.reply.Reply.TheVariants as code
-use Rattle.nz_session.proofs.Answering.{checked}
+use Rattle.nz_session.proofs.LegalWork.{lits_true, literals_true}
 use Rattle.nz_session.proofs.Assigning.{no_live_model}
 use Rattle.nz_session.proofs.Checking.{live_taken}
 use Rattle.nz_session.proofs.desk.Desk.check.Goals as goal
 
-pub decide-decided-requires-clause-taken : goal.decide-decided-requires-clause-taken
-decide-decided-requires-clause-taken g c =
-    let ns = c.args.self.now.terms in
-    subst (λ (ids : List ℕ). All (λ i. IsTakenBoolean (term_in ns i)) ids) (sym c.assertions.ensures.terms)
-    (live_taken c.normal_terms_are_taken.ensures.taken c.normal_stays_sorted.ensures.stays ns c.args.self.now.live c.requires.0.state c.requires.1.live c.requires.1.sorted c.requires.2)
+pub decide-decided-requires : goal.decide-decided-requires
+decide-decided-requires g c =
+    let known = c.requires.holds in
+    let h = known.1 in
+    record {
+      told = h.told;
+      front = h.front;
+      companions = h.live.companions;
+      taken = live_taken c.normal_terms_are_taken.ensures.taken c.normal_stays_sorted.ensures.stays c.args.self.now.terms c.args.self.now.live known.0.state h.live h.sorted known.2;
+      assumed_taken = c.requires.taken;
+      consistent = c.requires.consistent;
+    }
 
-pub decide-decided-requires-clause-companions : goal.decide-decided-requires-clause-companions
-decide-decided-requires-clause-companions g c = c.requires.1.live.companions
+pub returns-in-Ok-Sat-clause-right : goal.returns-in-Ok-Sat-clause-right
+returns-in-Ok-Sat-clause-right g c x t ls h e k =
+    let sat = rw c.in-Ok-Sat.field-0-is at c.in-Ok-Sat.ensures.sat in
+    let assumed = rw c.in-Ok-Sat.field-0-is at c.in-Ok-Sat.ensures.sat_assumed in
+    c.found.ensures.right x t ls
+    (record { live = h.live; sorted = h.sorted; told = c.decide-decided.ensures.told; front = c.decide-decided.ensures.front; last = h.last; bound = h.bound; values = h.values; success = h.success; bounded = h.bounded })
+    e sat (literals_true c.normal_keeps_value.ensures.keeps c.args.self.now.terms _ c.args.assumed.now ls k assumed)
 
 pub returns-in-Ok-Unsat-clause-right : goal.returns-in-Ok-Unsat-clause-right
-returns-in-Ok-Unsat-clause-right g c x t h e =
-    let told = rw c.assertions.ensures.terms at c.decide-decided.ensures.told in
-    let unsat = rw (c.in-Ok-Unsat.field-0-is, c.assertions.ensures.terms) at c.in-Ok-Unsat.ensures.unsat in
-    let none = no_live_model c.normal_keeps_value.ensures.keeps c.args.self.now.terms c.args.self.now.live x.state h.live unsat in
-    checked g.E.Decide.levels g.E.Decide.table x t code.Unsat c.said.result _ c.args.self.now.last c.said.ensures.said
-    (record { live = h.live; sorted = h.sorted; told = told; front = c.decide-decided.ensures.front; last = h.last; bound = h.bound; values = h.values; success = h.success; bounded = h.bounded }) e refl (none, refl) tt
+returns-in-Ok-Unsat-clause-right g c x t ls h e k =
+    let ns = c.args.self.now.terms in
+    let keeps = c.normal_keeps_value.ensures.keeps in
+    let unsat = rw c.in-Ok-Unsat.field-0-is at c.in-Ok-Unsat.ensures.unsat in
+    c.refuted.ensures.right x t ls
+    (record { live = h.live; sorted = h.sorted; told = c.decide-decided.ensures.told; front = c.decide-decided.ensures.front; last = h.last; bound = h.bound; values = h.values; success = h.success; bounded = h.bounded })
+    e (no_live_model keeps ns c.args.self.now.live x.state c.args.assumed.now ls h.live (λ a holds. lits_true keeps ns a c.args.assumed.now ls k holds) unsat)
 
 pub returns-in-Err-Spent-clause-right : goal.returns-in-Err-Spent-clause-right
-returns-in-Err-Spent-clause-right g c x t h e =
-    let told = rw c.assertions.ensures.terms at c.decide-decided.ensures.told in
+returns-in-Err-Spent-clause-right g c x t ls h e k =
     let stop : c.decide-decided.result ≡ Err Spent = search rules in
-    let ended = rw (stop, c.assertions.ensures.terms) at c.decide-decided.ensures.undecided in
-    c.undecided.ensures.right x t
-    (record { live = h.live; sorted = h.sorted; told = told; front = c.decide-decided.ensures.front; last = h.last; bound = h.bound; values = h.values; success = h.success; bounded = h.bounded }) e ended
+    let ended = rw stop at c.decide-decided.ensures.undecided in
+    c.undecided.ensures.right x t c.args.assumed.now ls
+    (record { live = h.live; sorted = h.sorted; told = c.decide-decided.ensures.told; front = c.decide-decided.ensures.front; last = h.last; bound = h.bound; values = h.values; success = h.success; bounded = h.bounded })
+    e k ended
 
 pub returns-in-Err-Wide-clause-right : goal.returns-in-Err-Wide-clause-right
-returns-in-Err-Wide-clause-right g c x t h e =
-    let told = rw c.assertions.ensures.terms at c.decide-decided.ensures.told in
+returns-in-Err-Wide-clause-right g c x t ls h e k =
     let stop : c.decide-decided.result ≡ Err (Wide c.in-Err-Wide.place) = search rules in
-    let ended = rw (stop, c.assertions.ensures.terms) at c.decide-decided.ensures.undecided in
-    c.undecided-in-Err-Wide.ensures.right x t
-    (record { live = h.live; sorted = h.sorted; told = told; front = c.decide-decided.ensures.front; last = h.last; bound = h.bound; values = h.values; success = h.success; bounded = h.bounded }) e ended
+    let ended = rw stop at c.decide-decided.ensures.undecided in
+    c.undecided-in-Err-Wide.ensures.right x t c.args.assumed.now ls
+    (record { live = h.live; sorted = h.sorted; told = c.decide-decided.ensures.told; front = c.decide-decided.ensures.front; last = h.last; bound = h.bound; values = h.values; success = h.success; bounded = h.bounded })
+    e k ended

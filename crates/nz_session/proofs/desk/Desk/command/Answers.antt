@@ -1,178 +1,110 @@
-use Rattle.std.proofs.Common.{List, [], refl, ap, sym, subst}
 use Rattle.nz_sexpr.specs.View.{view}
-use Rattle.nz_spec.specs.Live.{Options, pushed_levels}
-use Rattle.nz_spec.specs.Command.{Command, check_sat, get_model, get_reason, get_value, get_info, get_levels, set_print_success, no_effect, echo, exit}
-use Rattle.nz_spec.specs.Script.{asked_of}
-use Rattle.nz_spec.specs.Text.{intact}
-use Rattle.nz_spec.specs.Reply.{echoed, info, levels}
-use Rattle.nz_spec.specs.Right.{done, effect}
-use Rattle.nz_sort.specs.Live.{IsLive, IsCarriedOut, AsksValues, changed, check, show_model, show_values, show_reason, show_info, show_levels, print_success, nothing, leave}
-use Rattle.nz_sort.specs.Live as asks
-use Rattle.nz_sort.specs.Acts.{info_meaning}
-use Rattle.nz_elaborate.specs.declared.typed.Typed.{Typed}
 use Rattle.nz_reply.specs.declared.reply.Reply.TheVariants as code
-use Rattle.nz_session.proofs.Answering.{GoesOn, accepted_as, kept_after, no_change, goes_on_after_echo, goes_on_after_info, goes_on_after_levels, goes_on_after_nothing, goes_on_after_setting, holds_next, holds_set, changed_answer, done_answer, told_answer, exit_answer, tells_done}
-use Rattle.nz_session.proofs.Valuing.{echo_told}
+use Rattle.nz_spec.specs.Reply.{info}
+use Rattle.std.proofs.Common.{ap}
+use Rattle.nz_sort.specs.Live.{asserted_by}
+use Rattle.nz_session.proofs.Acting.{acted, changed_answered, check_asked, check_taken, cleared_answered, echo_answered, exit_answered, info_answered, levels_answered, model_asked, nothing_answered, popped_answered, popped_told, reason_asked, refused_answered, reset_answered, setting_answered, skipped_answered, values_asked}
+use Rattle.nz_session.proofs.Telling.{told_count}
 use Rattle.nz_session.proofs.desk.Desk.command.Goals as goal
 
-pub check-requires : goal.check-requires
-check-requires g c =
-    let x = c.requires.0 in
-    let h = c.requires.1 in
-    let t = view c.args.tree.now in
-    let on : GoesOn c.args.self.now c.command.new.terms c.command.new.self = record { terms = c.command.ensures.kept; asserted = c.command.ensures.front } in
-    let carried = rw c.in-Ok-Check.field-0-is at c.in-Ok-Check.ensures.accepted in
-    let r : IsCarriedOut x.state t check c.command.new.terms c.command.new.self = carried x.state h.live in
-    let k = r.leaves.0 in (
-      x,
-      kept_after g.E.Decide.levels g.E.Decide.table c.args.self.now x c.command.new.terms c.command.new.self k.command (no_change k.command (check_sat []) k.asks (λ y. y)) h on k.live,
-      r.leaves.1,
-    )
+pub returns-in-Err-clause-right : goal.returns-in-Err-clause-right
+returns-in-Err-clause-right g c x h =
+    refused_answered c.in-Err.refusal h c.in-Err.ensures.unchanged_terms c.in-Err.ensures.unchanged c.in-Err.ensures.refused c.said.ensures.said
 
 pub returns-in-Ok-Changed-clause-right : goal.returns-in-Ok-Changed-clause-right
 returns-in-Ok-Changed-clause-right g c x h =
-    let t = view c.args.tree.now in
-    let ns = c.command.new.terms in
-    let l = c.command.new.self in
-    let on : GoesOn c.args.self.now ns l = record { terms = c.command.ensures.kept; asserted = c.command.ensures.front } in
-    let carried = rw c.in-Ok-Changed.field-0-is at c.in-Ok-Changed.ensures.accepted in
-    let r : IsCarriedOut x.state t changed ns l = carried x.state h.live in
-    let k = r.leaves in
-    changed_answer g.E.Decide.levels g.E.Decide.table c.states_stay_sorted.ensures.stay x t k.command c.done.result c.said-in-Ok-Changed.result c.args.self.now ns l c.said-in-Ok-Changed.ensures.said
-    (c.done.ensures.done (intact t)) h on k.is k.asks k.live
+    let a = acted c.in-Ok-Changed.field-0-is h c.command.ensures.kept c.in-Ok-Changed.ensures.accepted c.in-Ok-Changed.ensures.moves in
+    changed_answered c.states_stay_sorted.ensures.stay a c.changed.ensures.rest c.changed.ensures.succeeds
+
+pub pop_told-requires : goal.pop_told-requires
+pop_told-requires g c =
+    record { told = popped_told (acted c.in-Ok-Popped.field-0-is c.requires.1 c.command.ensures.kept c.in-Ok-Popped.ensures.accepted c.in-Ok-Popped.ensures.moves) }
+
+pub returns-in-Ok-Popped-clause-right : goal.returns-in-Ok-Popped-clause-right
+returns-in-Ok-Popped-clause-right g c x h =
+    let a = acted c.in-Ok-Popped.field-0-is h c.command.ensures.kept c.in-Ok-Popped.ensures.accepted c.in-Ok-Popped.ensures.moves in
+    popped_answered c.pop_told.new.engine c.pop_told.new.told c.states_stay_sorted.ensures.stay a c.pop_told.ensures.told c.pop_told.ensures.table
+    c.changed-in-Ok-Popped.ensures.rest c.changed-in-Ok-Popped.ensures.succeeds
+
+pub forget-requires : goal.forget-requires
+forget-requires g c = record { told = told_count (g.E.Decide.levels c.args.self.now.engine) c.args.self.now.told (asserted_by c.args.self.now.live) c.requires.1.told }
+
+pub returns-in-Ok-Cleared-clause-right : goal.returns-in-Ok-Cleared-clause-right
+returns-in-Ok-Cleared-clause-right g c x h =
+    let a = acted c.in-Ok-Cleared.field-0-is h c.command.ensures.kept c.in-Ok-Cleared.ensures.accepted c.in-Ok-Cleared.ensures.moves in
+    cleared_answered c.forget.new.self c.states_stay_sorted.ensures.stay a c.forget.ensures.told c.forget.ensures.table c.forget.ensures.rest c.succeeded.ensures.succeeds
+
+pub forget-requires-in-Ok-Reset : goal.forget-requires-in-Ok-Reset
+forget-requires-in-Ok-Reset g c = record { told = told_count (g.E.Decide.levels c.args.self.now.engine) c.args.self.now.told (asserted_by c.args.self.now.live) c.requires.1.told }
+
+pub returns-in-Ok-Reset-clause-right : goal.returns-in-Ok-Reset-clause-right
+returns-in-Ok-Reset-clause-right g c x h =
+    let a = acted c.in-Ok-Reset.field-0-is h c.command.ensures.kept c.in-Ok-Reset.ensures.accepted c.in-Ok-Reset.ensures.moves in
+    reset_answered c.forget-in-Ok-Reset.new.self c.states_stay_sorted.ensures.stay a c.forget-in-Ok-Reset.ensures.told c.forget-in-Ok-Reset.ensures.table
+    c.forget-in-Ok-Reset.ensures.rest c.succeeded-in-Ok-Reset.ensures.succeeds
+
+pub check_under-requires : goal.check_under-requires
+check_under-requires g c =
+    let x = c.requires.0 in
+    let h = c.requires.1 in
+    let q = check_asked c.deref.ensures.value (acted c.in-Ok-Check.field-0-is h c.command.ensures.kept c.in-Ok-Check.ensures.accepted c.in-Ok-Check.ensures.moves) in
+    record { holds = (x, q.kept.holds, q.integers); taken = check_taken c.assumptions_are_taken.ensures.taken h.sorted q }
 
 pub returns-in-Ok-Check-clause-right : goal.returns-in-Ok-Check-clause-right
 returns-in-Ok-Check-clause-right g c x h =
-    let t = view c.args.tree.now in
-    let ns = c.command.new.terms in
-    let l = c.command.new.self in
-    let on : GoesOn c.args.self.now ns l = record { terms = c.command.ensures.kept; asserted = c.command.ensures.front } in
-    let carried = rw c.in-Ok-Check.field-0-is at c.in-Ok-Check.ensures.accepted in
-    let r : IsCarriedOut x.state t check ns l = carried x.state h.live in
-    let k = r.leaves.0 in
-    let kept = kept_after g.E.Decide.levels g.E.Decide.table c.args.self.now x ns l k.command (no_change k.command (check_sat []) k.asks (λ y. y)) h on k.live in
-    c.check.ensures.right x t kept (accepted_as x.state t k.command (check_sat []) k.is k.asks)
+    let q = check_asked c.deref.ensures.value (acted c.in-Ok-Check.field-0-is h c.command.ensures.kept c.in-Ok-Check.ensures.accepted c.in-Ok-Check.ensures.moves) in
+    c.check_under.ensures.right x (view c.args.tree.now) q.literals q.kept.holds q.kept.is q.assumes
 
 pub returns-in-Ok-ShowModel-clause-right : goal.returns-in-Ok-ShowModel-clause-right
 returns-in-Ok-ShowModel-clause-right g c x h =
-    let t = view c.args.tree.now in
-    let ns = c.command.new.terms in
-    let l = c.command.new.self in
-    let on : GoesOn c.args.self.now ns l = record { terms = c.command.ensures.kept; asserted = c.command.ensures.front } in
-    let carried = rw c.in-Ok-ShowModel.field-0-is at c.in-Ok-ShowModel.ensures.accepted in
-    let r : IsCarriedOut x.state t show_model ns l = carried x.state h.live in
-    let k = r.leaves in
-    let kept = kept_after g.E.Decide.levels g.E.Decide.table c.args.self.now x ns l k.command (no_change k.command get_model k.asks (λ y. y)) h on k.live in
-    c.show_model.ensures.right x t kept (accepted_as x.state t k.command get_model k.is k.asks)
+    let k = model_asked (acted c.in-Ok-ShowModel.field-0-is h c.command.ensures.kept c.in-Ok-ShowModel.ensures.accepted c.in-Ok-ShowModel.ensures.moves) in
+    c.show_model.ensures.right x (view c.args.tree.now) k.holds k.is
 
-pub returns-in-Ok-ShowReason-clause-right : goal.returns-in-Ok-ShowReason-clause-right
-returns-in-Ok-ShowReason-clause-right g c x h =
-    let t = view c.args.tree.now in
-    let ns = c.command.new.terms in
-    let l = c.command.new.self in
-    let on : GoesOn c.args.self.now ns l = record { terms = c.command.ensures.kept; asserted = c.command.ensures.front } in
-    let carried = rw c.in-Ok-ShowReason.field-0-is at c.in-Ok-ShowReason.ensures.accepted in
-    let r : IsCarriedOut x.state t show_reason ns l = carried x.state h.live in
-    let k = r.leaves in
-    let kept = kept_after g.E.Decide.levels g.E.Decide.table c.args.self.now x ns l k.command (no_change k.command get_reason k.asks (λ y. y)) h on k.live in
-    c.show_reason.ensures.right x t kept (accepted_as x.state t k.command get_reason k.is k.asks)
+pub show_values-requires : goal.show_values-requires
+show_values-requires g c =
+    let q = values_asked c.deref-in-Ok-ShowValues.ensures.value (acted c.in-Ok-ShowValues.field-0-is c.requires.1 c.command.ensures.kept c.in-Ok-ShowValues.ensures.accepted c.in-Ok-ShowValues.ensures.moves) in
+    record { typed = (q.asks.terms, q.asks.typed) }
 
 pub returns-in-Ok-ShowValues-clause-right : goal.returns-in-Ok-ShowValues-clause-right
 returns-in-Ok-ShowValues-clause-right g c x h =
-    let t = view c.args.tree.now in
-    let ns = c.command.new.terms in
-    let l = c.command.new.self in
-    let on : GoesOn c.args.self.now ns l = record { terms = c.command.ensures.kept; asserted = c.command.ensures.front } in
-    let carried = rw c.in-Ok-ShowValues.field-0-is at c.in-Ok-ShowValues.ensures.accepted in
-    let r : IsCarriedOut x.state t (show_values c.in-Ok-ShowValues.asked.items) ns l = carried x.state h.live in
-    let k = r.leaves in
-    let kept = kept_after g.E.Decide.levels g.E.Decide.table c.args.self.now x ns l k.command (no_change k.command (get_value (asked_of k.asks.questions k.asks.terms)) k.asks.is (λ y. y)) h on k.live in
-    c.show_values.ensures.right x t r.request k.command kept r.parsed k.is (subst (λ (xs : List Typed). AsksValues ns xs r.request k.command) (sym c.deref.ensures.value) k.asks)
+    let q = values_asked c.deref-in-Ok-ShowValues.ensures.value (acted c.in-Ok-ShowValues.field-0-is h c.command.ensures.kept c.in-Ok-ShowValues.ensures.accepted c.in-Ok-ShowValues.ensures.moves) in
+    c.show_values.ensures.right x (view c.args.tree.now) q.request q.command q.kept.holds q.parsed q.kept.is q.asks
+
+pub returns-in-Ok-ShowReason-clause-right : goal.returns-in-Ok-ShowReason-clause-right
+returns-in-Ok-ShowReason-clause-right g c x h =
+    let k = reason_asked (acted c.in-Ok-ShowReason.field-0-is h c.command.ensures.kept c.in-Ok-ShowReason.ensures.accepted c.in-Ok-ShowReason.ensures.moves) in
+    c.show_reason.ensures.right x (view c.args.tree.now) k.holds k.is
 
 pub returns-in-Ok-ShowInfo-clause-right : goal.returns-in-Ok-ShowInfo-clause-right
 returns-in-Ok-ShowInfo-clause-right g c x h =
-    let t = view c.args.tree.now in
-    let ns = c.command.new.terms in
-    let l = c.command.new.self in
-    let i = info_meaning c.in-Ok-ShowInfo.info in
-    let on : GoesOn c.args.self.now ns l = record { terms = c.command.ensures.kept; asserted = c.command.ensures.front } in
-    let carried = rw c.in-Ok-ShowInfo.field-0-is at c.in-Ok-ShowInfo.ensures.accepted in
-    let r : IsCarriedOut x.state t (show_info i) ns l = carried x.state h.live in
-    let k = r.leaves in
-    let kept = kept_after g.E.Decide.levels g.E.Decide.table c.args.self.now x ns l k.command (no_change k.command (get_info i) k.asks (λ y. y)) h on k.live in
-    told_answer g.E.Decide.levels g.E.Decide.table x t (get_info i) (code.Info c.info_told.result) (info i) c.said-in-Ok-ShowInfo.result _ c.said-in-Ok-ShowInfo.ensures.said
-    (ap info c.info_told.ensures.info) tt (accepted_as x.state t k.command (get_info i) k.is k.asks) (refl, refl)
-    (holds_next g.E.Decide.levels g.E.Decide.table _ x kept) (goes_on_after_info i)
-
-pub returns-in-Ok-Echo-clause-right : goal.returns-in-Ok-Echo-clause-right
-returns-in-Ok-Echo-clause-right g c x h =
-    let t = view c.args.tree.now in
-    let ns = c.command.new.terms in
-    let l = c.command.new.self in
-    let on : GoesOn c.args.self.now ns l = record { terms = c.command.ensures.kept; asserted = c.command.ensures.front } in
-    let carried = rw c.in-Ok-Echo.field-0-is at c.in-Ok-Echo.ensures.accepted in
-    let r : IsCarriedOut x.state t asks.echo ns l = carried x.state h.live in
-    let k = r.leaves in
-    let bytes = k.asks.text in
-    let kept = kept_after g.E.Decide.levels g.E.Decide.table c.args.self.now x ns l k.command (no_change k.command (echo bytes) k.asks.is (λ y. y)) h on k.live in
-    told_answer g.E.Decide.levels g.E.Decide.table x t (echo bytes) code.Echo (echoed bytes) c.said-in-Ok-Echo.result _ c.said-in-Ok-Echo.ensures.said
-    (ap echoed (echo_told c.argument_tells.ensures.tells t r.request bytes r.parsed k.asks.request)) tt (accepted_as x.state t k.command (echo bytes) k.is k.asks.is) (refl, refl)
-    (holds_next g.E.Decide.levels g.E.Decide.table _ x kept) (goes_on_after_echo bytes)
+    let a = acted c.in-Ok-ShowInfo.field-0-is h c.command.ensures.kept c.in-Ok-ShowInfo.ensures.accepted c.in-Ok-ShowInfo.ensures.moves in
+    info_answered (code.Info c.info_told.result) a c.said-in-Ok-ShowInfo.ensures.said (ap info c.info_told.ensures.info)
 
 pub returns-in-Ok-ShowLevels-clause-right : goal.returns-in-Ok-ShowLevels-clause-right
 returns-in-Ok-ShowLevels-clause-right g c x h =
-    let t = view c.args.tree.now in
-    let ns = c.command.new.terms in
-    let l = c.command.new.self in
-    let on : GoesOn c.args.self.now ns l = record { terms = c.command.ensures.kept; asserted = c.command.ensures.front } in
-    let carried = rw c.in-Ok-ShowLevels.field-0-is at c.in-Ok-ShowLevels.ensures.accepted in
-    let r : IsCarriedOut x.state t show_levels ns l = carried x.state h.live in
-    let k = r.leaves in
-    let kept = kept_after g.E.Decide.levels g.E.Decide.table c.args.self.now x ns l k.command (no_change k.command get_levels k.asks (λ y. y)) h on k.live in
-    told_answer g.E.Decide.levels g.E.Decide.table x t get_levels (code.Levels c.levels.result) (levels (pushed_levels x.state)) c.said-in-Ok-ShowLevels.result _ c.said-in-Ok-ShowLevels.ensures.said
-    (ap levels (c.levels.ensures.levels ns x.state kept.live)) tt (accepted_as x.state t k.command get_levels k.is k.asks) (refl, refl)
-    (holds_next g.E.Decide.levels g.E.Decide.table _ x kept) goes_on_after_levels
+    let a = acted c.in-Ok-ShowLevels.field-0-is h c.command.ensures.kept c.in-Ok-ShowLevels.ensures.accepted c.in-Ok-ShowLevels.ensures.moves in
+    levels_answered c.levels.result a c.said-in-Ok-ShowLevels.ensures.said c.levels.ensures.levels
 
 pub returns-in-Ok-PrintSuccess-clause-right : goal.returns-in-Ok-PrintSuccess-clause-right
 returns-in-Ok-PrintSuccess-clause-right g c x h =
-    let t = view c.args.tree.now in
-    let ns = c.command.new.terms in
-    let l = c.command.new.self in
-    let on : GoesOn c.args.self.now ns l = record { terms = c.command.ensures.kept; asserted = c.command.ensures.front } in
-    let carried = rw c.in-Ok-PrintSuccess.field-0-is at c.in-Ok-PrintSuccess.ensures.accepted in
-    let r : IsCarriedOut x.state t (print_success c.in-Ok-PrintSuccess.prints) ns l = carried x.state h.live in
-    let k = r.leaves in
-    let b = c.in-Ok-PrintSuccess.prints in
-    let o : Options = record { prints_success = b } in
-    let live = subst (λ (d : Command). IsLive ns l (effect x.state d (done o))) k.asks (k.live (done o)) in
-    let holds = holds_set g.E.Decide.levels g.E.Decide.table c.args.self.now x ns l b (done o) h on live in
-    done_answer g.E.Decide.levels g.E.Decide.table x t (set_print_success b) o c.done-in-Ok-PrintSuccess.result c.said-in-Ok-PrintSuccess.result _ c.said-in-Ok-PrintSuccess.ensures.said
-    (c.done-in-Ok-PrintSuccess.ensures.done (intact t)) (accepted_as x.state t k.command (set_print_success b) k.is k.asks) (refl, refl) holds (goes_on_after_setting b)
+    setting_answered (acted c.in-Ok-PrintSuccess.field-0-is h c.command.ensures.kept c.in-Ok-PrintSuccess.ensures.accepted c.in-Ok-PrintSuccess.ensures.moves)
+    c.succeeded-in-Ok-PrintSuccess.ensures.succeeds
 
 pub returns-in-Ok-Nothing-clause-right : goal.returns-in-Ok-Nothing-clause-right
 returns-in-Ok-Nothing-clause-right g c x h =
-    let t = view c.args.tree.now in
-    let ns = c.command.new.terms in
-    let l = c.command.new.self in
-    let on : GoesOn c.args.self.now ns l = record { terms = c.command.ensures.kept; asserted = c.command.ensures.front } in
-    let carried = rw c.in-Ok-Nothing.field-0-is at c.in-Ok-Nothing.ensures.accepted in
-    let r : IsCarriedOut x.state t nothing ns l = carried x.state h.live in
-    let k = r.leaves in
-    let kept = kept_after g.E.Decide.levels g.E.Decide.table c.args.self.now x ns l k.command (no_change k.command no_effect k.asks (λ y. y)) h on k.live in
-    done_answer g.E.Decide.levels g.E.Decide.table x t no_effect x.state.options c.done-in-Ok-Nothing.result c.said-in-Ok-Nothing.result _ c.said-in-Ok-Nothing.ensures.said
-    (tells_done x.state t c.args.self.now.prints_success c.done-in-Ok-Nothing.result (c.done-in-Ok-Nothing.ensures.done (intact t)) h.success)
-    (accepted_as x.state t k.command no_effect k.is k.asks) (refl, refl) (holds_next g.E.Decide.levels g.E.Decide.table _ x kept) goes_on_after_nothing
+    nothing_answered (acted c.in-Ok-Nothing.field-0-is h c.command.ensures.kept c.in-Ok-Nothing.ensures.accepted c.in-Ok-Nothing.ensures.moves)
+    c.succeeded-in-Ok-Nothing.ensures.succeeds
+
+pub returns-in-Ok-Echo-clause-right : goal.returns-in-Ok-Echo-clause-right
+returns-in-Ok-Echo-clause-right g c x h =
+    let a = acted c.in-Ok-Echo.field-0-is h c.command.ensures.kept c.in-Ok-Echo.ensures.accepted c.in-Ok-Echo.ensures.moves in
+    echo_answered c.argument_tells.ensures.tells a c.said-in-Ok-Echo.ensures.said
 
 pub returns-in-Ok-Leave-clause-right : goal.returns-in-Ok-Leave-clause-right
 returns-in-Ok-Leave-clause-right g c x h =
-    let t = view c.args.tree.now in
-    let ns = c.command.new.terms in
-    let l = c.command.new.self in
-    let on : GoesOn c.args.self.now ns l = record { terms = c.command.ensures.kept; asserted = c.command.ensures.front } in
-    let carried = rw c.in-Ok-Leave.field-0-is at c.in-Ok-Leave.ensures.accepted in
-    let r : IsCarriedOut x.state t leave ns l = carried x.state h.live in
-    let k = r.leaves in
-    let kept = kept_after g.E.Decide.levels g.E.Decide.table c.args.self.now x ns l k.command (no_change k.command exit k.asks (λ y. y)) h on k.live in
-    exit_answer g.E.Decide.levels g.E.Decide.table x t c.done-in-Ok-Leave.result _
-    (tells_done x.state t c.args.self.now.prints_success c.done-in-Ok-Leave.result (c.done-in-Ok-Leave.ensures.done (intact t)) h.success)
-    (accepted_as x.state t k.command exit k.is k.asks) kept
+    exit_answered c.done.result (acted c.in-Ok-Leave.field-0-is h c.command.ensures.kept c.in-Ok-Leave.ensures.accepted c.in-Ok-Leave.ensures.moves) c.done.ensures.done
+
+pub returns-in-Ok-Unsupported-clause-right : goal.returns-in-Ok-Unsupported-clause-right
+returns-in-Ok-Unsupported-clause-right g c x h =
+    let a = acted c.in-Ok-Unsupported.field-0-is h c.command.ensures.kept c.in-Ok-Unsupported.ensures.accepted c.in-Ok-Unsupported.ensures.moves in
+    skipped_answered a c.said-in-Ok-Unsupported.ensures.said

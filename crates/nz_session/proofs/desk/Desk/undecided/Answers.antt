@@ -8,12 +8,12 @@ use Rattle.nz_session.proofs.LegalWork.{right_undecided}
 use Rattle.nz_session.proofs.desk.Desk.undecided.Goals as goal
 
 pub returns-clause-right : goal.returns-clause-right
-returns-clause-right g c x t h e u =
+returns-clause-right g c x t lits ls h e are u =
     let desk = c.args.self.now in
     let right =
-    right_undecided c.normal_keeps_value.ensures.keeps desk.terms desk.live x h.live desk.limit h.bounded desk.work (record { limit = desk.limit; work = c.take.result })
+    right_undecided c.normal_keeps_value.ensures.keeps desk.terms desk.live x h.live lits ls are desk.limit h.bounded desk.work (record { limit = desk.limit; work = c.take.result })
     c.take.ensures.lines refl c.args.place (reason_of c.in-Ok.shown) (cause_of desk.terms c.in-Ok-cause_of.cause) u (c.in-Ok.ensures.shown) (c.in-Ok-cause_of.ensures.cause desk.terms) in
-    checked_answer g.E.Decide.levels g.E.Decide.table x t _ _ desk.last
+    checked_answer g.E.Decide.levels g.E.Decide.table x t ls _ _ desk.last
     (record { live = h.live; sorted = h.sorted; told = h.told; front = h.front; last = h.last; bound = h.bound; values = h.values; success = h.success; bounded = h.bounded }) refl e
     (ap (λ (r : Reason). Some (undecided r)) (c.in-Ok.ensures.kept ∙ sym c.in-Ok.ensures.shown)) right
     (c.in-Ok-cause_of.ensures.within desk.terms (subst (AreNotedWithin desk.terms) (sym c.take.ensures.lines) u.noted) u.sited) tt

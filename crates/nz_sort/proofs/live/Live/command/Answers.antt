@@ -29,17 +29,12 @@ returns-in-Ok-clause-skipped c =
     let t = view c.args.tree.now in
     (some_comes c.args.terms.now c.carried_out.new.terms c.args.self.now c.carried_out.new.self t (request_of t) (Ok c.in-Ok.act) c.in-Ok.ensures.comes).2.skipped
 
-pub returns-in-Ok-clause-front : goal.returns-in-Ok-clause-front
-returns-in-Ok-clause-front c =
+pub returns-in-Ok-clause-moves : goal.returns-in-Ok-clause-moves
+returns-in-Ok-clause-moves c =
     let t = view c.args.tree.now in
-    (some_comes c.args.terms.now c.carried_out.new.terms c.args.self.now c.carried_out.new.self t (request_of t) (Ok c.in-Ok.act) c.in-Ok.ensures.comes).2.front
+    (some_comes c.args.terms.now c.carried_out.new.terms c.args.self.now c.carried_out.new.self t (request_of t) (Ok c.in-Ok.act) c.in-Ok.ensures.comes).2.moves
 
 pub returns-in-Err-clause-unchanged : goal.returns-in-Err-clause-unchanged
 returns-in-Err-clause-unchanged c =
     let t = view c.args.tree.now in
     (some_comes c.args.terms.now c.carried_out.new.terms c.args.self.now c.carried_out.new.self t (request_of t) (Err c.in-Err.refusal) c.in-Err.ensures.comes).2.unchanged
-
-pub returns-in-Err-clause-front : goal.returns-in-Err-clause-front
-returns-in-Err-clause-front c =
-    let t = view c.args.tree.now in
-    (some_comes c.args.terms.now c.carried_out.new.terms c.args.self.now c.carried_out.new.self t (request_of t) (Err c.in-Err.refusal) c.in-Err.ensures.comes).2.front

@@ -71,7 +71,7 @@ returns-clause-accepted c = λ s live.
     let names = ap (λ (st : Standing). st.names) c.self.view_is in
     let absent : is_some c.get.result ≡ false = search rules in
     linear_definition c.terms_fit.ensures.fits s c.args.name.now (map parameter_view c.args.parameters.now) (sort_view c.args.sort.now) (written c.args.body.now)
-    c.elaborate_body-made.new.terms c.add_companions.new.terms c.in_ok-definition.definition live.named.fits
+    c.elaborate_body-made.new.terms c.add_companions.new.terms c.in_ok-definition.definition (live_scope c.args.terms.now c.args.self.now s _ names live).fits
     (looked_up _ c.args.self.now s _ c.args.name.now c.get.result names live c.get.ensures.named c.get.ensures.none ∙ absent)
     (c.in_ok-definition.ensures.found (scope_of s) (live_scope _ c.args.self.now s _ names live)) (sym c.is_linear.ensures.linear ∙ c.if-not-is_linear.false)
     (λ t typed. typed_kept c.elaborate_body-made.new.terms c.add_companions.new.terms c.in_ok-add_companions.ensures.grows c.in_ok-definition.definition.body t typed)

@@ -2,9 +2,50 @@ use Rattle.std.proofs.Common.{Ok, sym, subst}
 use Rattle.nz_spec.specs.Request.{shows_info, sets_option}
 use Rattle.nz_spec.specs.Script.{info_asked, option_set, outcome_by}
 use Rattle.nz_command.specs.Requests.{request, key_view, setting_view}
+use Rattle.nz_sort.specs.declared.acts.Act.TheVariants.{Cleared, Reset}
 use Rattle.nz_sort.specs.Changes.{Comes}
-use Rattle.nz_sort.proofs.Ruling.{comes_only}
+use Rattle.nz_sort.proofs.Moving.{comes_reset, comes_cleared}
+use Rattle.nz_sort.proofs.Ruling.{comes_checked, comes_only}
 use Rattle.nz_sort.proofs.live.Live.requested.Goals as goal
+
+pub returns-in-CheckSat : goal.returns-in-CheckSat
+returns-in-CheckSat c =
+    let ns = c.args.terms.now in
+    let l = c.args.self.now in
+    record {
+      comes = subst (λ k. Comes ns ns l l (request k) (λ s. outcome_by s (request k)) (Ok c.check_act.result)) (sym c.in-CheckSat.is)
+          (comes_checked ns l c.check_act.result c.check_act.ensures.check);
+    }
+
+pub returns-in-Push : goal.returns-in-Push
+returns-in-Push c =
+    let ns = c.args.terms.now in
+    record {
+      comes = subst (λ k. Comes ns ns c.args.self.now c.push_counted.new.self (request k) (λ s. outcome_by s (request k)) c.push_counted.result) (sym c.in-Push.is) (c.push_counted.ensures.comes ns);
+    }
+
+pub returns-in-Pop : goal.returns-in-Pop
+returns-in-Pop c =
+    let ns = c.args.terms.now in
+    record {
+      comes = subst (λ k. Comes ns ns c.args.self.now c.pop_counted.new.self (request k) (λ s. outcome_by s (request k)) c.pop_counted.result) (sym c.in-Pop.is) (c.pop_counted.ensures.comes ns);
+    }
+
+pub returns-in-Reset : goal.returns-in-Reset
+returns-in-Reset c =
+    let ns = c.args.terms.now in
+    record {
+      comes = subst (λ k. Comes ns ns c.args.self.now c.clear.new.self (request k) (λ s. outcome_by s (request k)) (Ok Reset)) (sym c.in-Reset.is)
+          (comes_reset ns c.args.self.now c.clear.new.self c.clear.ensures.cleared);
+    }
+
+pub returns-in-ResetAssertions : goal.returns-in-ResetAssertions
+returns-in-ResetAssertions c =
+    let ns = c.args.terms.now in
+    record {
+      comes = subst (λ k. Comes ns ns c.args.self.now c.clear-in-ResetAssertions.new.self (request k) (λ s. outcome_by s (request k)) (Ok Cleared)) (sym c.in-ResetAssertions.is)
+          (comes_cleared ns c.args.self.now c.clear-in-ResetAssertions.new.self c.clear-in-ResetAssertions.ensures.cleared);
+    }
 
 pub returns-in-GetInfo : goal.returns-in-GetInfo
 returns-in-GetInfo c =

@@ -1,27 +1,65 @@
-use Rattle.std.proofs.Common.{◌≡◌, ◌∙◌, ◌||◌, false, length, ap, sym, rules}
+use Rattle.std.proofs.Common.{◌≡◌, ◌∙◌, ◌||◌, false, length, refl, ap, sym, rules}
 use Rattle.nz_sexpr.specs.View.{view}
 use Rattle.nz_spec.specs.Bounds.{has_token, is_long_decimal}
 use Rattle.nz_spec.specs.Limits.{passes_limit}
-use Rattle.nz_spec.specs.Live.{constants_of}
+use Rattle.nz_spec.specs.Live.{State}
 use Rattle.nz_spec.specs.Script.{outcome_by, outcome_requested}
+use Rattle.nz_spec.specs.Command.{refused}
+use Rattle.nz_spec.specs.Error.{past_limit}
+use Rattle.nz_base.specs.declared.reply_errors.Error.TheVariants.{Limit, TooWide}
 use Rattle.nz_command.specs.Requests.{request}
-use Rattle.nz_sort.specs.Live.{Standing}
-use Rattle.nz_sort.proofs.Living.{as_many}
-use Rattle.nz_sort.proofs.Ruling.{comes_alike, within_bounds}
+use Rattle.nz_sort.specs.Live.{Standing, IsLive}
+use Rattle.nz_sort.proofs.Leveling.{as_many_below}
+use Rattle.nz_sort.proofs.Living.{kept_where_same}
+use Rattle.nz_sort.proofs.Ruling.{comes_alike, comes_refused, breaks_own, breaks_places, breaks_width, limit_told, within_bounds}
 use Rattle.nz_sort.proofs.live.Live.ruled.Goals as goal
+use Rattle.nz_sort.proofs.live.Live.ruled.Goals.{then-faults-via-then-faults, then-faults-via-else-faults+then-passes_limit}
+
+pub returns-then-faults : goal.returns-then-faults
+returns-then-faults c =
+    let t = view c.args.tree.now in
+    let r = request c.args.command.now in
+    let l = c.args.self.now in
+    let told : (s : State) → IsLive c.args.terms.now l s → outcome_requested s t r ≡ refused past_limit =
+    λ s live. elim c.then-faults.branch [
+      | then-faults-via-then-faults w ↦ breaks_places s t r (sym c.number_faults-faults.ensures.long ∙ w.if-faults.true)
+      | then-faults-via-else-faults+then-passes_limit w ↦
+          let kept : w.len.result ≡ length c.self.inside.below.items = search rules in
+          let many = kept ∙ as_many_below c.self.inside.below.items l (ap (λ (st : Standing). st.below) c.self.view_is) in
+          breaks_own s t r (sym (limit_told _ l s r _ _ _ w.passes_limit.ensures.limit (ap (λ (st : Standing). st.top.constant_count) c.self.view_is) many live) ∙ w.if-passes_limit.true)
+    ] in
+    record { comes = comes_refused _ _ _ _ r (λ s. outcome_requested s t r) Limit told (kept_where_same c.args.terms.now) refl }
+
+pub returns-then-faults-2 : goal.returns-then-faults-2
+returns-then-faults-2 c =
+    let t = view c.args.tree.now in
+    let r = request c.args.command.now in
+    let l = c.args.self.now in
+    let short : has_token is_long_decimal t ≡ false = sym c.number_faults-faults.ensures.long ∙ c.if-faults.false in
+    let kept : c.len.result ≡ length c.self.inside.below.items = search rules in
+    let many = kept ∙ as_many_below c.self.inside.below.items l (ap (λ (st : Standing). st.below) c.self.view_is) in
+    record {
+      comes = comes_refused _ _ _ _ r (λ s. outcome_requested s t r) TooWide
+          (λ s live.
+          let own : passes_limit s r ≡ false =
+          sym (limit_told _ l s r _ _ _ c.passes_limit.ensures.limit (ap (λ (st : Standing). st.top.constant_count) c.self.view_is) many live) ∙ c.if-passes_limit.false in
+          breaks_width s t r (ap (λ b. b || has_token is_long_decimal t) own ∙ short) (sym c.number_faults-faults.ensures.wide ∙ c.if-faults-2.true))
+          (kept_where_same c.args.terms.now) refl;
+    }
 
 pub returns : goal.returns
 returns c =
     let t = view c.args.tree.now in
     let r = request c.args.command.now in
-    let many : c.len.result ≡ length c.self.inside.constants.items = search rules in
+    let l = c.args.self.now in
     let short : has_token is_long_decimal t ≡ false = sym c.number_faults-faults.ensures.long ∙ c.if-faults.false in
+    let kept : c.len.result ≡ length c.self.inside.below.items = search rules in
+    let many = kept ∙ as_many_below c.self.inside.below.items l (ap (λ (st : Standing). st.below) c.self.view_is) in
     record {
       comes = comes_alike _ _ _ _ r (λ s. outcome_by s r) (λ s. outcome_requested s t r) c.requested.result
           (λ s live.
-          let count : length (constants_of s) ≡ c.len.result =
-          sym (as_many c.args.terms.now c.args.self.now s live) ∙ sym (ap (λ (st : Standing). length st.constants) c.self.view_is) ∙ sym many in
-          let own : passes_limit s r ≡ false = sym (c.passes_limit.ensures.limit s live.unpushed count) ∙ c.if-passes_limit.false in
+          let own : passes_limit s r ≡ false =
+          sym (limit_told _ l s r _ _ _ c.passes_limit.ensures.limit (ap (λ (st : Standing). st.top.constant_count) c.self.view_is) many live) ∙ c.if-passes_limit.false in
           within_bounds s t r (ap (λ b. b || has_token is_long_decimal t) own ∙ short) (sym c.number_faults-faults.ensures.wide ∙ c.if-faults-2.false))
           c.requested.ensures.comes;
     }

@@ -33,6 +33,9 @@ returns-in_err-values-clause-refused c =
     (λ is. c.in_err-values.ensures.clash (ap Err is) (scope_of s) scope)
     (λ is. let h = c.in_err-values.ensures.refused (ap Err is) (scope_of s) scope in record { known = h.known; distinct = h.distinct; holds = ap (terms_outcome qs) h.holds }))
 
+pub returns-clause-grows : goal.returns-clause-grows
+returns-clause-grows c = c.grows_twice.ensures.twice _ _ _ c.in_ok-values.ensures.grows c.in_ok-add_companions.ensures.grows
+
 pub returns-clause-companions : goal.returns-clause-companions
 returns-clause-companions c =
     companions_made c.args.terms.now c.elaborate_all.new.terms c.add_companions.new.terms c.mark-mark.result c.mark-mark.ensures.mark c.in_ok-values.ensures.grows c.requires.live.1.companions
