@@ -37,7 +37,7 @@ distinct_push ks k distinct other p q inside within same =
     by_places (inr e) (inl h) = absurd (other p e (sym (before p e) ∙ same ∙ at_end q h))
     by_places (inr e) (inr h) = distinct p q e h (sym (before p e) ∙ same ∙ before q h)
 
-all_below : (f : ℕ → Bool) (n m : ℕ) → n ≤ m → AllByRecursion (λ k. k < m) (numbers n f)
+pub all_below : (f : ℕ → Bool) (n m : ℕ) → n ≤ m → AllByRecursion (λ k. k < m) (numbers n f)
 all_below f zero m h = _
 all_below f (suc n) m h = by_test (f n) (all_below f n m (omega (arith, h)))
   where
