@@ -110,7 +110,7 @@ module _ (f : ℕ → Bool) (i j : ℕ) (leaves : f i ≡ false) (enters : f j �
   -- the form that leaves has none of them
   pub count_written : (rows : Rows) (n : ℕ) → i < n → length (numbers n (changes f rows i j)) + 1 ≤ length (numbers n (basic f))
   count_written rows n inside =
-      let others = λ k. not (f k) && not (k == i) in
+      let others : ℕ → Bool = λ k. not (f k) && not (k == i) in
       let fewer = count_fewer (changes f rows i j) others (λ k e. (and_parts (others k) (not (is_zero (rows k j))) e).0) n in
       let more =
       count_more others (basic f) i

@@ -12,6 +12,7 @@ pub mod Pivoting
 pub mod Pushing
 pub mod RoomLeft
 pub mod SameRow
+pub mod Slots
 pub mod Solving
 pub mod Storing
 pub mod Summing

@@ -52,7 +52,7 @@ pub passes_at : (f : ℕ → Bool) (n p : ℕ) → p < length (numbers n f) → 
 passes_at f n p inside = All-from_recursion (λ k. f k ≡ true) (numbers n f) (all_pass f n) p 0 inside
 
 pub numbers_distinct : (f : ℕ → Bool) (n : ℕ) → AreDistinct (numbers n f)
-numbers_distinct f zero p q inside within same = absurd (omega (arith, inside))
+numbers_distinct f zero = λ p q inside within same. absurd (omega (arith, inside))
 numbers_distinct f (suc n) = by_test (f n) (numbers_distinct f n)
   where
     by_test : (b : Bool) → AreDistinct (numbers n f) → AreDistinct (if b then numbers n f ++ n ∷ [] else numbers n f)
