@@ -1,16 +1,17 @@
 -- Slots of forms: lists of numbers without repetition, and coefficients that are read and written through slots.
-use Rattle.std.proofs.Common.{◌≡◌, ℕ, zero, suc, ◌+◌, ◌<◌, ◌≤◌, Bool, true, false, ◌⊎◌, inl, inr, List, [], ◌∷◌, ◌++◌, length, map, get_or, take, drop, set, pos, refl, sym, ap, ◌∙◌, subst, arith}
-use Rattle.std.specs.Prelude.{◌≢◌, All, slice_index_or, if◌then◌else◌}
+use Rattle.std.proofs.Common.{◌≡◌, ℕ, zero, suc, ◌+◌, ◌<◌, ◌≤◌, Bool, true, false, ◌⊎◌, inl, inr, List, [], ◌∷◌, ◌++◌, length, map, get_or, take, drop, set, pos, refl, sym, ap, ◌∙◌, true≢false, arith}
+use Rattle.std.specs.Prelude.{◌≢◌, ◌==◌, slice_index_or, if◌then◌else◌}
 use Rattle.std.specs.List.{AllByRecursion}
 use Rattle.std.proofs.Math.Seq.{get_or-append_seam}
-use Rattle.std.proofs.lemmas.List.{append_assoc, drop_more, get_or-map, get_or-set_other, get_or-set_same, get_or_append_left, get_or_past, length-take-le, length_push, set_at, take_more}
+use Rattle.std.proofs.lemmas.List.{append_assoc, drop_more, get_or-map, get_or-set_other, get_or-set_same, get_or_append_left, length-set, length-take-le, length_push, set_at, take_more}
 use Rattle.std.proofs.lemmas.List.Elements.{All-from_recursion}
-use Rattle.nz_lists.proofs.Elements.{AllByRecursion-append, AllByRecursion-weaker}
-use Rattle.nz_lists.proofs.Numbers.{same_or_below}
+use Rattle.nz_lists.proofs.Elements.{AllByRecursion-append}
+use Rattle.nz_lists.proofs.Numbers.{equal-number, same-number, same_or_below}
 use Rattle.nz_fractions.specs.Fraction.{Fraction, whole}
 use Rattle.nz_spec.specs.Basis.{Coefficients}
 use Rattle.nz_spec.specs.BasisMoves.{numbers}
-use Rattle.nz_tab.specs.Rows.{AreSlotted, HaveSlots, coefficients_at, place_in, slot_at}
+use Rattle.nz_tab.specs.Exchanges.{IsRewritten}
+use Rattle.nz_tab.specs.Rows.{AreSlotted, HaveSlots, coefficients_at, place_in, row_in, slot_at}
 use Rattle.nz_tab.proofs.Numbers.{all_pass, number_at, place_within}
 
 -- ---- Lists without repetition
@@ -133,3 +134,42 @@ written_more places ks row old qs i y slots inside long same is e =
     ∙ sym (append_assoc (take i qs) (y ∷ []) (drop (i + 1) old))
     ∙ ap (λ (l : List Fraction). l ++ drop (i + 1) old)
     (ap (λ (x : Fraction). take i qs ++ x ∷ []) is ∙ sym (take_more qs i y (omega (arith, inside, long))))
+
+-- ---- Rows that are written
+
+-- one row more
+pub rewritten_more : (places ks rs : List ℕ) (block : List Fraction) (i : ℕ) (old now : List (List Fraction)) (row : List Fraction) → IsRewritten places ks rs block i old now → AreSlotted places rs (length old) → i < length rs
+    → coefficients_at places ks row ≡ row_in block (length ks) i → length row ≡ length ks → IsRewritten places ks rs block (i + 1) old (set now (slot_at places rs i) row)
+rewritten_more places ks rs block i old now row h slots inside is long = record {
+  count = length-set now s row ∙ h.count;
+  written = λ p e. written p (same_or_below p i (omega (arith, e)));
+  others = λ t other.
+      get_or-set_other now s t row [] (λ e. other i (omega arith) (sym e))
+      ∙ h.others t (λ p e. other p (omega (arith, e)));
+  full = λ m d e. full m d (omega (arith, e, length-set now s row)) (m == s) refl;
+}
+  where
+    s : ℕ
+    s = slot_at places rs i
+
+    there : s < length now
+    there = omega (arith, slots.within i inside, h.count)
+
+    written : (p : ℕ) → (p ≡ i) ⊎ (p < i) → coefficients_at places ks (slice_index_or (set now s row) (slot_at places rs p) []) ≡ row_in block (length ks) p
+    written p (inl e) =
+        ap (λ (m : ℕ). coefficients_at places ks (slice_index_or (set now s row) (slot_at places rs m) [])) e
+        ∙ ap (coefficients_at places ks) (get_or-set_same now s row [] there)
+        ∙ is
+        ∙ ap (row_in block (length ks)) (sym e)
+    written p (inr e) =
+        ap (coefficients_at places ks) (get_or-set_other now s (slot_at places rs p) row [] (λ q. omega (arith, e, slots.apart p i (omega (arith, e, inside)) inside q)))
+        ∙ h.written p e
+
+    full : (m : ℕ) (d : List Fraction) → m < length now → (b : Bool) → (m == s) ≡ b → length (get_or (set now s row) m d) ≡ length ks
+    full m d e true same =
+        ap (λ (x : ℕ). length (get_or (set now s row) x d)) (same-number m s same)
+        ∙ ap length (get_or-set_same now s row d there)
+        ∙ long
+    full m d e false other =
+        ap length (get_or-set_other now s m row d (λ q. true≢false (sym (equal-number m s q) ∙ other)))
+        ∙ h.full m d e

@@ -112,6 +112,8 @@ impl Rows {
         ensures unchanged { OnErr result (self.new ≡ self.old) }
         ensures room { HasRoom self.new (vec_capacity room.new.columns) (vec_capacity room.new.written) (vec_capacity room.new.solved) (vec_capacity room.new.spare) }
     {
+        // Known to be in order, so that two slots can be exchanged.
+        let _ = &self.nonbasic;
         self.list_columns(&mut room.columns, leaves, enters);
         let columns = room.columns.as_slice();
         solve(&mut room.solved, &self.row(leaves), columns, leaves, enters)?;
@@ -250,7 +252,10 @@ fn is_none(number: Frac) -> bool
     ensures zero { result ≡ is_zero number }
     ensures none { result ≡ true → number ≡ whole (pos 0) }
 {
-    number.num() == 0
+    let none = Frac::whole(0);
+    // The numerators are read, so that both are known to be in lowest terms.
+    let _ = (number.num(), none.num());
+    number.is_zero()
 }
 
 /// Exchanges the places of two forms.

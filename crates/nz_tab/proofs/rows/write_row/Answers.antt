@@ -4,10 +4,6 @@ use Rattle.std.proofs.lemmas.List.{length-map}
 use Rattle.nz_fractions.specs.Fraction.{whole}
 use Rattle.nz_tab.specs.Rows.{AreSlotted, coefficients_at, place_in}
 use Rattle.nz_tab.proofs.Slots as slots
-use Rattle.nz_tab.proofs.Blocks as blocks
-use Rattle.nz_tab.proofs.Exchanging as exchanging
-use Rattle.nz_tab.proofs.Exchanged as exchanged
-use Rattle.nz_tab.proofs.Pivoting as pivoting
 use Rattle.nz_tab.proofs.rows.write_row.Goals as goal
 
 pub loop-index-preserved : goal.loop-index-preserved
