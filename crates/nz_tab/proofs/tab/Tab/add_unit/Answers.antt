@@ -27,9 +27,9 @@ invariant_of-self-2 c =
     let long : length forms ≡ c.len-var.result = length-map t.forms.items items ∙ omega (arith, c.len-var.ensures, c.reserve-2.ensures.len, t.forms.ok.0) in
     let numbers : AreNumbers (get nat_eq c.number_unit.new.numbers) (forms ++ unit_of p ∷ []) =
     subst (λ (l : List Part). AreNumbers (get nat_eq c.number_unit.new.numbers) (forms ++ l ∷ [])) (c.as_slice.ensures.value ∙ unit) (c.number_unit.ensures.numbers forms long agree) in
-    subst (λ (l : List (List Part)). IsStored l c.in_ok-rows.rows (get nat_eq c.number_unit.new.numbers) (vec_capacity c.reserve.new.self.columns) (vec_capacity c.reserve.new.self.solved) (vec_capacity c.reserve.new.self.spare)) (sym listed)
-    (stored_unit forms t.rows (get nat_eq t.units) (vec_capacity t.room.columns) (vec_capacity t.room.solved) (vec_capacity t.room.spare) s (get nat_eq c.number_unit.new.numbers)
-    (vec_capacity c.reserve.new.self.columns) (vec_capacity c.reserve.new.self.solved) (vec_capacity c.reserve.new.self.spare)
+    subst (λ (l : List (List Part)). IsStored l c.in_ok-rows.rows (get nat_eq c.number_unit.new.numbers) (vec_capacity c.reserve.new.self.columns) (vec_capacity c.reserve.new.self.written) (vec_capacity c.reserve.new.self.solved) (vec_capacity c.reserve.new.self.spare)) (sym listed)
+    (stored_unit forms t.rows (get nat_eq t.units) (vec_capacity t.room.columns) (vec_capacity t.room.written) (vec_capacity t.room.solved) (vec_capacity t.room.spare) s (get nat_eq c.number_unit.new.numbers)
+    (vec_capacity c.reserve.new.self.columns) (vec_capacity c.reserve.new.self.written) (vec_capacity c.reserve.new.self.solved) (vec_capacity c.reserve.new.self.spare)
     c.joins_keep_basis.ensures.kept c.term_has_its_number.ensures.number c.in_ok-rows.rows p none c.in_ok-rows.ensures.widened c.in_ok-reserve.ensures.room numbers)
 
 pub returns-clause-joins : goal.returns-clause-joins
