@@ -15,6 +15,7 @@ pub mod SameRow
 pub mod Slots
 pub mod Solving
 pub mod Storing
+pub mod Stretching
 pub mod Summing
 pub mod Tableau
 pub mod UnitForms

@@ -116,6 +116,8 @@ impl Rows {
         ensures solved { vec_capacity room.new.solved ≡ vec_capacity room.old.solved }
         ensures spare { vec_capacity room.new.spare ≡ vec_capacity room.old.spare }
     {
+        // Known to be in order, so that the rows fit beside the one that joins.
+        let _ = &self.rows;
         self.sum(room, addends)?;
         self.push(room.solved.as_slice())?;
         Ok(())
@@ -233,7 +235,7 @@ fn lengthen(row: &mut Vec<Frac>, units: usize)
     requires room { vec_len row.old + units ≤ vec_capacity row.old }
     ensures lengthened { row.new.items ≡ lengthened units row.old.items }
 {
-    for _ in 0..units {
+    for unit in 0..units {
         row.push_reserved(Frac::whole(0));
     }
 }
