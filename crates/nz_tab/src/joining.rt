@@ -6,7 +6,7 @@ ghost use Rattle.nz_spec.specs.Computation.{operated, turned_into};
 ghost use Rattle.nz_fractions.specs.Fraction.{Sum, whole};
 ghost use Rattle.nz_tab.specs.Comes.{Comes, IsOperated};
 ghost use Rattle.nz_tab.specs.Rows.{AreSlotted, Grid, HasRoom, coefficient, coefficients_at, columns_of, is_marked, is_nonbasic, rows_of};
-ghost use Rattle.nz_tab.specs.Sums.{HasRoomForSum, IsStoredGrid, SumJoins, SumPushed, all_added, lengthened, next_columns, one_added, sum_over, widened, with_row};
+ghost use Rattle.nz_tab.specs.Sums.{HasRoomForSum, IsStoredGrid, IsWidened, SumJoins, SumPushed, all_added, lengthened, next_columns, one_added, sum_over, widened, with_row};
 
 use crate::exchange::with_multiple;
 use crate::row::{Row, Var};
@@ -52,6 +52,7 @@ impl Rows {
     /// Some units join as nonbasic forms, each with the next column. After an error the rows are as before.
     pub(crate) fn widen(&mut self, units: usize) -> Result<(), Memory>
         ensures widened { OnOk result (self.new ≡ widened self.old units) }
+        ensures joined { OnOk result (IsWidened self.old self.new units) }
         ensures unchanged { OnErr result (self.new ≡ self.old) }
     {
         let width = self.width.checked_add(units).ok_or(Memory)?;
@@ -97,11 +98,11 @@ impl Rows {
         // Known to be in order, so that the rows fit again where the units are taken back.
         let _ = &self.rows;
         self.widen(units)?;
-        let pushed = self.push_sum(room, addends);
-        if pushed.is_err() {
+        if let Err(stop) = self.push_sum(room, addends) {
             self.narrow(units);
+            return Err(stop);
         }
-        pushed
+        Ok(())
     }
 
     /// A sum of forms joins as basic.
