@@ -8,7 +8,7 @@ use std::alloc::Global;
 use std::test::Fail;
 
 /// How many scripts are tried.
-const SCRIPTS: u64 = 500;
+const SCRIPTS: u64 = 50;
 
 /// How many steps a script has.
 const STEPS: u64 = 16;
