@@ -111,7 +111,7 @@ pub record MayBegin (ts : List Term) (fs : List (List Part)) (x : Point) : Type 
   pub known : All (λ (f : List Part). (l : Literal) × IsTabled ts l × IsSumOf l f) fs
   pub basis : IsBasis fs (is_nonbasic x)
   pub places : (k : ℕ) (v : Infinitesimal) → x k ≡ Some v
-      → (v ≡ zero_infinitesimal) ⊎ ((l : Literal) (side : Side) × IsTabled ts l × (bound_said fs l ≡ Some (record { form = k; side = side; bound = v })))
+      → (v ≡ zero_infinitesimal) ⊎ ((l : Literal) × (side : Side) × IsTabled ts l × (bound_said fs l ≡ Some (record { form = k; side = side; bound = v })))
 
 -- It is named once, negated or not.
 pub record MayName (q : Task) (s : Search) (l : Literal) : Type 0 where
@@ -177,8 +177,8 @@ after_line s (UnitLine (PivotEntry i j)) = s
 abbrev pub after_lines : Search → List (WorkLine Note) → Search
 after_lines s lines = fold after_line s lines
 
--- What the next line may be, and to which point it leads. The first one may give a point; units and forms join at 0, what is told moves the forms that it bounds, and a pivot is
--- a check step under the bounds that were told.
+-- What the next line may be, and to which point it leads. The first one may give a point; units and forms join at 0, what is told moves the forms that
+-- it bounds, and a pivot is a check step under the bounds that were told.
 abbrev pub MayFollow : Task → Search → Point → WorkLine Note → Point → Type 0
 MayFollow q s x (NoteLine (start_note fs places)) y = MayStart q s fs places × (y ≡ point_at places)
 MayFollow q s x (NoteLine (atom_note l)) y = MayName q s l × (y ≡ x)
@@ -209,7 +209,7 @@ abbrev pub LegalWorkGoesOn : Type 0
 LegalWorkGoesOn = (q : Task) (s : Search) (x y z : Point) (lines : List (WorkLine Note)) (line : WorkLine Note)
     → Lead q s x lines y → MayFollow q (after_lines s lines) y line z → Lead q s x (lines ++ line ∷ []) z
 
--- In a legal list no atom is named twice, none is decided twice at a time, no bound is told twice at a time, and no clause is learned twice.
+-- nothing stands twice where a search stands
 pub record IsWithoutRepeats (s : Search) : Type 0 where
   pub atoms : StandOnce s.atoms
   pub decided : StandOnce (map (λ (p : ℕ × Bool). p.0) s.decided)
@@ -233,5 +233,6 @@ LegalWorkMayBegin = (q : Task) (lines : List (WorkLine Note)) (y : Point) → Le
 abbrev pub MoreTermsMayBegin : Type 0
 MoreTermsMayBegin = (ts us : List Term) (fs : List (List Part)) (x : Point) → ((t : Term) → Contains ts t → Contains us t) → MayBegin ts fs x → MayBegin us fs x
 
+-- In a legal list no atom is named twice, none is decided twice at a time, no bound is told twice at a time, and no clause is learned twice.
 abbrev pub LegalWorkDoesNotRepeat : Type 0
 LegalWorkDoesNotRepeat = (q : Task) (lines : List (WorkLine Note)) → AreLegal q lines → IsWithoutRepeats (after_lines at_first lines)
