@@ -101,7 +101,7 @@ abbrev pub IsAtom : Task → Literal → Type 0
 IsAtom q (term_literal t sign) = (sign ≡ true) × (is_boolean_term t ≡ true) × Contains q.listed t
 IsAtom q l = IsTabled q.listed l
 
--- The first sum is that of a bound, or a unit of it.
+-- The form is the sum that the literal bounds, or a unit of it.
 abbrev pub IsSumOf : Literal → List Part → Type 0
 IsSumOf l f = (f ≡ turned (bound_of l).parts) ⊎ ((p : Part) × Contains (bound_of l).parts p × (f ≡ (unit_form p.unit).parts))
 
