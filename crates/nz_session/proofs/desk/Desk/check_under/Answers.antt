@@ -41,7 +41,7 @@ returns-in_default-clause-right g c x t ls h e k =
     memory_answer g.E.Decide.levels g.E.Decide.table g.E.Decide.begins c.args.self.now x t c.said.result (holds_asked g.E.Decide.levels g.E.Decide.table g.E.Decide.begins c.args.self.now x t h)
     c.said.ensures.said
 
-pub returns-in-Err-clause-right : goal.returns-in-Err-clause-right
-returns-in-Err-clause-right g c x t ls h e k =
+pub returns-clause-right : goal.returns-clause-right
+returns-clause-right g c x t ls h e k =
     memory_answer g.E.Decide.levels g.E.Decide.table g.E.Decide.begins c.args.self.now x t c.said-in-Err.result
     (holds_asked g.E.Decide.levels g.E.Decide.table g.E.Decide.begins c.args.self.now x t h) c.said-in-Err.ensures.said
