@@ -12,7 +12,7 @@ use Rattle.nz_spec.specs.Table.{Node, term_in}
 use Rattle.nz_spec.specs.Order.{listing_order}
 use Rattle.nz_spec.specs.Literal.{Literal, term_literal, is_at_most, is_below, are_same_sign, is_literal_true, AreTrueLiterals}
 use Rattle.nz_spec.specs.Model.{IsModel}
-use Rattle.nz_spec.specs.Live.{Reason, units_spent, State, Item, declared, defined, asserted, sought, wished, cost_of, items_of, item_terms, assertions_in, assertions_of}
+use Rattle.nz_spec.specs.Live.{Reason, units_spent, Item, declared, defined, asserted, sought, wished, cost_of, items_of, item_terms, assertions_in, assertions_of}
 use Rattle.nz_spec.specs.Work.{DecisionEntry, LearnedEntry, PivotEntry, WorkLine, UnitLine, NoteLine, WorkList, is_unit, unit_count, IsSpent}
 use Rattle.nz_spec.specs.Notes.{Note, start_note, atom_note, form_note, told_note, Site, term_site, joining_site, exchange_site, value_site, sum_site, limit_site, model_site, Place}
 use Rattle.nz_spec.specs.Legal.{Task, Search, at_first, no_point, point_at, terms_known, IsTabled, IsAtom, MayName, MayStart, MayTell, MayLearn, MayFollow, MoreTermsMayBegin, Lead, after_line, after_lines, AreLegal, IsSpentLegally}

@@ -94,7 +94,8 @@ impl<E: Decide> Desk<E> {
     ghost use Rattle.nz_session.specs.Desk.{Holds, IsAnswer, Succeeds, asked_in, asserted_in, table_of};
     ghost use Rattle.nz_session.specs.Told.{IsToldNothing};
 
-    /// The desk of the start, over an engine that was told nothing yet, with this limit of units for each check.
+    /// The desk of the start, over an engine that was told nothing yet, with this limit of units for each check. Any search may begin with what the
+    /// engine keeps.
     pub fn new(alloc: Global, engine: E, limit: u64) -> Result<Desk<E>, Memory>
         requires levels { E.levels engine ≡ [] }
         requires table { E.table engine ≡ [] }

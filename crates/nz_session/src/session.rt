@@ -144,8 +144,8 @@ impl<E: Decide> Session<E> {
     ghost use Rattle.nz_reply.specs.Journals.{journal_of};
     ghost use Rattle.nz_session.specs.Serve.{BreaksOff, HasEnded, HasExited, IsCut, Serves, Writes, WritesCut, kept_by, table_by};
 
-    /// A session at the beginning of a script, over an engine that was told nothing yet, with this limit of units for each
-    /// check.
+    /// A session at the beginning of a script, over an engine that was told nothing yet, with this limit of units for each check. Any search may
+    /// begin with what the engine keeps.
     pub fn new(alloc: Global, engine: E, limit: u64) -> Result<Session<E>, Memory>
         requires levels { E.levels engine ≡ [] }
         requires table { E.table engine ≡ [] }
