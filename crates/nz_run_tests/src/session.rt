@@ -1,5 +1,6 @@
 //! Of `nz_session`: each public call of the session once on its happy path, and a check that finds no memory.
-ghost use Rattle.std.specs.Prelude.{◌≡◌, []};
+ghost use Rattle.std.specs.Prelude.{◌≡◌, List, []};
+ghost use Rattle.nz_spec.specs.Term.{Term};
 
 use crate::checks::{holds, is};
 use crate::run::{ROOM, sink_is, sink_with};
@@ -83,6 +84,7 @@ fn run_script<E: Decide>(
 ) -> Result<Outcome, Memory>
     requires told { E.levels engine ≡ [] }
     requires table { E.table engine ≡ [] }
+    requires begins { (ts : List Term) → E.begins engine ts }
 {
     let mut session = Session::new(alloc, engine, units)?;
     let fed = session.feed(script, sink);

@@ -8,7 +8,7 @@ use Rattle.nz_log.specs.Verdicts.{task_in}
 use Rattle.nz_run_tests.proofs.session.OnceOnlyDecide.check.Goals as goal
 
 pub returns-then-self-clause-legal : goal.returns-then-self-clause-legal
-returns-then-self-clause-legal c =
+returns-then-self-clause-legal c ts begun =
     let ns = c.args.terms.now in
-    let q = task_in ns c.args.self.now.engine.levels c.args.assumed.now in
+    let q = task_in ns c.args.self.now.engine.levels c.args.assumed.now ts in
     (no_point, subst (λ (ls : List (WorkLine Note)). Lead q at_first no_point (map (noted_line ns) ls) no_point) (sym c.requires.no_steps) refl)
