@@ -5,10 +5,8 @@ use crate::run::run_pieces;
 use nz_base::{Memory, PlainSink};
 use nz_run::DONE;
 use std::alloc::Global;
+use std::ops::Range;
 use std::test::Fail;
-
-/// How many scripts are tried.
-const SCRIPTS: u64 = 50;
 
 /// How many steps a script has.
 const STEPS: u64 = 16;
@@ -151,13 +149,63 @@ fn is_as_fresh(alloc: Global, seed: u64) -> Result<bool, Fail> {
     Ok(told.as_str() == script.replies.as_str())
 }
 
-#[test]
-fn each_check_is_that_of_what_is_live(rt: HostRuntime) -> Result<(), Fail> {
-    for seed in 0..SCRIPTS {
+/// Tries the scripts of these seeds; fifty take a good part of the minute that a test has.
+fn try_seeds(rt: &HostRuntime, seeds: Range<u64>) -> Result<(), Fail> {
+    for seed in seeds {
         let same = is_as_fresh(rt.alloc(), seed)?;
-        holds(&rt, same, "the replies of fresh runs");
+        holds(rt, same, "the replies of fresh runs");
     }
     Ok(())
+}
+
+#[test]
+fn checks_of_seeds_0_to_49_are_as_fresh(rt: HostRuntime) -> Result<(), Fail> {
+    try_seeds(&rt, 0..50)
+}
+
+#[test]
+fn checks_of_seeds_50_to_99_are_as_fresh(rt: HostRuntime) -> Result<(), Fail> {
+    try_seeds(&rt, 50..100)
+}
+
+#[test]
+fn checks_of_seeds_100_to_149_are_as_fresh(rt: HostRuntime) -> Result<(), Fail> {
+    try_seeds(&rt, 100..150)
+}
+
+#[test]
+fn checks_of_seeds_150_to_199_are_as_fresh(rt: HostRuntime) -> Result<(), Fail> {
+    try_seeds(&rt, 150..200)
+}
+
+#[test]
+fn checks_of_seeds_200_to_249_are_as_fresh(rt: HostRuntime) -> Result<(), Fail> {
+    try_seeds(&rt, 200..250)
+}
+
+#[test]
+fn checks_of_seeds_250_to_299_are_as_fresh(rt: HostRuntime) -> Result<(), Fail> {
+    try_seeds(&rt, 250..300)
+}
+
+#[test]
+fn checks_of_seeds_300_to_349_are_as_fresh(rt: HostRuntime) -> Result<(), Fail> {
+    try_seeds(&rt, 300..350)
+}
+
+#[test]
+fn checks_of_seeds_350_to_399_are_as_fresh(rt: HostRuntime) -> Result<(), Fail> {
+    try_seeds(&rt, 350..400)
+}
+
+#[test]
+fn checks_of_seeds_400_to_449_are_as_fresh(rt: HostRuntime) -> Result<(), Fail> {
+    try_seeds(&rt, 400..450)
+}
+
+#[test]
+fn checks_of_seeds_450_to_499_are_as_fresh(rt: HostRuntime) -> Result<(), Fail> {
+    try_seeds(&rt, 450..500)
 }
 
 /// A script of so many times the one text, and then the other.

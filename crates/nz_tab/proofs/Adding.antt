@@ -1,5 +1,5 @@
 -- A row to which forms are added one by one, qs a list of its coefficients.
-use Rattle.std.proofs.Common.{◌≡◌, ℕ, zero, suc, ◌+◌, ◌<◌, ◌≤◌, Bool, true, false, ◌⊎◌, inl, inr, List, [], ◌∷◌, ◌++◌, length, map, get_or, take, drop, set, Some, None, pos, refl, sym, ap, ◌∙◌, subst, arith}
+use Rattle.std.proofs.Common.{◌≡◌, ℕ, zero, suc, ◌+◌, ◌<◌, ◌≤◌, Bool, true, false, ◌⊎◌, inl, inr, List, [], ◌∷◌, ◌++◌, length, map, get_or, take, drop, set, Some, None, Result, Ok, Err, pos, refl, sym, ap, ◌∙◌, subst, arith}
 use Rattle.std.specs.Prelude.{if◌then◌else◌, ◌==◌, ◌≢◌}
 use Rattle.std.proofs.lemmas.Grind.{flat_map-append}
 use Rattle.std.proofs.lemmas.List.{append-nil, append_assoc, drop_all, drop_more, get_or-map, get_or_at, length-map, length-take-le, map_push, set-append_left, set_at, take-append-drop, take_all, take_more}
@@ -8,11 +8,14 @@ use Rattle.nz_fractions.specs.Fraction.{Fraction, Operation, Product, Sum, first
 use Rattle.nz_spec.specs.Computation.{Computation, and_then, operated, turned_into}
 use Rattle.nz_spec.specs.Basis.{Coefficients}
 use Rattle.nz_spec.specs.BasisMoves.{Rows, numbers, plus_multiple}
-use Rattle.nz_tab.specs.Comes.{IsDone}
+use Rattle.nz_frac.specs.declared.frac.Wide.{Wide}
+use Rattle.nz_tab.specs.Comes.{Comes, IsDone}
 use Rattle.nz_tab.specs.Each.{with_multiple}
+use Rattle.nz_tab.specs.Rows.{AreSlotted, coefficients_at, place_in, slot_at}
 use Rattle.nz_tab.specs.Sums.{all_added, one_added}
 use Rattle.nz_tab.proofs.Firsts.{first_wide-none, first_wide-some, no_operation}
 use Rattle.nz_tab.proofs.Numbers.{number_at, one_passes, place_within}
+use Rattle.nz_tab.proofs.Slots.{read_slot, set_slot}
 
 -- ---- One form after another
 
@@ -238,3 +241,65 @@ module _ (n : ℕ) (f : ℕ → Bool) (rows : Rows) (c : Coefficients) (k : ℕ)
   -- a basic one, by its row
   pub same_row : f k ≡ false → (d : Coefficients) → d ≡ rows k → turned_into (λ (x : Coefficients). map x columns) (plus_multiple columns c q d) ≡ turned_into (λ (x : Coefficients). map x columns) (one_added columns f rows c (k, q))
   same_row fails d e = ap (λ (x : Coefficients). turned_into (λ (y : Coefficients). map y columns) (plus_multiple columns c q x)) e ∙ ap wanted (sym fails)
+
+-- ---- Through slots
+
+-- what is read of what came
+comes_read : {X : Type 0} (h : List Fraction → List Fraction) (c d : Computation (List Fraction)) (now : List Fraction) → h c.result ≡ d.result → c.operations ≡ d.operations → (r : Result X Wide) → Comes c now r → Comes d (h now) r
+comes_read h c d now e o (Ok x) k = record { result = ap h k.result ∙ e; fits = ap first_wide (sym o) ∙ k.fits }
+comes_read h c d now e o (Err w) k = ap first_wide (sym o) ∙ k
+
+-- a nonbasic form is added in its column
+module _ (n : ℕ) (f : ℕ → Bool) (rows : Rows) (c : Coefficients) (k : ℕ) (q : Fraction) (inside : k < n) (passes : f k ≡ true) (places : List ℕ) (old : List Fraction) (slots : AreSlotted places (numbers n f) (length old))
+    (e : coefficients_at places (numbers n f) old ≡ map c (numbers n f)) where
+  abbrev ks : List ℕ
+  ks = numbers n f
+
+  abbrev p : ℕ
+  p = length (numbers k f)
+
+  abbrev seen : List Fraction
+  seen = coefficients_at places ks old
+
+  abbrev sum_at : List Fraction → ℕ → Computation (List Fraction)
+  sum_at l m = turned_into (λ (x : Fraction). set l m x) (operated Sum (get_or l m (whole (pos 0))) q)
+
+  within : p < length ks
+  within = place_within f k n passes inside
+
+  slot : place_in places k ≡ slot_at places ks p
+  slot = ap (place_in places) (sym (number_at f k n 0 passes inside))
+
+  in_list : sum_at seen p ≡ turned_into (λ (d : Coefficients). map d ks) (one_added ks f rows c (k, q))
+  in_list = same_place n f rows c k q inside passes seen e p refl
+
+  read_there : get_or seen p (whole (pos 0)) ≡ get_or old (slot_at places ks p) (whole (pos 0))
+  read_there = read_slot places old ks p (whole (pos 0)) within
+
+  result_there : coefficients_at places ks (sum_at old (place_in places k)).result ≡ (sum_at seen p).result
+  result_there =
+      ap (λ (m : ℕ). coefficients_at places ks (sum_at old m).result) slot
+      ∙ set_slot places ks old p (outcome Sum (get_or old (slot_at places ks p) (whole (pos 0))) q) slots within
+      ∙ ap (λ (z : Fraction). set seen p (outcome Sum z q)) (sym read_there)
+
+  operations_there : (sum_at old (place_in places k)).operations ≡ (sum_at seen p).operations
+  operations_there =
+      ap (λ (m : ℕ). (sum_at old m).operations) slot
+      ∙ ap (λ (z : Fraction). (let o : Operation = record { operator = Sum; left = z; right = q } in o) ∷ []) (sym read_there)
+
+  pub slot_added : {X : Type 0} (now : List Fraction) (r : Result X Wide) → Comes (sum_at old (place_in places k)) now r → Comes (turned_into (λ (d : Coefficients). map d ks) (one_added ks f rows c (k, q))) (coefficients_at places ks now) r
+  slot_added now r h =
+      subst (λ (x : Computation (List Fraction)). Comes x (coefficients_at places ks now) r) in_list
+      (comes_read (coefficients_at places ks) (sum_at old (place_in places k)) (sum_at seen p) now result_there operations_there r h)
+
+-- zeros are read
+zero_at : (ks : List ℕ) (s : ℕ) → get_or (map (λ (k : ℕ). whole (pos 0)) ks) s (whole (pos 0)) ≡ whole (pos 0)
+zero_at [] s = refl
+zero_at (k ∷ ks) zero = refl
+zero_at (k ∷ ks) (suc s) = zero_at ks s
+
+pub zeros_read : (places ks : List ℕ) (row : List Fraction) (ls : List ℕ) → row ≡ map (λ (k : ℕ). whole (pos 0)) ls → coefficients_at places ks row ≡ map (λ (k : ℕ). whole (pos 0)) ks
+zeros_read places [] row ls e = refl
+zeros_read places (k ∷ ks) row ls e =
+    ap (λ (x : Fraction). x ∷ coefficients_at places ks row) (ap (λ (l : List Fraction). get_or l (place_in places k) (whole (pos 0))) e ∙ zero_at ls (place_in places k))
+    ∙ ap (λ (l : List Fraction). whole (pos 0) ∷ l) (zeros_read places ks row ls e)

@@ -1,14 +1,12 @@
 -- Computations one after another, whose lists stand one behind another.
-use Rattle.std.proofs.Common.{◌≡◌, ℕ, add-one, ◌+◌, ◌<◌, ◌≤◌, List, [], ◌∷◌, ◌++◌, length, take, drop, get_or, flat_map, Some, sym, ap, subst, ◌∙◌}
+use Rattle.std.proofs.Common.{◌≡◌, ℕ, ◌+◌, ◌<◌, ◌≤◌, List, [], ◌∷◌, ◌++◌, length, take, drop, get_or, flat_map, Some, sym, ap, subst, ◌∙◌}
 use Rattle.std.proofs.lemmas.Grind.{flat_map-append}
 use Rattle.std.proofs.lemmas.List.{append-nil, append_assoc, take_more, drop_more, take_all, take-append-drop}
 use Rattle.nz_fractions.specs.Fraction.{Fraction, Operation, first_wide}
 use Rattle.nz_spec.specs.Computation.{Computation}
-use Rattle.nz_tab.proofs.Numbers.{counted_split}
 use Rattle.nz_tab.proofs.Firsts.{first_wide-none, first_wide-some, no_operation}
 use Rattle.nz_tab.specs.Comes.{IsDone}
 use Rattle.nz_tab.specs.Each.{alone, behind, each}
-use Rattle.nz_tab.specs.Rows.{counted}
 
 -- nothing yet
 pub each_none : (f : ℕ → Computation (List Fraction)) (old : List Fraction) → IsDone (behind old (each f [])) old
@@ -63,14 +61,3 @@ module _ (f : ℕ → Computation (List Fraction)) (old : List Fraction) (ks : L
 
   pub turned_all : length ks ≤ i → IsDone (behind old (each f ks)) now
   turned_all past = subst (λ (l : List ℕ). IsDone (behind old (each f l)) now) (take_all i ks past) done
-
--- ---- A loop over the numbers below a bound
-
-module _ (f : ℕ → Computation (List Fraction)) (old : List Fraction) (i : ℕ) (now : List Fraction) (done : IsDone (behind old (each f (counted i))) now) where
-  pub next : (later : List Fraction) → IsDone (behind now (f i)) later → IsDone (behind old (each f (counted (i + 1)))) later
-  next later more = subst (λ (m : ℕ). IsDone (behind old (each f (counted m))) later) (sym (add-one i)) (each_more f old (counted i) now done i later more)
-
-  pub next_stop : (n : ℕ) → i < n → (w : Operation) → first_wide (f i).operations ≡ Some w → first_wide (each f (counted n)).operations ≡ Some w
-  next_stop n inside w stop =
-      let found = counted_split i n inside in
-      ap (λ (l : List ℕ). first_wide (each f l).operations) found.1 ∙ each_stop f old (counted i) now done i found.0 w stop

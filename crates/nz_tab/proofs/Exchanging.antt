@@ -1,19 +1,20 @@
 -- An exchange that goes over the columns one by one is the exchange of the definitions.
-use Rattle.std.proofs.Common.{◌≡◌, ℕ, Bool, true, false, List, [], ◌∷◌, map, flat_map, pos, refl, sym, ap, ◌∙◌, true≢false}
+use Rattle.std.proofs.Common.{◌≡◌, ℕ, Bool, true, false, List, [], ◌∷◌, ◌++◌, map, flat_map, pos, refl, sym, ap, ◌∙◌, true≢false}
 use Rattle.std.specs.Prelude.{◌==◌, not, ◌&&◌, if◌then◌else◌, ◌≢◌}
 use Rattle.std.specs.List.{AllByRecursion}
+use Rattle.std.proofs.lemmas.Grind.{flat_map-append}
+use Rattle.std.proofs.lemmas.List.{append-nil}
 use Rattle.std.proofs.lemmas.List.Concat.{flat_map_single}
 use Rattle.nz_lists.proofs.Elements.{AllByRecursion-weaker}
 use Rattle.nz_lists.proofs.Numbers.{equal-number, other-number, same-number}
 use Rattle.nz_fractions.specs.Fraction.{Fraction, whole, neg_ℚ, outcome, Sum, Product, Quotient, Operation}
-use Rattle.nz_spec.specs.Computation.{operated, at_once, turned_into}
+use Rattle.nz_spec.specs.Computation.{Computation, operated, at_once, turned_into}
 use Rattle.nz_spec.specs.Term.{is_zero}
 use Rattle.nz_spec.specs.Basis.{Coefficients}
 use Rattle.nz_spec.specs.BasisMoves.{numbers, Rows, plus_multiple, exchanged, solved, replaced}
-use Rattle.nz_tab.specs.Each.{alone, each, with_multiple}
-use Rattle.nz_tab.specs.Exchanges.{solved_part, solved_row, sum_row, replaced_row, row_after}
-use Rattle.nz_tab.specs.Rows.{basic, counted}
-use Rattle.nz_tab.proofs.Numbers.{all_pass, flat_numbers, flat-same, flat_all, where_passes}
+use Rattle.nz_tab.specs.Each.{alone, with_multiple}
+use Rattle.nz_tab.specs.Exchanges.{changed_rows, changes, solved_part, solved_row, sum_row}
+use Rattle.nz_tab.proofs.Numbers.{all_pass, counted, flat_numbers, flat-same, flat_all, where_passes}
 
 -- ---- Tests of numbers
 
@@ -123,46 +124,66 @@ module _ (j : ℕ) (q c : Coefficients) (ks : List ℕ) (without : AllByRecursio
 
 -- ---- All rows
 
-module _ (f : ℕ → Bool) (rows : Rows) (ks : List ℕ) (i j : ℕ) (q : Coefficients) where
+-- what tells that a row changes
+pub three_parts : (a b z : Bool) → ((not a && not b) && not z) ≡ true → (a ≡ false) × ((b ≡ false) × (z ≡ false))
+three_parts true b z e = absurd (true≢false (sym e))
+three_parts false true z e = absurd (true≢false (sym e))
+three_parts false false true e = absurd (true≢false (sym e))
+three_parts false false false e = (refl, (refl, refl))
+
+-- and that one of a basic form doesn't
+pub third_part : (a b z : Bool) → a ≡ false → b ≡ false → ((not a && not b) && not z) ≡ false → z ≡ true
+third_part true b z e h none = absurd (true≢false e)
+third_part false true z e h none = absurd (true≢false h)
+third_part false false true e h none = refl
+third_part false false false e h none = absurd (true≢false none)
+
+module _ (f : ℕ → Bool) (rows : Rows) (ks : List ℕ) (i j : ℕ) (q : Coefficients) (without : AllByRecursion (λ k. k ≢ j) ks) (enters : f j ≡ true) where
   -- the definition's row of a form
-  abbrev pub row_of : ℕ → Coefficients
-  row_of r = if r == j then q else (replaced ks j q (rows r)).result
+  abbrev pub row_then : ℕ → Coefficients
+  row_then r = if r == j then q else (replaced ks j q (rows r)).result
 
-  one_row : (r : ℕ) (b c d : Bool)
-      → (if not (if b then true else if c then false else d) then map (if c then q else (replaced ks j q (rows r)).result) ks else [])
-      ≡ (if (if b then true else if c then false else d) then at_once [] else if c then at_once (map q ks) else replaced_row ks j q (rows r)).result
-  one_row r true c d = refl
-  one_row r false true d = refl
-  one_row r false false true = refl
-  one_row r false false false = refl
+  abbrev pub changing : ℕ → Bool
+  changing = changes f rows i j
 
-  pub rows_same : (n : ℕ) → (each (row_after f rows ks i j q) (counted n)).result ≡ flat_map (λ r. map (row_of r) ks) (numbers n (basic (exchanged f i j)))
-  rows_same n =
-      sym (flat_numbers (λ r. map (row_of r) ks) (basic (exchanged f i j)) n
+  one_result : (r : ℕ) → changing r ≡ true → (sum_row ks (rows r j) q (rows r)).result ≡ map (row_then r) ks
+  one_result r e =
+      let parts = three_parts (f r) (r == i) (is_zero (rows r j)) e in
+      let other : r ≢ j = λ same. true≢false (sym enters ∙ ap f (sym same) ∙ parts.0) in
+      sums_same j q (rows r) ks without (rows r j)
+      ∙ ap (λ (x : Computation Coefficients). map x.result ks) (sym (row_moves ks j q (rows r) parts.1.1))
+      ∙ ap (λ (b : Bool). map (if b then q else (replaced ks j q (rows r)).result) ks) (sym (other-number r j other))
+
+  changed_same : (n : ℕ) → (changed_rows rows (numbers n changing) ks j q).result ≡ flat_map (λ r. map (row_then r) ks) (numbers n changing)
+  changed_same n =
+      flat-same (λ r. (sum_row ks (rows r j) q (rows r)).result) (λ r. map (row_then r) ks) (λ r. changing r ≡ true) one_result (numbers n changing) (all_pass changing n)
+
+  -- the rows that are written: those that change, and that of the form that enters
+  pub written_rows : (n : ℕ) (block row : List Fraction) → block ≡ (changed_rows rows (numbers n changing) ks j q).result → row ≡ map q ks
+      → block ++ row ≡ flat_map (λ r. map (row_then r) ks) (numbers n changing ++ j ∷ [])
+  written_rows n block row b s =
+      ap (λ (l : List Fraction). l ++ row) (b ∙ changed_same n)
+      ∙ ap (λ (l : List Fraction). flat_map (λ r. map (row_then r) ks) (numbers n changing) ++ l)
+      (s
+      ∙ ap (λ (x : Bool). map (if x then q else (replaced ks j q (rows j)).result) ks) (sym (equal-number j j refl))
+      ∙ sym (append-nil (map (row_then j) ks)))
+      ∙ sym (flat_map-append (λ r. map (row_then r) ks) (numbers n changing) (j ∷ []))
+
+  one_operations : (r : ℕ) (a b z : Bool)
+      → (if (not a && not b) && not z then (sum_row ks (rows r j) q (rows r)).operations else [])
+      ≡ (if not a && not b then (if z then at_once (rows r) else plus_multiple ks (λ k. if k == j then whole (pos 0) else rows r k) (rows r j) q).operations else [])
+  one_operations r true b z = refl
+  one_operations r false true z = refl
+  one_operations r false false true = refl
+  one_operations r false false false = sum_operations j q (rows r) ks without (rows r j)
+
+  -- a row that stays takes no operation
+  pub changed_operations : (n : ℕ) → (changed_rows rows (numbers n changing) ks j q).operations ≡ flat_map (λ r. (replaced ks j q (rows r)).operations) (numbers n (λ r. not (f r) && not (r == i)))
+  changed_operations n =
+      flat_numbers (λ r. (sum_row ks (rows r j) q (rows r)).operations) changing n
       ∙ flat_all
-      (where_passes (λ r. map (row_of r) ks) (basic (exchanged f i j)))
-      (λ r. (row_after f rows ks i j q r).result)
-      (λ r. one_row r (r == i) (r == j) (f r))
-      (counted n))
-
-  row_operations : (r : ℕ) (b c d : Bool) → (c ≡ true → d ≡ true)
-      → (if not d && not b then (replaced ks j q (rows r)).operations else [])
-      ≡ (if (if b then true else if c then false else d) then at_once [] else if c then at_once (map q ks) else replaced_row ks j q (rows r)).operations
-  row_operations r true true true h = refl
-  row_operations r true true false h = refl
-  row_operations r true false true h = refl
-  row_operations r true false false h = refl
-  row_operations r false true true h = refl
-  row_operations r false true false h = absurd (true≢false (sym (h refl)))
-  row_operations r false false true h = refl
-  row_operations r false false false h = refl
-
-  pub rows_operations : f j ≡ true → (n : ℕ)
-      → (each (row_after f rows ks i j q) (counted n)).operations ≡ flat_map (λ r. (replaced ks j q (rows r)).operations) (numbers n (λ r. not (f r) && not (r == i)))
-  rows_operations enters n =
-      sym (flat_numbers (λ r. (replaced ks j q (rows r)).operations) (λ r. not (f r) && not (r == i)) n
-      ∙ flat_all
+      (where_passes (λ r. (sum_row ks (rows r j) q (rows r)).operations) changing)
       (where_passes (λ r. (replaced ks j q (rows r)).operations) (λ r. not (f r) && not (r == i)))
-      (λ r. (row_after f rows ks i j q r).operations)
-      (λ r. row_operations r (r == i) (r == j) (f r) (λ e. ap f (same-number r j e) ∙ enters))
-      (counted n))
+      (λ r. one_operations r (f r) (r == i) (is_zero (rows r j)))
+      (counted n)
+      ∙ sym (flat_numbers (λ r. (replaced ks j q (rows r)).operations) (λ r. not (f r) && not (r == i)) n)

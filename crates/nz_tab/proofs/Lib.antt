@@ -12,8 +12,10 @@ pub mod Pivoting
 pub mod Pushing
 pub mod RoomLeft
 pub mod SameRow
+pub mod Slots
 pub mod Solving
 pub mod Storing
+pub mod Stretching
 pub mod Summing
 pub mod Tableau
 pub mod UnitForms

@@ -1,5 +1,5 @@
 -- Numbers below a bound that pass a test.
-use Rattle.std.proofs.Common.{◌≡◌, ℕ, zero, suc, ◌+◌, ◌<◌, ◌≤◌, Bool, true, false, ◌⊎◌, inl, inr, List, [], ◌∷◌, ◌++◌, length, flat_map, refl, sym, ap, ◌∙◌, subst, arith}
+use Rattle.std.proofs.Common.{◌≡◌, ℕ, zero, suc, ◌+◌, ◌<◌, ◌≤◌, Bool, true, false, ◌⊎◌, inl, inr, List, [], ◌∷◌, ◌++◌, length, flat_map, refl, sym, ap, ◌∙◌, subst, true≢false, arith}
 use Rattle.std.specs.Prelude.{if◌then◌else◌, not, ◌≢◌, slice_index_or}
 use Rattle.std.proofs.Math.Seq.{get_or-append_seam}
 use Rattle.std.proofs.lemmas.Grind.{flat_map-append}
@@ -8,7 +8,7 @@ use Rattle.std.specs.List.{AllByRecursion}
 use Rattle.nz_lists.proofs.Elements.{AllByRecursion-append}
 use Rattle.nz_lists.proofs.Numbers.{same_or_below}
 use Rattle.nz_spec.specs.BasisMoves.{numbers}
-use Rattle.nz_tab.specs.Rows.{basic, counted}
+use Rattle.nz_tab.specs.Rows.{basic}
 
 -- ---- One number more
 
@@ -31,8 +31,9 @@ numbers_split f k (suc n) e h = by_place (same_or_below k n h) (numbers_split f 
     by_place (inl same) before = ([], subst (λ (m : ℕ). numbers (suc m) f ≡ numbers k f ++ k ∷ []) same (one_passes f k e))
     by_place (inr below) before = let found = before below in onto (f n) found.0 found.1
 
-pub counted_split : (k n : ℕ) → k < n → (rest : List ℕ) × (counted n ≡ counted k ++ k ∷ rest)
-counted_split k n h = numbers_split (λ m. true) k n refl h
+-- the numbers below a bound
+abbrev pub counted : ℕ → List ℕ
+counted n = numbers n (λ k. true)
 
 -- so it stands behind them
 pub number_at : (f : ℕ → Bool) (k n d : ℕ) → f k ≡ true → k < n → slice_index_or (numbers n f) (length (numbers k f)) d ≡ k
@@ -45,13 +46,6 @@ place_within f k n e h =
     let found = numbers_split f k n e h in
     let long : length (numbers n f) ≡ length (numbers k f) + suc (length found.0) = ap length found.1 ∙ length-append (numbers k f) (k ∷ found.0) in
     omega (arith, long)
-
-pub count_counted : (n : ℕ) → length (counted n) ≡ n
-count_counted zero = refl
-count_counted (suc n) = length_push (counted n) n ∙ omega (arith, count_counted n)
-
-pub counted_at : (k n d : ℕ) → k < n → slice_index_or (counted n) k d ≡ k
-counted_at k n d h = subst (λ (m : ℕ). slice_index_or (counted n) m d ≡ k) (count_counted k) (number_at (λ m. true) k n d refl h)
 
 -- ---- What passes
 
@@ -137,3 +131,15 @@ count_both f (suc n) = by_test (f n) (count_both f n)
         → length (if b then numbers n f ++ n ∷ [] else numbers n f) + length (if not b then numbers n (basic f) ++ n ∷ [] else numbers n (basic f)) ≡ suc n
     by_test true h = omega (arith, h, length_push (numbers n f) n)
     by_test false h = omega (arith, h, length_push (numbers n (basic f)) n)
+
+-- what passes a stronger test passes a weaker one
+pub count_fewer : (f g : ℕ → Bool) → ((k : ℕ) → f k ≡ true → g k ≡ true) → (n : ℕ) → length (numbers n f) ≤ length (numbers n g)
+count_fewer f g weaker zero = omega arith
+count_fewer f g weaker (suc n) = by_test (f n) (g n) (weaker n) (count_fewer f g weaker n)
+  where
+    by_test : (b c : Bool) → (b ≡ true → c ≡ true) → length (numbers n f) ≤ length (numbers n g)
+        → length (if b then numbers n f ++ n ∷ [] else numbers n f) ≤ length (if c then numbers n g ++ n ∷ [] else numbers n g)
+    by_test true true h e = omega (arith, e, length_push (numbers n f) n, length_push (numbers n g) n)
+    by_test true false h e = absurd (true≢false (sym (h refl)))
+    by_test false true h e = omega (arith, e, length_push (numbers n g) n)
+    by_test false false h e = e

@@ -1,32 +1,19 @@
 -- A row that joins behind others: the rows before it stay.
-use Rattle.std.proofs.Common.{◌≡◌, ℕ, zero, suc, add-one, ◌+◌, ◌-◌, ◌*◌, ◌<◌, ◌≤◌, Bool, true, false, ◌⊎◌, inl, inr, List, [], ◌∷◌, ◌++◌, length, map, get_or, take, drop, pos, refl, sym, ap, ◌∙◌, arith}
-use Rattle.std.specs.Prelude.{if◌then◌else◌, not, slice_index_or}
+use Rattle.std.proofs.Common.{◌≡◌, ℕ, zero, suc, add-one, ◌+◌, ◌-◌, ◌<◌, ◌≤◌, Bool, true, false, ◌⊎◌, inl, inr, List, [], ◌∷◌, length, map, get_or, pos, refl, sym, ap, ◌∙◌, arith}
+use Rattle.std.specs.Prelude.{not, slice_index_or}
 use Rattle.std.proofs.Math.Path.{fun_ext}
-use Rattle.std.proofs.Math.Seq.{drop-append_seam}
-use Rattle.std.proofs.lemmas.List.{drop-append-le, get_or-append_right, get_or-map, get_or_append_left, get_or_past, length-append, length-drop, length_push, take-append-le, take_all}
-use Rattle.nz_lists.proofs.Numbers.{below_or_past}
+use Rattle.std.proofs.Math.Seq.{get_or-append_seam}
+use Rattle.std.proofs.lemmas.List.{get_or-append_right, get_or_append_left, get_or_past, length_push}
+use Rattle.nz_lists.proofs.Numbers.{below_or_past, same_or_below}
 use Rattle.nz_fractions.specs.Fraction.{Fraction, whole}
 use Rattle.nz_spec.specs.Basis.{Coefficients}
 use Rattle.nz_spec.specs.BasisMoves.{numbers}
-use Rattle.nz_tab.specs.Rows.{ArePlaces, Grid, IsGrid, basic, is_nonbasic, row_in, rows_of, size_of}
-use Rattle.nz_tab.specs.Sums.{IsSummed, sum_over}
-use Rattle.nz_tab.proofs.Blocks.{marked_within, row_within}
-use Rattle.nz_tab.proofs.Numbers.{number_at, one_fails, one_passes, place_within}
-
--- ---- Rows in longer blocks
-
--- a row that is within the front of a block
-row_in_front : (xs ys : List Fraction) (w p : ℕ) → p * w + w ≤ length xs → row_in (xs ++ ys) w p ≡ row_in xs w p
-row_in_front xs ys w p fits =
-    ap (take w) (drop-append-le (p * w) xs ys (omega (arith, fits)))
-    ∙ take-append-le w (drop (p * w) xs) ys (omega (arith, fits, length-drop (p * w) xs))
-
--- the row behind a block
-row_behind : (xs ys : List Fraction) (w p : ℕ) → length xs ≡ p * w → length ys ≡ w → row_in (xs ++ ys) w p ≡ ys
-row_behind xs ys w p full long =
-    ap (λ (n : ℕ). take w (drop n (xs ++ ys))) (sym full)
-    ∙ ap (take w) (drop-append_seam xs ys)
-    ∙ take_all w ys (omega (arith, long))
+use Rattle.nz_tab.specs.Rows.{Grid, IsGrid, basic, coefficients_at, columns_of, is_nonbasic, place_in, row_of, rows_of}
+use Rattle.nz_tab.specs.Sums.{IsStoredGrid, IsSummed, sum_over, with_row}
+use Rattle.nz_tab.proofs.Blocks.{coefficient_there, marked_within, no_coefficient}
+use Rattle.nz_tab.proofs.Numbers.{one_fails}
+use Rattle.nz_tab.proofs.Slots.{at_column}
+use Rattle.nz_tab.proofs.Widening.{nothing}
 
 -- ---- One basic form more
 
@@ -34,19 +21,15 @@ only_false : (m : ℕ) → get_or (false ∷ []) m false ≡ false
 only_false zero = refl
 only_false (suc m) = refl
 
--- the coefficient at a form, by the nonbasic ones
-abbrev read : (ℕ → Bool) → List Fraction → Coefficients
-read h cs k = if h k then slice_index_or cs (length (numbers k h)) (whole (pos 0)) else whole (pos 0)
-
-module _ (g : Grid) (row : List Fraction) where
+module _ (g : Grid) (row : List Fraction) (stored : IsStoredGrid g) where
   abbrev n : ℕ
   n = length g.marks
 
   abbrev f : ℕ → Bool
   f = is_nonbasic g
 
-  abbrev pub pushed : Grid
-  pushed = record { marks = g.marks ++ false ∷ []; block = g.block ++ row }
+  abbrev pushed : Grid
+  pushed = with_row g row
 
   unmarked : f n ≡ false
   unmarked = get_or_past g.marks n false (omega arith)
@@ -64,71 +47,97 @@ module _ (g : Grid) (row : List Fraction) where
   marks_long : length pushed.marks ≡ n + 1
   marks_long = length_push g.marks false
 
-  pub columns_stay : numbers (length pushed.marks) (is_nonbasic pushed) ≡ numbers n f
+  pub columns_stay : columns_of pushed ≡ columns_of g
   columns_stay =
       ap (λ (m : ℕ). numbers m (is_nonbasic pushed)) (marks_long ∙ add-one n)
       ∙ ap (numbers (suc n)) marks_stay
       ∙ one_fails f n unmarked
 
-  basics_more : numbers (length pushed.marks) (basic (is_nonbasic pushed)) ≡ numbers n (basic f) ++ n ∷ []
-  basics_more =
-      ap (λ (m : ℕ). numbers m (basic (is_nonbasic pushed))) (marks_long ∙ add-one n)
-      ∙ ap (λ (h : ℕ → Bool). numbers (suc n) (basic h)) marks_stay
-      ∙ one_passes (basic f) n (ap not unmarked)
+  -- the places stay, and the new form has the next row
+  place_stays : (k : ℕ) → k < n → place_in pushed.places k ≡ place_in g.places k
+  place_stays k e = get_or_append_left g.places (length g.rows ∷ []) 0 k (omega (arith, e, stored.placed))
 
-  -- what is stored of a form
-  abbrev stored : (ℕ → Bool) → ℕ → ℕ → List Fraction
-  stored h w r = if h r then [] else row_in pushed.block w (length (numbers r (basic h)))
+  last_place : (k : ℕ) → k ≡ n → place_in pushed.places k ≡ length g.rows
+  last_place k e = ap (place_in pushed.places) (e ∙ sym stored.placed) ∙ get_or-append_seam g.places (length g.rows) [] 0
 
-  stored_is : (r : ℕ) → rows_of pushed r ≡ read f (stored f (length (numbers n f)) r)
-  stored_is r =
-      ap (λ (w : ℕ). read (is_nonbasic pushed) (stored (is_nonbasic pushed) w r)) (ap length columns_stay)
-      ∙ ap (λ (h : ℕ → Bool). read h (stored h (length (numbers n f)) r)) marks_stay
+  slot_stays : (s : ℕ) → s < length g.rows → slice_index_or pushed.rows s [] ≡ slice_index_or g.rows s []
+  slot_stays s e = get_or_append_left g.rows (row ∷ []) [] s e
 
-  module _ (whole_block : length g.block ≡ size_of n f) where
-    rows_stay : (r : ℕ) → r < n → rows_of pushed r ≡ rows_of g r
-    rows_stay r inside = stored_is r ∙ ap (read f) (by_test (f r) refl)
-      where
-        by_test : (b : Bool) → f r ≡ b → (if b then [] else row_in (g.block ++ row) (length (numbers n f)) (length (numbers r (basic f)))) ≡ (if b then [] else row_in g.block (length (numbers n f)) (length (numbers r (basic f))))
-        by_test true e = refl
-        by_test false e =
-            row_in_front g.block row (length (numbers n f)) (length (numbers r (basic f)))
-            (omega (arith, whole_block, row_within f r n (length (numbers n f)) e inside))
+  slot_within : (r : ℕ) → r < n → f r ≡ false → place_in g.places r < length g.rows
+  slot_within r inside b = stored.basics.within r inside (ap not b)
 
-    module _ (d : Coefficients) (stands : row ≡ map d (numbers n f)) (long : length row ≡ length (numbers n f)) where
-      last_row : (k : ℕ) → is_nonbasic pushed k ≡ true → rows_of pushed n k ≡ d k
-      last_row k e =
-          let passes : f k ≡ true = sym (mark_stays k) ∙ e in
-          let within : k < n = marked_within g.marks k passes in
-          ap (λ (c : Coefficients). c k) (stored_is n)
-          ∙ ap (λ (b : Bool). if b then slice_index_or (stored f (length (numbers n f)) n) (length (numbers k f)) (whole (pos 0)) else whole (pos 0)) passes
-          ∙ ap (λ (b : Bool). slice_index_or (if b then [] else row_in (g.block ++ row) (length (numbers n f)) (length (numbers n (basic f)))) (length (numbers k f)) (whole (pos 0))) unmarked
-          ∙ ap (λ (l : List Fraction). slice_index_or l (length (numbers k f)) (whole (pos 0)))
-          (row_behind g.block row (length (numbers n f)) (length (numbers n (basic f))) whole_block long ∙ stands)
-          ∙ get_or-map d (numbers n f) (length (numbers k f)) 0 (whole (pos 0)) (place_within f k n passes within)
-          ∙ ap d (number_at f k n 0 passes within)
+  row_stays : (r k : ℕ) → r < n → (b d : Bool) → f r ≡ b → f k ≡ d → rows_of pushed r k ≡ rows_of g r k
+  row_stays r k inside b false e h = no_coefficient (row_of pushed r) k (mark_stays k ∙ h) ∙ sym (no_coefficient (row_of g r) k h)
+  row_stays r k inside true true e h = nothing pushed r k (is_nonbasic pushed k) (mark_stays r ∙ e) refl ∙ sym (nothing g r k (f k) e refl)
+  row_stays r k inside false true e h =
+      coefficient_there pushed r k (mark_stays r ∙ e) (mark_stays k ∙ h)
+      ∙ ap (λ (s : ℕ). slice_index_or (slice_index_or pushed.rows s []) (place_in pushed.places k) (whole (pos 0))) (place_stays r inside)
+      ∙ ap (λ (l : List Fraction). slice_index_or l (place_in pushed.places k) (whole (pos 0))) (slot_stays (place_in g.places r) (slot_within r inside e))
+      ∙ ap (λ (s : ℕ). slice_index_or (slice_index_or g.rows (place_in g.places r) []) s (whole (pos 0))) (place_stays k (marked_within g.marks k h))
+      ∙ sym (coefficient_there g r k e h)
 
-    pub is_summed : (qs : List (ℕ × Fraction)) → row ≡ map (sum_over g qs).result (numbers n f) → length row ≡ length (numbers n f) → IsSummed g pushed qs
-    is_summed qs stands long = record {
-      count = marks_long;
-      nonbasic = mark_stays;
-      rows = rows_stay;
-      row = last_row (sum_over g qs).result stands long;
-    }
+  last_row : (c : Coefficients) → coefficients_at g.places (columns_of g) row ≡ map c (columns_of g) → (k : ℕ) → is_nonbasic pushed k ≡ true → rows_of pushed n k ≡ c k
+  last_row c stands k e =
+      let passes : f k ≡ true = sym (mark_stays k) ∙ e in
+      let within : k < n = marked_within g.marks k passes in
+      coefficient_there pushed n k (mark_stays n ∙ unmarked) e
+      ∙ ap (λ (s : ℕ). slice_index_or (slice_index_or pushed.rows s []) (place_in pushed.places k) (whole (pos 0))) (last_place n refl)
+      ∙ ap (λ (l : List Fraction). slice_index_or l (place_in pushed.places k) (whole (pos 0))) (get_or-append_seam g.rows row [] [])
+      ∙ ap (λ (s : ℕ). slice_index_or row s (whole (pos 0))) (place_stays k within)
+      ∙ at_column g.places row f n c stands k within passes
 
-    -- the block is as large as all rows again
-    pub pushed_block : length row ≡ length (numbers n f) → length (g.block ++ row) ≡ size_of (length pushed.marks) (is_nonbasic pushed)
-    pushed_block long =
-        let more : length g.block + length row ≡ suc (length (numbers n (basic f))) * length (numbers n f) = omega (arith, whole_block, long) in
-        length-append g.block row
-        ∙ more
-        ∙ ap (λ (m : ℕ). m * length (numbers n f)) (sym (ap length basics_more ∙ length_push (numbers n (basic f)) n ∙ add-one (length (numbers n (basic f)))))
-        ∙ ap (λ (l : List ℕ). length (numbers (length pushed.marks) (basic (is_nonbasic pushed))) * length l) (sym columns_stay)
+  pub is_summed : (qs : List (ℕ × Fraction)) → coefficients_at g.places (columns_of g) row ≡ map (sum_over g qs).result (columns_of g) → IsSummed g pushed qs
+  is_summed qs stands = record {
+    count = marks_long;
+    nonbasic = mark_stays;
+    rows = λ r inside. fun_ext (λ k. row_stays r k inside (f r) (f k) refl refl);
+    row = last_row (sum_over g qs).result stands;
+  }
 
-    -- and all is stored as it was
-    pub pushed_grid : (places later : List ℕ) (width : ℕ) → IsGrid g.marks places width g.block → ArePlaces pushed.marks later → length row ≡ length (numbers n f) → IsGrid pushed.marks later width pushed.block
-    pushed_grid places later width is placed long = record {
-      placed = placed;
-      wide = is.wide ∙ sym (ap length columns_stay);
-      whole_block = pushed_block long;
-    }
+  -- ---- What is stored then
+
+  basic_there : (k : ℕ) → basic (is_nonbasic pushed) k ≡ true → basic f k ≡ true
+  basic_there k b = ap not (sym (mark_stays k)) ∙ b
+
+  rows_more : length pushed.rows ≡ length g.rows + 1
+  rows_more = length_push g.rows row
+
+  row_within : (k : ℕ) → basic (is_nonbasic pushed) k ≡ true → (k ≡ n) ⊎ (k < n) → place_in pushed.places k < length pushed.rows
+  row_within k b (inl e) = omega (arith, last_place k e, rows_more)
+  row_within k b (inr e) = omega (arith, place_stays k e, stored.basics.within k e (basic_there k b), rows_more)
+
+  row_apart : (k m : ℕ) → basic (is_nonbasic pushed) k ≡ true → basic (is_nonbasic pushed) m ≡ true → place_in pushed.places k ≡ place_in pushed.places m → (k ≡ n) ⊎ (k < n) → (m ≡ n) ⊎ (m < n) → k ≡ m
+  row_apart k m a b same (inl e) (inl h) = e ∙ sym h
+  row_apart k m a b same (inl e) (inr h) = absurd (omega (arith, same, last_place k e, place_stays m h, stored.basics.within m h (basic_there m b)))
+  row_apart k m a b same (inr e) (inl h) = absurd (omega (arith, same, last_place m h, place_stays k e, stored.basics.within k e (basic_there k a)))
+  row_apart k m a b same (inr e) (inr h) = stored.basics.apart k m e h (basic_there k a) (basic_there m b) (sym (place_stays k e) ∙ same ∙ place_stays m h)
+
+  place_of : (k : ℕ) → k < length pushed.marks → (k ≡ n) ⊎ (k < n)
+  place_of k e = same_or_below k n (omega (arith, e, marks_long))
+
+  row_full : length row ≡ length (columns_of g) → (s : ℕ) (d : List Fraction) → (s ≡ length g.rows) ⊎ (s < length g.rows) → length (get_or pushed.rows s d) ≡ length (columns_of g)
+  row_full long s d (inl e) = ap (λ (x : ℕ). length (get_or pushed.rows x d)) e ∙ ap length (get_or-append_seam g.rows row [] d) ∙ long
+  row_full long s d (inr e) = ap length (get_or_append_left g.rows (row ∷ []) d s e) ∙ stored.full s d e
+
+  pub stored_then : length row ≡ length (columns_of g) → IsGrid pushed.marks pushed.places (length (columns_of g)) pushed.rows
+  stored_then long = record {
+    placed = length_push g.places (length g.rows) ∙ omega (arith, stored.placed, marks_long);
+    wide = sym (ap length columns_stay);
+    columns = record {
+      within = λ k e b.
+          let marked : f k ≡ true = sym (mark_stays k) ∙ b in
+          let inside : k < n = marked_within g.marks k marked in
+          omega (arith, place_stays k inside, stored.columns.within k inside marked);
+      apart = λ k m e h a b same.
+          let marked : f k ≡ true = sym (mark_stays k) ∙ a in
+          let also : f m ≡ true = sym (mark_stays m) ∙ b in
+          let inside : k < n = marked_within g.marks k marked in
+          let within : m < n = marked_within g.marks m also in
+          stored.columns.apart k m inside within marked also (sym (place_stays k inside) ∙ same ∙ place_stays m within);
+    };
+    basics = record {
+      within = λ k e b. row_within k b (place_of k e);
+      apart = λ k m e h a b same. row_apart k m a b same (place_of k e) (place_of m h);
+    };
+    full = λ s d e. row_full long s d (same_or_below s (length g.rows) (omega (arith, e, rows_more)));
+  }

@@ -30,8 +30,8 @@ module _ (old mid : Grid) (units : ℕ) (w : IsWidened old mid units) where
       ∙ numbers_none (basic (is_nonbasic mid)) n units (λ k e h. ap not (w.behind k e h))
       ∙ numbers_below (basic (is_nonbasic mid)) (basic (is_nonbasic old)) n (λ k e. ap not (w.before k e))
 
-  module _ (columns solved spare : ℕ) (room : HasRoomForSum old units columns solved spare) where
-    pub room_for_units : HasRoom mid columns solved spare
+  module _ (columns written solved spare : ℕ) (room : HasRoomForSum old units columns written solved spare) where
+    pub room_for_units : HasRoom mid columns written solved spare
     room_for_units =
         let fits : length (numbers n (basic (is_nonbasic old))) * wide ≤ (length (numbers n (basic (is_nonbasic old))) + 1) * wide =
         mul-le (length (numbers n (basic (is_nonbasic old)))) wide (length (numbers n (basic (is_nonbasic old))) + 1) wide (omega arith) (omega arith) in
@@ -40,6 +40,7 @@ module _ (old mid : Grid) (units : ℕ) (w : IsWidened old mid units) where
         ∙ ap (λ (m : ℕ). length (numbers n (basic (is_nonbasic old))) * m) wide_columns in
         record {
           for_columns = omega (arith, w.count, room.for_columns);
+          for_written = omega (arith, w.count, room.for_written);
           for_solved = omega (arith, w.count, room.for_solved);
           for_block = omega (arith, size, fits, room.for_block);
         }
@@ -66,13 +67,14 @@ module _ (old mid : Grid) (units : ℕ) (w : IsWidened old mid units) where
           ∙ length_push (numbers (length mid.marks) (basic (is_nonbasic mid))) (length mid.marks)
           ∙ ap (λ (l : List ℕ). length l + 1) same_basics
 
-      pub room_for_sum : HasRoom new columns solved spare
+      pub room_for_sum : HasRoom new columns written solved spare
       room_for_sum =
           let size : length (numbers (length new.marks) (basic (is_nonbasic new))) * length (numbers (length new.marks) (is_nonbasic new)) ≡ (length (numbers n (basic (is_nonbasic old))) + 1) * wide =
           ap (λ (m : ℕ). m * length (numbers (length new.marks) (is_nonbasic new))) summed_basics
           ∙ ap (λ (m : ℕ). (length (numbers n (basic (is_nonbasic old))) + 1) * m) summed_columns in
           record {
             for_columns = omega (arith, w.count, s.count, room.for_columns);
+            for_written = omega (arith, w.count, s.count, room.for_written);
             for_solved = omega (arith, w.count, s.count, room.for_solved);
             for_block = omega (arith, size, room.for_block);
           }

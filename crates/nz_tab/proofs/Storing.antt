@@ -38,38 +38,39 @@ same_number_behind fs f u e = by_number (unit_number fs u) refl
     by_number (Some k) h = number_stays fs (f ∷ []) u k h ∙ sym h
     by_number None h = number_behind fs f u h ∙ ap (λ (b : Bool). if b then Some (length fs) else None) (no_unit f u e) ∙ sym h
 
-module _ (forms : List (List Part)) (old : Grid) (unit_at : ℕ → Option ℕ) (columns solved spare : ℕ) (s : IsStored forms old unit_at columns solved spare) (unit_then : ℕ → Option ℕ) (c d e : ℕ) where
+module _ (forms : List (List Part)) (old : Grid) (unit_at : ℕ → Option ℕ) (columns written solved spare : ℕ) (s : IsStored forms old unit_at columns written solved spare) (unit_then : ℕ → Option ℕ) (c x d e : ℕ) where
   -- more room
-  pub stored_still : ((u : ℕ) → unit_then u ≡ unit_at u) → columns ≤ c → solved ≤ d → spare ≤ e → IsStored forms old unit_then c d e
-  stored_still same more_columns more_solved more_spare = record {
+  pub stored_still : ((u : ℕ) → unit_then u ≡ unit_at u) → columns ≤ c → written ≤ x → solved ≤ d → spare ≤ e → IsStored forms old unit_then c x d e
+  stored_still same more_columns more_written more_solved more_spare = record {
     count = s.count;
     tableau = s.tableau;
     units = λ u. same u ∙ s.units u;
     room = record {
       for_columns = omega (arith, s.room.for_columns, more_columns);
+      for_written = omega (arith, s.room.for_written, more_written);
       for_solved = omega (arith, s.room.for_solved, more_solved);
       for_block = omega (arith, s.room.for_block, more_spare);
     };
   }
 
   module _ (law : JoinsKeepBasis) (numbers : TermHasItsNumber) (mid : Grid) where
-    pub stored_unit : (p : Part) → unit_number forms p.unit ≡ None → IsWidened old mid 1 → HasRoomForSum old 1 c d e
-        → AreNumbers unit_then (forms ++ unit_of p ∷ []) → IsStored (forms ++ unit_of p ∷ []) mid unit_then c d e
+    pub stored_unit : (p : Part) → unit_number forms p.unit ≡ None → IsWidened old mid 1 → HasRoomForSum old 1 c x d e
+        → AreNumbers unit_then (forms ++ unit_of p ∷ []) → IsStored (forms ++ unit_of p ∷ []) mid unit_then c x d e
     stored_unit p none w room units = record {
       count = w.count ∙ ap (λ (n : ℕ). n + 1) s.count ∙ sym (length_push forms (unit_of p));
       tableau = unit_tableau law numbers forms old mid p s.count none w s.tableau;
       units = units;
-      room = room_for_units old mid 1 w c d e room;
+      room = room_for_units old mid 1 w c x d e room;
     }
 
-    pub stored_sum : (f : List Part) → is_unit_form f ≡ false → IsWidened old mid (length (new_units forms f)) → HasRoomForSum old (length (new_units forms f)) c d e
+    pub stored_sum : (f : List Part) → is_unit_form f ≡ false → IsWidened old mid (length (new_units forms f)) → HasRoomForSum old (length (new_units forms f)) c x d e
         → (new : Grid) → IsSummed mid new (addends forms (length forms) f) → AreNumbers unit_then (with_units forms f)
-        → IsStored (with_units forms f ++ f ∷ []) new unit_then c d e
+        → IsStored (with_units forms f ++ f ∷ []) new unit_then c x d e
     stored_sum f none w room new joined units = record {
       count = joined.count ∙ ap (λ (n : ℕ). n + 1) (units_count forms f old mid s.count w) ∙ sym (length_push (with_units forms f) f);
       tableau = sum_tableau law numbers forms f old mid new s.count w joined s.tableau;
       units = λ u. units u ∙ sym (same_number_behind (with_units forms f) f u none);
-      room = room_for_sum old mid (length (new_units forms f)) w c d e room new (addends forms (length forms) f) joined;
+      room = room_for_sum old mid (length (new_units forms f)) w c x d e room new (addends forms (length forms) f) joined;
     }
 
 -- ---- Units that are stored

@@ -79,16 +79,16 @@ module _ (law : ExchangeKeepsBasis) (forms : List (List Part)) (old new : Grid) 
   exchanged_tableau is ns table units = has_rows ns (is ns table units)
 
 -- an exchange leaves what is stored in order, also where it stops
-pub stored_after : {X : Type 0} → ExchangeKeepsBasis → (forms : List (List Part)) (old new : Grid) (unit_at : ℕ → Option ℕ) (columns solved spare c d e i j : ℕ) → IsStored forms old unit_at columns solved spare
+pub stored_after : {X : Type 0} → ExchangeKeepsBasis → (forms : List (List Part)) (old new : Grid) (unit_at : ℕ → Option ℕ) (columns written solved spare c x d e i j : ℕ) → IsStored forms old unit_at columns written solved spare
     → i < length old.marks → is_nonbasic old i ≡ false → is_nonbasic old j ≡ true → is_zero (rows_of old i j) ≡ false
-    → (r : Result X Wide) → OnOk r (IsExchanged old new i j) → OnErr r (new ≡ old) → HasRoom new c d e → IsStored forms new unit_at c d e
-stored_after law forms old new unit_at columns solved spare c d e i j s inside leaves enters nonzero (Ok x) done same room = record {
+    → (r : Result X Wide) → OnOk r (IsExchanged old new i j) → OnErr r (new ≡ old) → HasRoom new c x d e → IsStored forms new unit_at c x d e
+stored_after law forms old new unit_at columns written solved spare c x d e i j s inside leaves enters nonzero (Ok y) done same room = record {
   count = done.count ∙ s.count;
   tableau = exchanged_tableau law forms old new i j s.count inside leaves enters nonzero done s.tableau;
   units = s.units;
   room = room;
 }
-stored_after law forms old new unit_at columns solved spare c d e i j s inside leaves enters nonzero (Err w) done same room = record {
+stored_after law forms old new unit_at columns written solved spare c x d e i j s inside leaves enters nonzero (Err w) done same room = record {
   count = ap (λ (g : Grid). length g.marks) same ∙ s.count;
   tableau = subst (λ (g : Grid). IsTableau (record { forms = forms; grid = g })) (sym same) s.tableau;
   units = s.units;

@@ -1,12 +1,12 @@
 //! What an exchange makes of rows, coefficient by coefficient by rising numbers of the nonbasic forms.
-ghost use Rattle.std.specs.Prelude.{◌≡◌, ◌<◌, ◌≤◌, ◌+◌, ◌++◌, ◌≢◌, All, OnOk, pos, false, length, map, vec_len, vec_capacity};
+ghost use Rattle.std.specs.Prelude.{◌≡◌, ◌<◌, ◌≤◌, ◌+◌, ◌≢◌, OnOk, pos, false, length, map, vec_len, vec_capacity};
 ghost use Rattle.nz_spec.specs.Basis.{Coefficients};
 ghost use Rattle.nz_spec.specs.Computation.{and_then, operated};
 ghost use Rattle.nz_fractions.specs.Fraction.{Product, Quotient, Sum, whole};
 ghost use Rattle.nz_spec.specs.Term.{is_zero};
 ghost use Rattle.nz_tab.specs.Comes.{Comes, IsOperated};
 ghost use Rattle.nz_tab.specs.Each.{behind};
-ghost use Rattle.nz_tab.specs.Exchanges.{replaced_row, solved_part, solved_parts, solved_row, sum_row};
+ghost use Rattle.nz_tab.specs.Exchanges.{solved_part, solved_parts, solved_row, sum_row};
 ghost use Rattle.nz_tab.specs.Rows.{coefficient};
 
 use crate::row::{Row, Var};
@@ -81,43 +81,8 @@ fn solved_part(
     Ok(row.at(column).div(divisor)?.neg())
 }
 
-/// Puts a row behind others, with what the form that enters was solved to in place of it.
-pub(crate) fn put_replaced(
-    rows: &mut Vec<Frac>,
-    row: &Row<'_>,
-    columns: &[Var],
-    solved: &[Frac],
-    enters: Var,
-) -> Result<(), Wide>
-    requires width { length solved.now ≡ length columns.now }
-    requires without { All (λ k. k ≢ enters) columns.now }
-    requires room { vec_len rows.old + length columns.now ≤ vec_capacity rows.old }
-    ensures put { (q : Coefficients) → solved.now ≡ map q columns.now → Comes (behind rows.old.items (replaced_row columns.now enters q (coefficient row.now))) rows.new.items result }
-    ensures long { OnOk result (vec_len rows.new ≡ vec_len rows.old + length columns.now) }
-    ensures capacity { vec_capacity rows.new ≡ vec_capacity rows.old }
-{
-    let factor = row.at(enters);
-    if factor.is_zero() {
-        put_row(rows, row, columns);
-        return Ok(());
-    }
-    put_sum(rows, row, columns, factor, solved)
-}
-
-/// Puts a row behind others as it is.
-pub(crate) fn put_row(rows: &mut Vec<Frac>, row: &Row<'_>, columns: &[Var])
-    requires room { vec_len rows.old + length columns.now ≤ vec_capacity rows.old }
-    ensures put { rows.new.items ≡ rows.old.items ++ map (coefficient row.now) columns.now }
-    ensures long { vec_len rows.new ≡ vec_len rows.old + length columns.now }
-    ensures capacity { vec_capacity rows.new ≡ vec_capacity rows.old }
-{
-    for column in columns {
-        rows.push_reserved(row.at(*column));
-    }
-}
-
 /// Puts the sum of a row and a multiple of another one behind others.
-fn put_sum(
+pub(crate) fn put_sum(
     rows: &mut Vec<Frac>,
     row: &Row<'_>,
     columns: &[Var],

@@ -1,7 +1,7 @@
 //! The row of a basic form.
-ghost use Rattle.std.specs.Prelude.{◌≡◌, pos, slice_index_or};
+ghost use Rattle.std.specs.Prelude.{◌≡◌, length, pos, slice_index_or};
 ghost use Rattle.nz_fractions.specs.Fraction.{whole};
-ghost use Rattle.nz_tab.specs.Rows.{ArePlaces, coefficient, is_marked};
+ghost use Rattle.nz_tab.specs.Rows.{coefficient, is_marked};
 
 use nz_frac::Frac;
 use std::marker::Model;
@@ -10,23 +10,24 @@ use std::marker::Model;
 pub type Var = usize;
 
 /// The row of a basic form: the coefficients with which it is the sum of nonbasic ones. A contract sees which forms are
-/// nonbasic, and the coefficients at these by rising numbers.
+/// nonbasic, and the coefficient in the column of each of these.
 #[derive(Debug, Drop)]
 pub struct Row<'a> {
-    // For each form whether it is nonbasic, and where its coefficient stands then.
+    // For each form whether it is nonbasic, and the column of its coefficient then.
     nonbasic: &'a [bool],
     places: &'a [usize],
     coefficients: &'a [Frac],
 }
 
 impl<'a> Model for Row<'a> {
-    ghost use Rattle.nz_tab.specs.Rows.{ArePlaces, DenseRow};
+    ghost use Rattle.std.specs.Prelude.{◌≡◌, length};
+    ghost use Rattle.nz_tab.specs.Rows.{DenseRow};
 
     ghost Value = { DenseRow };
 
-    ghost view = { λ r. record { marks = r.nonbasic.now; coefficients = r.coefficients.now } };
+    ghost view = { λ r. record { marks = r.nonbasic.now; places = r.places.now; coefficients = r.coefficients.now } };
 
-    ghost invariant = { λ r. ArePlaces r.nonbasic.now r.places.now };
+    ghost invariant = { λ r. length r.places.now ≡ length r.nonbasic.now };
 }
 
 impl<'a> Row<'a> {
@@ -36,8 +37,8 @@ impl<'a> Row<'a> {
         places: &'a [usize],
         coefficients: &'a [Frac],
     ) -> Row<'a>
-        requires places { ArePlaces nonbasic.now places.now }
-        ensures row { result ≡ record { marks = nonbasic.now; coefficients = coefficients.now } }
+        requires places { length places.now ≡ length nonbasic.now }
+        ensures row { result ≡ record { marks = nonbasic.now; places = places.now; coefficients = coefficients.now } }
     {
         Row {
             nonbasic,

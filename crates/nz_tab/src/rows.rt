@@ -1,46 +1,48 @@
-//! The rows of all basic forms, in one block.
-ghost use Rattle.std.specs.Prelude.{◌≡◌, ◌<◌, ◌≤◌, ◌+◌, ◌-◌, ◌*◌, ◌^◌, ◌++◌, if◌then◌else◌, ◌≢◌, not, All, OnOk, OnErr, ℕ, false, pos, true, length, map, set, vec_len, vec_capacity};
+//! The rows of all basic forms. Each form has a slot: a nonbasic one a column, a basic one a row.
+ghost use Rattle.std.specs.Prelude.{◌≡◌, ◌<◌, ◌≤◌, ◌+◌, ◌*◌, ◌++◌, ◌≢◌, All, OnOk, OnErr, ℕ, false, pos, true, length, map, vec_len, vec_capacity};
 ghost use Rattle.nz_spec.specs.Basis.{Coefficients};
 ghost use Rattle.nz_spec.specs.BasisMoves.{exchange, exchanged, numbers};
 ghost use Rattle.nz_fractions.specs.Fraction.{whole};
 ghost use Rattle.nz_spec.specs.Term.{is_zero};
 ghost use Rattle.nz_tab.specs.Comes.{Comes, Stops};
-ghost use Rattle.nz_tab.specs.Each.{behind, each};
-ghost use Rattle.nz_tab.specs.Exchanges.{IsExchanged, row_after};
-ghost use Rattle.nz_tab.specs.Rows.{HasRoom, counted, empty_grid, is_marked, is_nonbasic, place_of, row_in, row_of, rows_of, size_of};
+ghost use Rattle.nz_tab.specs.Exchanges.{IsExchanged, IsReplaced, IsRewritten, changed_rows, changes, places_exchanged, written_forms};
+ghost use Rattle.nz_tab.specs.Rows.{AreSlotted, HasRoom, coefficients_at, empty_grid, is_nonbasic, row_in, row_of, rows_of};
 
-use crate::exchange::{put_replaced, solve};
+use crate::exchange::{put_sum, solve};
 use crate::row::{Row, Var, is_marked};
 use nz_frac::{Frac, Wide};
 use std::alloc::Global;
 use std::marker::Model;
-use std::mem;
 
-/// Which forms are nonbasic, and the rows of the others. A contract sees which forms are nonbasic, and the block.
+/// Which forms are nonbasic, and the rows of the others. A contract sees which forms are nonbasic, the slots, and the rows by
+/// their slots.
 #[derive(Debug, Drop)]
 pub(crate) struct Rows {
-    // For each form whether it is nonbasic, and how many forms of its kind stand before it.
+    // For each form whether it is nonbasic, and its slot: a column where it is, else a row. A form that joins gets the next one.
     pub(crate) nonbasic: Vec<bool>,
     pub(crate) places: Vec<usize>,
-    // How many forms are nonbasic, and a row of this width for each of the others.
+    // How many columns there are, and the rows, each with a coefficient for each column.
     pub(crate) width: usize,
-    pub(crate) block: Vec<Frac>,
+    pub(crate) rows: Vec<Vec<Frac>>,
 }
 
 impl Model for Rows {
+    ghost use Rattle.std.specs.Prelude.{map};
     ghost use Rattle.nz_tab.specs.Rows.{Grid, IsGrid};
 
     ghost Value = { Grid };
 
-    ghost view = { λ g. record { marks = g.nonbasic.items; block = g.block.items } };
+    ghost view = { λ g. record { marks = g.nonbasic.items; places = g.places.items; rows = map (λ x. x.items) g.rows.items } };
 
-    ghost invariant = { λ g. IsGrid g.nonbasic.items g.places.items g.width g.block.items };
+    ghost invariant = { λ g. IsGrid g.nonbasic.items g.places.items g.width (map (λ x. x.items) g.rows.items) };
 }
 
-/// Room for an exchange: the numbers of the forms that are nonbasic after it, the row of the form that enters, and the block.
+/// Room for an exchange: the numbers of the forms that are nonbasic after it, those of the forms whose rows it writes, the row of
+/// the form that enters, and the rows that are written.
 #[derive(Debug, Drop)]
 pub(crate) struct Room {
     pub columns: Vec<Var>,
+    pub written: Vec<Var>,
     pub solved: Vec<Frac>,
     pub spare: Vec<Frac>,
 }
@@ -50,6 +52,7 @@ impl Room {
     pub(crate) fn new(alloc: Global) -> Room {
         Room {
             columns: Vec::new(alloc),
+            written: Vec::new(alloc),
             solved: Vec::new(alloc),
             spare: Vec::new(alloc),
         }
@@ -65,7 +68,7 @@ impl Rows {
             nonbasic: Vec::new(alloc),
             places: Vec::new(alloc),
             width: 0,
-            block: Vec::new(alloc),
+            rows: Vec::new(alloc),
         }
     }
 
@@ -93,7 +96,7 @@ impl Rows {
         Row::over(
             self.nonbasic.as_slice(),
             places,
-            row_at(self.block.as_slice(), self.width, places[var]),
+            self.rows[places[var]].as_slice(),
         )
     }
 
@@ -103,23 +106,35 @@ impl Rows {
         requires basic { is_nonbasic self.old leaves ≡ false }
         requires nonbasic { is_nonbasic self.old enters ≡ true }
         requires nonzero { is_zero (rows_of self.old leaves enters) ≡ false }
-        requires room { HasRoom self.old (vec_capacity room.old.columns) (vec_capacity room.old.solved) (vec_capacity room.old.spare) }
+        requires room { HasRoom self.old (vec_capacity room.old.columns) (vec_capacity room.old.written) (vec_capacity room.old.solved) (vec_capacity room.old.spare) }
         ensures exchanged { OnOk result (IsExchanged self.old self.new leaves enters) }
         ensures stops { Stops (exchange (length self.old.marks) (is_nonbasic self.old) (rows_of self.old) leaves enters) result }
         ensures unchanged { OnErr result (self.new ≡ self.old) }
-        ensures room { HasRoom self.new (vec_capacity room.new.columns) (vec_capacity room.new.solved) (vec_capacity room.new.spare) }
+        ensures room { HasRoom self.new (vec_capacity room.new.columns) (vec_capacity room.new.written) (vec_capacity room.new.solved) (vec_capacity room.new.spare) }
     {
+        // Known to be in order, so that two slots can be exchanged.
+        let _ = &self.nonbasic;
         self.list_columns(&mut room.columns, leaves, enters);
         let columns = room.columns.as_slice();
         solve(&mut room.solved, &self.row(leaves), columns, leaves, enters)?;
-        self.put_exchanged(
+        let solved = room.solved.as_slice();
+        self.list_changed(&mut room.written, leaves, enters);
+        self.put_changed(
             &mut room.spare,
+            room.written.as_slice(),
             columns,
-            room.solved.as_slice(),
-            leaves,
+            solved,
             enters,
         )?;
-        self.replace(&mut room.spare, leaves, enters);
+        room.written.push_reserved(enters);
+        put_all(&mut room.spare, solved);
+        self.replace(
+            columns,
+            room.written.as_slice(),
+            room.spare.as_slice(),
+            leaves,
+            enters,
+        );
         Ok(())
     }
 
@@ -150,70 +165,139 @@ impl Rows {
         }
     }
 
-    /// The rows after an exchange.
-    fn put_exchanged(
+    /// The numbers of the forms whose rows change in an exchange.
+    fn list_changed(&self, changed: &mut Vec<Var>, leaves: Var, enters: Var)
+        requires room { length self.now.marks ≤ vec_capacity changed.old }
+        ensures listed { changed.new.items ≡ numbers (length self.now.marks) (changes (is_nonbasic self.now) (rows_of self.now) leaves enters) }
+        ensures none { (r : ℕ) → r < length self.now.marks → is_nonbasic self.now r ≡ false → r ≢ leaves → changes (is_nonbasic self.now) (rows_of self.now) leaves enters r ≡ false → rows_of self.now r enters ≡ whole (pos 0) }
+        ensures capacity { vec_capacity changed.new ≡ vec_capacity changed.old }
+    {
+        changed.clear();
+        for var in 0..self.count() {
+            if self.changes(leaves, enters, var) {
+                changed.push_reserved(var);
+            }
+        }
+    }
+
+    /// Whether the row of a form changes in an exchange.
+    fn changes(&self, leaves: Var, enters: Var, var: Var) -> bool
+        requires listed { var < length self.now.marks }
+        ensures changes { result ≡ changes (is_nonbasic self.now) (rows_of self.now) leaves enters var }
+        ensures none { result ≡ false → is_nonbasic self.now var ≡ false → var ≢ leaves → rows_of self.now var enters ≡ whole (pos 0) }
+    {
+        if self.is_nonbasic(var) || var == leaves {
+            return false;
+        }
+        !is_none(self.row(var).at(enters))
+    }
+
+    /// What rows change into in an exchange, one behind another.
+    fn put_changed(
         &self,
-        rows: &mut Vec<Frac>,
+        block: &mut Vec<Frac>,
+        changed: &[Var],
         columns: &[Var],
         solved: &[Frac],
-        leaves: Var,
         enters: Var,
     ) -> Result<(), Wide>
+        requires listed { All (λ r. r < length self.now.marks) changed.now }
+        requires basic { All (λ r. is_nonbasic self.now r ≡ false) changed.now }
         requires width { length solved.now ≡ length columns.now }
-        requires without { All (λ k. k ≢ enters) columns.now }
-        requires room { length (numbers (length self.now.marks) (λ r. not (exchanged (is_nonbasic self.now) leaves enters r))) * length columns.now ≤ vec_capacity rows.old }
-        requires leaves { is_nonbasic self.now leaves ≡ false }
-        ensures put { (q : Coefficients) → solved.now ≡ map q columns.now → Comes (each (row_after (is_nonbasic self.now) (rows_of self.now) columns.now leaves enters q) (counted (length self.now.marks))) rows.new.items result }
-        ensures capacity { vec_capacity rows.new ≡ vec_capacity rows.old }
+        requires room { length changed.now * length columns.now ≤ vec_capacity block.old }
+        ensures put { (q : Coefficients) → solved.now ≡ map q columns.now → Comes (changed_rows (rows_of self.now) changed.now columns.now enters q) block.new.items result }
+        ensures long { OnOk result (vec_len block.new ≡ length changed.now * length columns.now) }
+        ensures capacity { vec_capacity block.new ≡ vec_capacity block.old }
     {
-        rows.clear();
-        for var in 0..self.count() {
-            self.put_after(rows, columns, solved, leaves, enters, var)?;
+        block.clear();
+        for var in changed {
+            let row = self.row(*var);
+            put_sum(block, &row, columns, row.at(enters), solved)?;
         }
         Ok(())
     }
 
-    /// Puts what an exchange makes of a form behind the rows of others.
-    fn put_after(
-        &self,
-        rows: &mut Vec<Frac>,
+    /// Two forms exchange their slots, and the rows of some forms are written.
+    fn replace(
+        &mut self,
         columns: &[Var],
-        solved: &[Frac],
+        written: &[Var],
+        block: &[Frac],
         leaves: Var,
         enters: Var,
-        var: Var,
-    ) -> Result<(), Wide>
-        requires listed { var < length self.now.marks }
-        requires width { length solved.now ≡ length columns.now }
-        requires without { All (λ k. k ≢ enters) columns.now }
-        requires room { exchanged (is_nonbasic self.now) leaves enters var ≡ false → vec_len rows.old + length columns.now ≤ vec_capacity rows.old }
-        ensures put { (q : Coefficients) → solved.now ≡ map q columns.now → Comes (behind rows.old.items (row_after (is_nonbasic self.now) (rows_of self.now) columns.now leaves enters q var)) rows.new.items result }
-        ensures long { OnOk result (vec_len rows.new ≡ vec_len rows.old + (if exchanged (is_nonbasic self.now) leaves enters var then 0 else length columns.now)) }
-        ensures capacity { vec_capacity rows.new ≡ vec_capacity rows.old }
-    {
-        if self.is_nonbasic_after(leaves, enters, var) {
-            return Ok(());
-        }
-        if var == enters {
-            put_all(rows, solved);
-            return Ok(());
-        }
-        put_replaced(rows, &self.row(var), columns, solved, enters)
-    }
-
-    /// Takes the block of an exchange, and leaves the one before it.
-    fn replace(&mut self, block: &mut Vec<Frac>, leaves: Var, enters: Var)
+    )
         requires listed { leaves < length self.old.marks }
         requires basic { is_nonbasic self.old leaves ≡ false }
         requires nonbasic { is_nonbasic self.old enters ≡ true }
-        requires block { length block.old.items ≡ size_of (length self.old.marks) (is_nonbasic self.old) }
-        ensures replaced { self.new ≡ record { marks = set (set self.old.marks leaves true) enters false; block = block.old.items } }
-        ensures room { size_of (length self.old.marks) (is_nonbasic self.old) ≤ vec_capacity block.new }
+        requires columns { columns.now ≡ numbers (length self.old.marks) (exchanged (is_nonbasic self.old) leaves enters) }
+        requires written { written.now ≡ written_forms self.old leaves enters }
+        requires block { length block.now ≡ length written.now * length columns.now }
+        ensures replaced { IsReplaced self.old self.new leaves enters columns.now written.now block.now }
     {
-        mem::swap(&mut self.block, block);
         self.nonbasic[leaves] = true;
         self.nonbasic[enters] = false;
-        number_places(&mut self.places, self.nonbasic.as_slice());
+        exchange_places(&mut self.places, leaves, enters);
+        write_rows(
+            &mut self.rows,
+            self.places.as_slice(),
+            columns,
+            written,
+            block,
+        );
+    }
+}
+
+/// Whether a number is 0.
+fn is_none(number: Frac) -> bool
+    ensures zero { result ≡ is_zero number }
+    ensures none { result ≡ true → number ≡ whole (pos 0) }
+{
+    let none = Frac::whole(0);
+    // The numerators are read, so that both are known to be in lowest terms.
+    let _ = (number.num(), none.num());
+    number.is_zero()
+}
+
+/// Exchanges the places of two forms.
+fn exchange_places(places: &mut Vec<usize>, leaves: Var, enters: Var)
+    requires leaves { leaves < vec_len places.old }
+    requires enters { enters < vec_len places.old }
+    ensures exchanged { places.new.items ≡ places_exchanged places.old.items leaves enters }
+{
+    let row = places[leaves];
+    places[leaves] = places[enters];
+    places[enters] = row;
+}
+
+/// Writes coefficients, those of one row behind those of another, into the rows of some forms, each at its column.
+fn write_rows(
+    rows: &mut Vec<Vec<Frac>>,
+    places: &[usize],
+    columns: &[Var],
+    written: &[Var],
+    block: &[Frac],
+)
+    requires columns { AreSlotted places.now columns.now (length columns.now) }
+    requires rows { AreSlotted places.now written.now (vec_len rows.old) }
+    requires full { All (λ row. length row ≡ length columns.now) (map (λ x. x.items) rows.old.items) }
+    requires block { length block.now ≡ length written.now * length columns.now }
+    ensures rows { IsRewritten places.now columns.now written.now block.now (length written.now) (map (λ x. x.items) rows.old.items) (map (λ x. x.items) rows.new.items) }
+{
+    for index in 0..written.len() {
+        let row = row_at(block, columns.len(), index);
+        write_row(&mut rows[places[written[index]]], places, columns, row);
+    }
+}
+
+/// Writes coefficients into a row, each at its column.
+fn write_row(row: &mut Vec<Frac>, places: &[usize], columns: &[Var], coefficients: &[Frac])
+    requires columns { AreSlotted places.now columns.now (vec_len row.old) }
+    requires width { length coefficients.now ≡ length columns.now }
+    ensures written { coefficients_at places.now columns.now row.new.items ≡ coefficients.now }
+    ensures width { vec_len row.new ≡ vec_len row.old }
+{
+    for index in 0..columns.len() {
+        row[places[columns[index]]] = coefficients[index];
     }
 }
 
@@ -227,7 +311,7 @@ fn row_at(block: &[Frac], width: usize, place: usize) -> &[Frac]
 }
 
 /// Puts coefficients behind others.
-pub(crate) fn put_all(rows: &mut Vec<Frac>, row: &[Frac])
+fn put_all(rows: &mut Vec<Frac>, row: &[Frac])
     requires room { vec_len rows.old + length row.now ≤ vec_capacity rows.old }
     ensures put { rows.new.items ≡ rows.old.items ++ row.now }
     ensures long { vec_len rows.new ≡ vec_len rows.old + length row.now }
@@ -236,34 +320,4 @@ pub(crate) fn put_all(rows: &mut Vec<Frac>, row: &[Frac])
     for coefficient in row {
         rows.push_reserved(*coefficient);
     }
-}
-
-/// How many forms of its kind stand before each form.
-pub(crate) fn number_places(places: &mut Vec<usize>, nonbasic: &[bool])
-    requires room { length nonbasic.now ≤ vec_capacity places.old }
-    ensures places { places.new.items ≡ map (place_of (is_marked nonbasic.now)) (counted (length nonbasic.now)) }
-    ensures capacity { vec_capacity places.new ≡ vec_capacity places.old }
-{
-    places.clear();
-    let mut columns = 0;
-    for mark in nonbasic {
-        places.push_reserved(place_after(*mark, columns, places.len()));
-        columns = count_after(*mark, columns);
-    }
-}
-
-/// The place of a form, where so many forms before it are nonbasic.
-fn place_after(nonbasic: bool, columns: usize, var: Var) -> usize
-    requires within { columns ≤ var }
-    ensures place { result ≡ (if nonbasic then columns else var - columns) }
-{
-    if nonbasic { columns } else { var - columns }
-}
-
-/// How many forms are nonbasic with one form more.
-fn count_after(nonbasic: bool, columns: usize) -> usize
-    requires fits { columns + 1 < 2 ^ 64 }
-    ensures count { result ≡ (if nonbasic then columns + 1 else columns) }
-{
-    if nonbasic { columns + 1 } else { columns }
 }

@@ -94,7 +94,7 @@ impl Model for Tab {
 
     ghost view = { λ t. record { forms = map (λ v. v.items) t.forms.items; grid = t.rows } };
 
-    ghost invariant = { λ t. IsStored (map (λ v. v.items) t.forms.items) t.rows (get nat_eq t.units) (vec_capacity t.room.columns) (vec_capacity t.room.solved) (vec_capacity t.room.spare) };
+    ghost invariant = { λ t. IsStored (map (λ v. v.items) t.forms.items) t.rows (get nat_eq t.units) (vec_capacity t.room.columns) (vec_capacity t.room.written) (vec_capacity t.room.solved) (vec_capacity t.room.spare) };
 }
 
 impl Tab {
@@ -145,7 +145,7 @@ impl Tab {
 
     /// Exchanges a basic form with a nonbasic one at which it has a coefficient other than 0. Takes no memory.
     ///
-    /// It touches each coefficient once; a row that has none at `j` is copied.
+    /// It touches each coefficient of a row once; a row that has none at `j` stays as it is.
     ///
     /// # Errors
     ///
@@ -166,7 +166,7 @@ impl Tab {
     /// Adds a form, without the number that is added in it, and answers its number. Its units that aren't here join first, as
     /// nonbasic forms, and then the form itself as a basic one. A unit alone is its own form.
     ///
-    /// It costs a copy of all rows where a unit is new.
+    /// A unit that is new costs a coefficient more in each row; no row is copied.
     ///
     /// # Errors
     ///
@@ -201,8 +201,7 @@ impl Tab {
         self.room.reserve(&self.rows, 1)?;
         self.forms.reserve(1)?;
         self.units.reserve(1)?;
-        let rows = self.rows.widened(alloc, 1)?;
-        self.rows = rows;
+        self.rows.widen(1)?;
         let var = self.forms.len();
         number_unit(&mut self.units, var, unit.as_slice());
         self.forms.push_reserved(unit);
@@ -226,7 +225,7 @@ impl Tab {
         self.forms.reserve(units.len() + 1)?;
         self.units.reserve(units.len())?;
         self.rows
-            .join(&mut self.room, alloc, units.len(), addends.as_slice())?;
+            .join(&mut self.room, units.len(), addends.as_slice())?;
         number_units(&mut self.units, self.forms.len(), units.as_slice());
         put_forms(&mut self.forms, units);
         let var = self.forms.len();

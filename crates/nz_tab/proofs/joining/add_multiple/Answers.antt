@@ -1,6 +1,7 @@
 -- One column more.
-use Rattle.std.proofs.Common.{◌≡◌, map, get_or, Some, Err, refl, rules, sym, subst}
-use Rattle.nz_fractions.specs.Fraction.{Fraction, first_wide}
+use Rattle.std.proofs.Common.{◌≡◌, ◌<◌, length, map, get_or, Some, Err, pos, refl, rules, sym, subst, ◌∙◌, arith}
+use Rattle.std.proofs.lemmas.List.{get_or_default}
+use Rattle.nz_fractions.specs.Fraction.{Fraction, first_wide, whole}
 use Rattle.nz_spec.specs.Basis.{Coefficients}
 use Rattle.nz_spec.specs.BasisMoves.{plus_multiple}
 use Rattle.nz_spec.specs.Computation.{Computation, turned_into}
@@ -8,47 +9,73 @@ use Rattle.nz_frac.specs.Operations.{operation_of}
 use Rattle.nz_frac.specs.declared.frac.Wide.{Wide}
 use Rattle.nz_tab.specs.Comes.{Comes, IsDone}
 use Rattle.nz_tab.specs.Each.{with_multiple}
-use Rattle.nz_tab.specs.Rows.{coefficient}
+use Rattle.nz_tab.specs.Rows.{AreSlotted, coefficient, coefficients_at, slot_at}
 use Rattle.nz_tab.proofs.Firsts.{no_operation}
 use Rattle.nz_tab.proofs.Adding.{halfway_end, halfway_more, halfway_read, sum_read, sums_more, sums_stop}
+use Rattle.nz_tab.proofs.Slots.{read_slot, set_slot}
 use Rattle.nz_tab.proofs.joining.add_multiple.Goals as goal
+use Rattle.nz_tab.proofs.joining.add_multiple.Goals.{After-at}
 
-pub loop-place-init : goal.loop-place-init
-loop-place-init c = record { items = λ d e. e; fits = λ d e. no_operation; width = c.requires.width; capacity = refl }
+-- the columns have slots of their own in the row as it is
+slots : (c : After-at) → AreSlotted c.args.places.now c.args.columns.now (length c.loop-index.row.items)
+slots c = subst (AreSlotted c.args.places.now c.args.columns.now) (omega (arith, c.loop-index.invariant.width, c.loop-index.row.ok.0)) c.requires.columns
+
+-- what is read there is the coefficient as it was
+there : (c : After-at) (d : Coefficients) → coefficients_at c.args.places.now c.args.columns.now c.args.row.now.items ≡ map d c.args.columns.now → c.index.result.now ≡ d (get_or c.args.columns.now c.loop-index.index 0)
+there c d e =
+    let places = c.args.places.now in
+    let ks = c.args.columns.now in
+    let i = c.loop-index.index in
+    let row = c.loop-index.row.items in
+    let inside : i < length ks = omega (arith, c.loop-index-test.true) in
+    let x = c.index.result.now in
+    halfway_read ks d (coefficient c.args.other.now) c.args.factor i inside (coefficients_at places ks row) (c.loop-index.invariant.items d e) x
+    (c.index.ensures
+    ∙ get_or_default row (slot_at places ks i) x (whole (pos 0)) ((slots c).within i inside)
+    ∙ sym (read_slot places row ks i x inside))
+
+pub loop-index-init : goal.loop-index-init
+loop-index-init c = record { items = λ d e. e; fits = λ d e. no_operation; width = refl; capacity = refl }
 
 pub returns-in_err-row-clause-added : goal.returns-in_err-row-clause-added
 returns-in_err-row-clause-added c = λ d e.
+    let here = (goal.at.returns-in_err-row-clause-added c).After-at in
     let ks = c.args.columns.now in
-    let i = c.loop-place.place in
+    let i = c.loop-index.index in
     let other = coefficient c.args.other.now in
-    let inside = c.loop-place-test.true in
+    let inside : i < length ks = omega (arith, c.loop-index-test.true) in
     let w : Wide = c.in_err-row.field-0.0 in
     let error : c.from_residual.result ≡ Err w = search rules in
-    let y = halfway_read ks d other c.args.factor i inside c.loop-place.row.items (c.loop-place.invariant.items d e) c.index.result.now c.index.ensures in
-    let same = sum_read c.args.factor c.at.result c.index.result.now other d (get_or ks i 0) c.at.ensures.coefficient y in
-    subst (λ r. Comes (turned_into (λ (x : Coefficients). map x ks) (plus_multiple ks d c.args.factor other)) c.loop-place.row.items r) (sym error)
-    (sums_stop ks d other c.args.factor i inside (c.loop-place.invariant.fits d e) (operation_of w)
+    let same = sum_read c.args.factor c.at.result c.index.result.now other d (get_or ks i 0) c.at.ensures.coefficient (there here d e) in
+    subst (λ r. Comes (turned_into (λ (x : Coefficients). map x ks) (plus_multiple ks d c.args.factor other)) (coefficients_at c.args.places.now ks c.loop-index.row.items) r) (sym error)
+    (sums_stop ks d other c.args.factor i inside (c.loop-index.invariant.fits d e) (operation_of w)
     (subst (λ (x : Computation Fraction). first_wide x.operations ≡ Some (operation_of w)) same c.in_err-row.ensures.sum))
 
-pub loop-place-preserved : goal.loop-place-preserved
-loop-place-preserved c =
+pub loop-index-preserved : goal.loop-index-preserved
+loop-index-preserved c =
+    let here = (goal.at.loop-index-preserved c).After-at in
+    let places = c.args.places.now in
     let ks = c.args.columns.now in
-    let i = c.loop-place.place in
+    let i = c.loop-index.index in
+    let row = c.loop-index.row.items in
     let other = coefficient c.args.other.now in
-    let inside = c.loop-place-test.true in
-    let done : (d : Coefficients) → c.args.row.now.items ≡ map d ks → IsDone (with_multiple c.args.factor other d (get_or ks i 0)) c.in_ok-row.field-0 =
+    let inside : i < length ks = omega (arith, c.loop-index-test.true) in
+    let y : Fraction = c.in_ok-row.field-0 in
+    let done : (d : Coefficients) → coefficients_at places ks c.args.row.now.items ≡ map d ks → IsDone (with_multiple c.args.factor other d (get_or ks i 0)) y =
     λ d e.
-    subst (λ (x : Computation Fraction). IsDone x c.in_ok-row.field-0)
-    (sum_read c.args.factor c.at.result c.index.result.now other d (get_or ks i 0) c.at.ensures.coefficient
-    (halfway_read ks d other c.args.factor i inside c.loop-place.row.items (c.loop-place.invariant.items d e) c.index.result.now c.index.ensures))
+    subst (λ (x : Computation Fraction). IsDone x y)
+    (sum_read c.args.factor c.at.result c.index.result.now other d (get_or ks i 0) c.at.ensures.coefficient (there here d e))
     c.in_ok-row.ensures.sum in
     record {
-      items = λ d e. halfway_more ks d other c.args.factor i inside c.loop-place.row.items (c.loop-place.invariant.items d e) c.in_ok-row.field-0 (done d e).result;
-      fits = λ d e. sums_more ks d other c.args.factor i inside (c.loop-place.invariant.fits d e) (done d e).fits;
-      width = c.loop-place.invariant.width;
-      capacity = c.loop-place.invariant.capacity;
+      items = λ d e.
+          set_slot places ks row i y (slots here) inside
+          ∙ halfway_more ks d other c.args.factor i inside (coefficients_at places ks row) (c.loop-index.invariant.items d e) y (done d e).result;
+      fits = λ d e. sums_more ks d other c.args.factor i inside (c.loop-index.invariant.fits d e) (done d e).fits;
+      width = c.loop-index.invariant.width;
+      capacity = c.loop-index.invariant.capacity;
     }
 
 pub returns-clause-added : goal.returns-clause-added
 returns-clause-added c = λ d e.
-    halfway_end c.args.columns.now d (coefficient c.args.other.now) c.args.factor c.loop-place.place c.loop-place-test.false c.loop-place.row.items (c.loop-place.invariant.items d e) (c.loop-place.invariant.fits d e)
+    halfway_end c.args.columns.now d (coefficient c.args.other.now) c.args.factor c.loop-index.index (omega (arith, c.loop-index-test.false)) (coefficients_at c.args.places.now c.args.columns.now c.loop-index.row.items)
+    (c.loop-index.invariant.items d e) (c.loop-index.invariant.fits d e)

@@ -30,6 +30,7 @@ returns-clause-room c =
     let wanted : c.in_ok-size.size ≡ (b + 1) * (w + c.args.units) = size ∙ ap (λ m. m * c.in_ok-width.width) rows ∙ ap (λ m. (b + 1) * m) width in
     record {
       for_columns = omega (arith, more, count, c.in_ok-reserve.ensures.ok);
-      for_solved = omega (arith, more, count, c.in_ok-reserve-2.ensures.ok);
-      for_block = omega (arith, wanted, c.in_ok-reserve-3.ensures.ok);
+      for_written = omega (arith, more, count, c.in_ok-reserve-2.ensures.ok);
+      for_solved = omega (arith, more, count, c.in_ok-reserve-3.ensures.ok);
+      for_block = omega (arith, wanted, c.in_ok-reserve-4.ensures.ok);
     }

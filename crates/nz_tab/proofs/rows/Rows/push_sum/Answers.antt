@@ -1,20 +1,25 @@
 -- The row that was computed stands behind the others.
-use Rattle.std.proofs.Common.{◌≡◌, length, map, sym, ap, subst, ◌∙◌}
-use Rattle.std.proofs.lemmas.List.{length-map}
-use Rattle.nz_spec.specs.BasisMoves.{numbers}
-use Rattle.nz_tab.specs.Rows.{Grid, is_marked, is_nonbasic, size_of}
-use Rattle.nz_tab.specs.Sums.{IsSummed, sum_over}
+use Rattle.std.proofs.Common.{Vec, Global, ◌≡◌, List, length, map, sym, ap, subst, ◌∙◌}
+use Rattle.nz_fractions.specs.Fraction.{Fraction}
+use Rattle.nz_tab.specs.Rows.{Grid, coefficients_at, columns_of}
+use Rattle.nz_tab.specs.Sums.{IsStoredGrid, IsSummed, sum_over}
+use Rattle.nz_tab.proofs.Pivoting.{stored_of}
 use Rattle.nz_tab.proofs.Pushing.{is_summed}
 use Rattle.nz_tab.proofs.rows.Rows.push_sum.Goals as goal
+
+abbrev items : Vec Fraction Global → List Fraction
+items x = x.items
+
+pub push-requires : goal.push-requires
+push-requires c = record { width = ap length c.as_slice.ensures.value ∙ c.in_ok-sum.ensures.width }
 
 pub returns-clause-pushed : goal.returns-clause-pushed
 returns-clause-pushed c =
     let g = c.args.self.now in
     let qs = c.args.addends.now in
-    let ks = numbers (length g.marks) (is_nonbasic g) in
-    let stands : c.as_slice.result.now ≡ map (sum_over g qs).result ks = c.as_slice.ensures.value ∙ c.in_ok-sum.ensures.sum.result in
-    let full : length g.block ≡ size_of (length g.marks) (is_nonbasic g) = subst (λ (x : Grid). length x.block ≡ size_of (length x.marks) (is_marked x.marks)) c.self.view_is c.self.invariant.whole_block in (
-      subst (λ (x : Grid). IsSummed g x qs) (sym c.in_ok-push.ensures.pushed)
-          (is_summed g c.as_slice.result.now full qs stands (ap length stands ∙ length-map ks (sum_over g qs).result)),
+    let stored : IsStoredGrid g = subst IsStoredGrid c.self.view_is (stored_of c.self.inside.nonbasic.items c.self.inside.places.items c.self.inside.width (map items c.self.inside.rows.items) c.self.invariant) in
+    let stands : coefficients_at g.places (columns_of g) c.as_slice.result.now ≡ map (sum_over g qs).result (columns_of g) =
+    ap (coefficients_at g.places (columns_of g)) c.as_slice.ensures.value ∙ c.in_ok-sum.ensures.sum.result in (
+      subst (λ (x : Grid). IsSummed g x qs) (sym c.in_ok-push.ensures.pushed) (is_summed g c.as_slice.result.now stored qs stands),
       c.in_ok-sum.ensures.sum.fits,
     )

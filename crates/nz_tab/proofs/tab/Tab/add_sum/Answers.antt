@@ -57,6 +57,7 @@ invariant_of-self-2 c =
     let made = prepared t.forms us f c.len.result c.len-5.result qs c.len.ensures c.len-5.ensures (c.in_ok-units.ensures.units forms s.units) (c.as_slice.ensures.value ∙ c.in_ok-addends.ensures.addends forms s.units) in
     let now = get nat_eq c.number_units.new.numbers in
     let columns = vec_capacity c.join.new.room.columns in
+    let written = vec_capacity c.join.new.room.written in
     let solved = vec_capacity c.join.new.room.solved in
     let spare = vec_capacity c.join.new.room.spare in
     let listed : map items c.push_reserved.new.self.items ≡ with_units forms f ++ f ∷ [] =
@@ -67,15 +68,16 @@ invariant_of-self-2 c =
     let first : length forms ≡ c.len-6.result = length-map t.forms.items items ∙ omega (arith, c.len-6.ensures, c.reserve-2.ensures.len, t.forms.ok.0) in
     let numbers : AreNumbers now (with_units forms f) =
     units_then forms f us.items c.len-5.result qs made t.rows s.count now c.as_slice-2.result.now c.as_slice-2.ensures.value (c.number_units.ensures.numbers forms first agree) in
-    let room : HasRoomForSum t.rows c.len-5.result columns solved spare =
-    subst (λ (n : ℕ). HasRoomForSum t.rows n columns solved spare) (c.len-2.ensures ∙ sym c.len-5.ensures)
-    (subst (λ (n : ℕ). HasRoomForSum t.rows c.len-2.result n solved spare) (sym c.join.ensures.columns)
-    (subst (λ (n : ℕ). HasRoomForSum t.rows c.len-2.result (vec_capacity c.reserve.new.self.columns) n spare) (sym c.join.ensures.solved)
-    (subst (λ (n : ℕ). HasRoomForSum t.rows c.len-2.result (vec_capacity c.reserve.new.self.columns) (vec_capacity c.reserve.new.self.solved) n) (sym c.join.ensures.spare)
-    c.in_ok-reserve.ensures.room))) in
-    subst (λ (l : List (List Part)). IsStored l c.join.new.self now columns solved spare) (sym listed)
-    (kept forms f us.items c.len-5.result qs made t.rows s.count c.join.new.self c.in_ok-join.ensures.joined (get nat_eq t.units) now (vec_capacity t.room.columns) (vec_capacity t.room.solved) (vec_capacity t.room.spare)
-    columns solved spare s c.joins_keep_basis.ensures.kept c.term_has_its_number.ensures.number c.requires.sum room numbers)
+    let room : HasRoomForSum t.rows c.len-5.result columns written solved spare =
+    subst (λ (n : ℕ). HasRoomForSum t.rows n columns written solved spare) (c.len-2.ensures ∙ sym c.len-5.ensures)
+    (subst (λ (n : ℕ). HasRoomForSum t.rows c.len-2.result n written solved spare) (sym c.join.ensures.columns)
+    (subst (λ (n : ℕ). HasRoomForSum t.rows c.len-2.result (vec_capacity c.reserve.new.self.columns) n solved spare) (sym c.join.ensures.written)
+    (subst (λ (n : ℕ). HasRoomForSum t.rows c.len-2.result (vec_capacity c.reserve.new.self.columns) (vec_capacity c.reserve.new.self.written) n spare) (sym c.join.ensures.solved)
+    (subst (λ (n : ℕ). HasRoomForSum t.rows c.len-2.result (vec_capacity c.reserve.new.self.columns) (vec_capacity c.reserve.new.self.written) (vec_capacity c.reserve.new.self.solved) n) (sym c.join.ensures.spare)
+    c.in_ok-reserve.ensures.room)))) in
+    subst (λ (l : List (List Part)). IsStored l c.join.new.self now columns written solved spare) (sym listed)
+    (kept forms f us.items c.len-5.result qs made t.rows s.count c.join.new.self c.in_ok-join.ensures.joined (get nat_eq t.units) now (vec_capacity t.room.columns) (vec_capacity t.room.written) (vec_capacity t.room.solved) (vec_capacity t.room.spare)
+    columns written solved spare s c.joins_keep_basis.ensures.kept c.term_has_its_number.ensures.number c.requires.sum room numbers)
 
 pub returns-clause-grown : goal.returns-clause-grown
 returns-clause-grown c =

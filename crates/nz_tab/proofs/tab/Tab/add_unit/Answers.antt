@@ -27,10 +27,10 @@ invariant_of-self-2 c =
     let long : length forms ≡ c.len-var.result = length-map t.forms.items items ∙ omega (arith, c.len-var.ensures, c.reserve-2.ensures.len, t.forms.ok.0) in
     let numbers : AreNumbers (get nat_eq c.number_unit.new.numbers) (forms ++ unit_of p ∷ []) =
     subst (λ (l : List Part). AreNumbers (get nat_eq c.number_unit.new.numbers) (forms ++ l ∷ [])) (c.as_slice.ensures.value ∙ unit) (c.number_unit.ensures.numbers forms long agree) in
-    subst (λ (l : List (List Part)). IsStored l c.in_ok-rows.rows (get nat_eq c.number_unit.new.numbers) (vec_capacity c.reserve.new.self.columns) (vec_capacity c.reserve.new.self.solved) (vec_capacity c.reserve.new.self.spare)) (sym listed)
-    (stored_unit forms t.rows (get nat_eq t.units) (vec_capacity t.room.columns) (vec_capacity t.room.solved) (vec_capacity t.room.spare) s (get nat_eq c.number_unit.new.numbers)
-    (vec_capacity c.reserve.new.self.columns) (vec_capacity c.reserve.new.self.solved) (vec_capacity c.reserve.new.self.spare)
-    c.joins_keep_basis.ensures.kept c.term_has_its_number.ensures.number c.in_ok-rows.rows p none c.in_ok-rows.ensures.widened c.in_ok-reserve.ensures.room numbers)
+    subst (λ (l : List (List Part)). IsStored l c.widen.new.self (get nat_eq c.number_unit.new.numbers) (vec_capacity c.reserve.new.self.columns) (vec_capacity c.reserve.new.self.written) (vec_capacity c.reserve.new.self.solved) (vec_capacity c.reserve.new.self.spare)) (sym listed)
+    (stored_unit forms t.rows (get nat_eq t.units) (vec_capacity t.room.columns) (vec_capacity t.room.written) (vec_capacity t.room.solved) (vec_capacity t.room.spare) s (get nat_eq c.number_unit.new.numbers)
+    (vec_capacity c.reserve.new.self.columns) (vec_capacity c.reserve.new.self.written) (vec_capacity c.reserve.new.self.solved) (vec_capacity c.reserve.new.self.spare)
+    c.joins_keep_basis.ensures.kept c.term_has_its_number.ensures.number c.widen.new.self p none c.in_ok-widen.ensures.joined c.in_ok-reserve.ensures.room numbers)
 
 pub returns-clause-joins : goal.returns-clause-joins
 returns-clause-joins c =
@@ -46,8 +46,8 @@ returns-clause-joins c =
     ∙ map_push items t.forms.items c.in_ok-unit.unit
     ∙ ap (λ (l : List Part). forms ++ l ∷ []) unit in
     let long : length forms ≡ c.len-var.result = length-map t.forms.items items ∙ omega (arith, c.len-var.ensures, c.reserve-2.ensures.len, t.forms.ok.0) in
-    let new : List (List Part) → Table = λ l. record { forms = l; grid = c.in_ok-rows.rows } in
+    let new : List (List Part) → Table = λ l. record { forms = l; grid = c.widen.new.self } in
     subst (λ (x : Table). IsUnitJoined x (new (map items c.push_reserved.new.self.items)) c.args.parts.now c.len-var.result) c.self.view_is
     (subst (λ (l : List (List Part)). IsUnitJoined (record { forms = forms; grid = t.rows }) (new l) c.args.parts.now c.len-var.result) (sym listed)
     (subst (λ (v : ℕ). IsUnitJoined (record { forms = forms; grid = t.rows }) (new (forms ++ unit_of p ∷ [])) c.args.parts.now v) long
-    (unit_joined forms t.rows c.in_ok-rows.rows c.args.parts.now p c.requires.unit c.index-parts-0.is s.count none c.in_ok-rows.ensures.widened)))
+    (unit_joined forms t.rows c.widen.new.self c.args.parts.now p c.requires.unit c.index-parts-0.is s.count none c.in_ok-widen.ensures.joined)))
