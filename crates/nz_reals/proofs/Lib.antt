@@ -16,6 +16,7 @@ pub mod Placing
 pub mod Refuting
 pub mod Saying
 pub mod Standing
+pub mod Starting
 pub mod Sums
 pub mod Telling
 pub mod Tolds

@@ -5,6 +5,7 @@ pub mod Knowing
 pub mod Known
 pub mod Limits
 pub mod Stands
+pub mod Starts
 pub mod State
 pub mod Stored
 pub mod Sums

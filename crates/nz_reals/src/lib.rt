@@ -7,6 +7,7 @@ mod model;
 mod neighbours;
 mod reals;
 mod refute;
+mod starts;
 mod theory;
 
 pub use reals::{Reals, stored};
