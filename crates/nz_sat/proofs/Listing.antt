@@ -12,7 +12,7 @@ use Rattle.nz_spec.specs.Table.{Node}
 use Rattle.nz_spec.specs.Work.{DecisionEntry, LearnedEntry, NoteLine, PivotEntry, UnitLine, WorkLine, WorkList, is_unit, unit_count, with_line}
 use Rattle.nz_log.specs.declared.atoms.Atom as log
 use Rattle.nz_log.specs.declared.note.Note.{Note}
-use Rattle.nz_log.specs.declared.note.Note.TheVariants.{Atom, Bound, Form, Told}
+use Rattle.nz_log.specs.declared.note.Note.TheVariants.{Start, Atom, Bound, Form, Told}
 use Rattle.nz_log.specs.Notes.{noted_line, noted_list}
 use Rattle.nz_log.specs.Standing.{search_after}
 use Rattle.nz_log.specs.Theories.{AddsPivots}
@@ -74,6 +74,7 @@ module _ {P : WorkLine Note → Type 0} where
 -- what comes of a theory comes of a search
 pub search_line : (line : WorkLine Note) → IsOfTheory line → IsOfSearch line
 search_line (UnitLine entry) h = tt
+search_line (NoteLine (Start start)) h = h
 search_line (NoteLine (Atom t)) h = h
 search_line (NoteLine (Bound b)) h = h
 search_line (NoteLine (Form atom)) h = h
@@ -105,6 +106,7 @@ adds_noted old new a =
 -- ---- What lines of a theory keep
 
 pub atoms_kept : (ns : List Node) (r : legal.Search) (line : WorkLine Note) → IsOfTheory line → (after_line r (noted_line ns line)).atoms ≡ r.atoms
+atoms_kept ns r (NoteLine (Start start)) h = absurd h
 atoms_kept ns r (NoteLine (Atom t)) h = absurd h
 atoms_kept ns r (NoteLine (Bound b)) h = absurd h
 atoms_kept ns r (NoteLine (Form atom)) h = absurd h
@@ -114,6 +116,7 @@ atoms_kept ns r (UnitLine (LearnedEntry keep clause)) h = absurd h
 atoms_kept ns r (UnitLine (PivotEntry leaves enters)) h = refl
 
 pub decided_kept : (ns : List Node) (r : legal.Search) (line : WorkLine Note) → IsOfTheory line → (after_line r (noted_line ns line)).decided ≡ r.decided
+decided_kept ns r (NoteLine (Start start)) h = absurd h
 decided_kept ns r (NoteLine (Atom t)) h = absurd h
 decided_kept ns r (NoteLine (Bound b)) h = absurd h
 decided_kept ns r (NoteLine (Form atom)) h = absurd h
@@ -123,6 +126,7 @@ decided_kept ns r (UnitLine (LearnedEntry keep clause)) h = absurd h
 decided_kept ns r (UnitLine (PivotEntry leaves enters)) h = refl
 
 pub learned_kept : (ns : List Node) (r : legal.Search) (line : WorkLine Note) → IsOfTheory line → (after_line r (noted_line ns line)).learned ≡ r.learned
+learned_kept ns r (NoteLine (Start start)) h = absurd h
 learned_kept ns r (NoteLine (Atom t)) h = absurd h
 learned_kept ns r (NoteLine (Bound b)) h = absurd h
 learned_kept ns r (NoteLine (Form atom)) h = absurd h
@@ -133,6 +137,7 @@ learned_kept ns r (UnitLine (PivotEntry leaves enters)) h = refl
 
 -- no form joins
 pub forms_kept : (ns : List Node) (r : legal.Search) (line : WorkLine Note) → IsOfSearch line → (after_line r (noted_line ns line)).forms ≡ r.forms
+forms_kept ns r (NoteLine (Start start)) h = absurd h
 forms_kept ns r (NoteLine (Atom t)) h = absurd h
 forms_kept ns r (NoteLine (Bound b)) h = absurd h
 forms_kept ns r (NoteLine (Form atom)) h = absurd h
