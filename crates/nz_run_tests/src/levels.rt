@@ -6,6 +6,7 @@ use nz_base::{Memory, PlainSink};
 use nz_run::DONE;
 use std::alloc::Global;
 use std::ops::Range;
+use std::process::Abort;
 use std::test::Fail;
 
 /// How many steps a script has.
@@ -150,9 +151,9 @@ fn is_as_fresh(alloc: Global, seed: u64) -> Result<bool, Fail> {
 }
 
 /// Tries the scripts of these seeds; fifty take a good part of the minute that a test has.
-fn try_seeds(rt: &HostRuntime, seeds: Range<u64>) -> Result<(), Fail> {
+fn try_seeds(rt: &impl Abort, alloc: Global, seeds: Range<u64>) -> Result<(), Fail> {
     for seed in seeds {
-        let same = is_as_fresh(rt.alloc(), seed)?;
+        let same = is_as_fresh(alloc, seed)?;
         holds(rt, same, "the replies of fresh runs");
     }
     Ok(())
@@ -160,52 +161,52 @@ fn try_seeds(rt: &HostRuntime, seeds: Range<u64>) -> Result<(), Fail> {
 
 #[test]
 fn checks_of_seeds_0_to_49_are_as_fresh(rt: HostRuntime) -> Result<(), Fail> {
-    try_seeds(&rt, 0..50)
+    try_seeds(&rt, rt.alloc(), 0..50)
 }
 
 #[test]
 fn checks_of_seeds_50_to_99_are_as_fresh(rt: HostRuntime) -> Result<(), Fail> {
-    try_seeds(&rt, 50..100)
+    try_seeds(&rt, rt.alloc(), 50..100)
 }
 
 #[test]
 fn checks_of_seeds_100_to_149_are_as_fresh(rt: HostRuntime) -> Result<(), Fail> {
-    try_seeds(&rt, 100..150)
+    try_seeds(&rt, rt.alloc(), 100..150)
 }
 
 #[test]
 fn checks_of_seeds_150_to_199_are_as_fresh(rt: HostRuntime) -> Result<(), Fail> {
-    try_seeds(&rt, 150..200)
+    try_seeds(&rt, rt.alloc(), 150..200)
 }
 
 #[test]
 fn checks_of_seeds_200_to_249_are_as_fresh(rt: HostRuntime) -> Result<(), Fail> {
-    try_seeds(&rt, 200..250)
+    try_seeds(&rt, rt.alloc(), 200..250)
 }
 
 #[test]
 fn checks_of_seeds_250_to_299_are_as_fresh(rt: HostRuntime) -> Result<(), Fail> {
-    try_seeds(&rt, 250..300)
+    try_seeds(&rt, rt.alloc(), 250..300)
 }
 
 #[test]
 fn checks_of_seeds_300_to_349_are_as_fresh(rt: HostRuntime) -> Result<(), Fail> {
-    try_seeds(&rt, 300..350)
+    try_seeds(&rt, rt.alloc(), 300..350)
 }
 
 #[test]
 fn checks_of_seeds_350_to_399_are_as_fresh(rt: HostRuntime) -> Result<(), Fail> {
-    try_seeds(&rt, 350..400)
+    try_seeds(&rt, rt.alloc(), 350..400)
 }
 
 #[test]
 fn checks_of_seeds_400_to_449_are_as_fresh(rt: HostRuntime) -> Result<(), Fail> {
-    try_seeds(&rt, 400..450)
+    try_seeds(&rt, rt.alloc(), 400..450)
 }
 
 #[test]
 fn checks_of_seeds_450_to_499_are_as_fresh(rt: HostRuntime) -> Result<(), Fail> {
-    try_seeds(&rt, 450..500)
+    try_seeds(&rt, rt.alloc(), 450..500)
 }
 
 /// A script of so many times the one text, and then the other.
