@@ -14,6 +14,7 @@ pub mod Lowering
 pub mod News
 pub mod Placing
 pub mod Refuting
+pub mod Restarting
 pub mod Saying
 pub mod Standing
 pub mod Starting

@@ -3,6 +3,7 @@
 
 mod forms;
 mod joins;
+pub mod laws;
 mod model;
 mod neighbours;
 mod reals;
