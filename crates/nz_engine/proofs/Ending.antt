@@ -8,7 +8,7 @@ use Rattle.nz_spec.specs.Decide.{asserted_numbers}
 use Rattle.nz_spec.specs.FormOf.{number_in}
 use Rattle.nz_spec.specs.Legal.{Task, Search, Lead, AreLegal, at_first, no_point, told_literals}
 use Rattle.nz_spec.specs.LiteralBounds.{position_under}
-use Rattle.nz_spec.specs.Places.{IsOperationAt, IsOperationIn, IsStoppedLegally}
+use Rattle.nz_spec.specs.Places.{IsOperationAt, IsOperationIn}
 use Rattle.nz_spec.specs.Table.{Node, term_in}
 use Rattle.nz_spec.specs.Notes as noted
 use Rattle.nz_spec.specs.Work.{WorkLine, UnitLine, NoteLine, WorkList, is_unit, unit_count}
@@ -23,7 +23,7 @@ use Rattle.nz_log.specs.declared.stop.Stop.{Stop}
 use Rattle.nz_log.specs.declared.stop.Stop.TheVariants.{Wide, Spent, Memory}
 use Rattle.nz_log.specs.declared.term_lits.TermLit.{TermLit}
 use Rattle.nz_log.specs.Notes.{noted_line, noted_list, AreNotedWithin}
-use Rattle.nz_log.specs.Places.{IsSiteWithin, OnWide, place_of, site_of}
+use Rattle.nz_log.specs.Places.{IsSiteWithin, OnWide, site_of}
 use Rattle.nz_log.specs.Standing.{Ends, IsStoppedAt, Standing, Stands, search_after}
 use Rattle.nz_log.specs.Verdicts.{OnSpent, task_in}
 use Rattle.nz_reals.specs.Stands.{IsAt, IsOver}
@@ -145,11 +145,6 @@ model_stop ns q work t Spent f h few = tt
 model_stop ns q work t Memory f h few = tt
 
 -- ---- What is said of a stop
-
-pub stop_legal : (ns : List Node) (q : Task) (work : WorkList Note) (e : Stop) → OnWide e (IsStop ns q work) → OnWide e (λ p. IsStoppedLegally q (noted_list ns work) (place_of ns p))
-stop_legal ns q work (Wide place) h = h.legally
-stop_legal ns q work Spent h = tt
-stop_legal ns q work Memory h = tt
 
 pub stop_within : (ns : List Node) (q : Task) (work : WorkList Note) (e : Stop) → OnWide e (IsStop ns q work) → OnWide e (λ p. IsSiteWithin ns p.site)
 stop_within ns q work (Wide place) h = h.within

@@ -1,6 +1,5 @@
 -- What is known of what is prepared, from where its atoms are named to where a search runs.
-use Rattle.std.proofs.Common.{◌≡◌, ℕ, List, [], Result, Ok, Err, refl, sym, ap, subst, ◌∙◌}
-use Rattle.std.specs.Prelude.{OnOk}
+use Rattle.std.proofs.Common.{◌≡◌, ℕ, List, [], Result, Ok, Err, refl, sym, subst}
 use Rattle.nz_spec.specs.Legal.{AreLegal}
 use Rattle.nz_spec.specs.Table.{Node}
 use Rattle.nz_spec.specs.Term.{Term}
@@ -14,7 +13,7 @@ use Rattle.nz_log.specs.Logs.{LogState}
 use Rattle.nz_log.specs.Notes.{noted_list}
 use Rattle.nz_log.specs.Standing.{Stands}
 use Rattle.nz_log.specs.Verdicts.{task_in}
-use Rattle.nz_reals.specs.Stands.{HasTold, IsAt, IsOf, IsOver}
+use Rattle.nz_reals.specs.Stands.{HasTold, IsAt, IsOf}
 use Rattle.nz_reals.specs.Starts.{MayRestart}
 use Rattle.nz_reals.specs.State.{Theory}
 use Rattle.nz_sat.specs.Sats.{SatState}

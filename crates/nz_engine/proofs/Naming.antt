@@ -27,7 +27,7 @@ use Rattle.nz_log.specs.declared.atoms.Atom.TheVariants as atoms
 use Rattle.nz_log.specs.declared.lits.Lit.{Lit}
 use Rattle.nz_log.specs.declared.term_lits.TermLit.{TermLit}
 use Rattle.nz_log.specs.declared.note.Note.{Note}
-use Rattle.nz_log.specs.declared.note.Note.TheVariants.{Start, Form}
+use Rattle.nz_log.specs.declared.note.Note.TheVariants.{Start}
 use Rattle.nz_log.specs.declared.note.Start as code
 use Rattle.nz_log.specs.declared.stop.Stop.{Stop}
 use Rattle.nz_log.specs.declared.stop.Stop.TheVariants.{Wide, Spent, Memory}

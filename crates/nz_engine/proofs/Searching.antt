@@ -1,5 +1,5 @@
 -- A search that has begun runs: what it is handed, and what comes of it.
-use Rattle.std.proofs.Common.{◌≡◌, ℕ, List, [], Option, None, Result, IfErr, IfOk, OnOk, refl, sym, subst}
+use Rattle.std.proofs.Common.{◌≡◌, ℕ, List, Option, None, Result, IfOk, OnOk, refl, sym, subst}
 use Rattle.std.specs.Prelude.{All, IfSome}
 use Rattle.nz_lists.proofs.Results.{on_ok}
 use Rattle.nz_spec.specs.Table.{Node}
@@ -22,7 +22,7 @@ use Rattle.nz_reals.specs.State.{Theory}
 use Rattle.nz_sat.specs.Conflicts.{Refutes}
 use Rattle.nz_sat.specs.Numbers.{IsAtomAt}
 use Rattle.nz_sat.specs.Sats as sat
-use Rattle.nz_sat.specs.Sats.{AreHeld, AreNamed, AreOn, HoldsMore, IsAsked, IsSatisfied, IsTheoryMet, SatState}
+use Rattle.nz_sat.specs.Sats.{AreNamed, AreOn, HoldsMore, IsAsked, IsSatisfied, IsTheoryMet, SatState}
 use Rattle.nz_engine.specs.Checking.{HasFound, IsBegun, IsPosed, MaySearch}
 use Rattle.nz_engine.specs.Engines.{literals_in}
 use Rattle.nz_engine.specs.Preparing.{BeganExcluded, PreparedState, atoms_of, ids_held}
@@ -37,9 +37,6 @@ begun_as {ns} {assumed} {old} {p} {q} {ids} {xs} {lits} {ls} {work} view same_id
     (subst (λ (is : List ℕ). IsBegun ns assumed old q is lits work) (sym same_ids) (subst (λ (ms : List Lit). IsBegun ns assumed old q xs ms work) (sym same_lits) begun))
 
 module _ {ns : List Node} {assumed : List TermLit} {old p : PreparedState} {ids : List ℕ} {lits : List Lit} {work : WorkList Note} (b : IsBegun ns assumed old p ids lits work) where
-  pub search_held : AreHeld p.log p.sat.clauses
-  search_held = b.ready.some.1.standing.raised.held
-
   pub search_named : AreNamed p.log p.sat.clauses lits ids
   search_named = are_named b.laws.rows b.laws.atoms b.ready.some.1 b.ready.handed
 

@@ -4,7 +4,7 @@ ghost use Rattle.nz_spec.specs.Decide.{asserted_numbers};
 ghost use Rattle.nz_spec.specs.Gates.{is_boolean_term};
 ghost use Rattle.nz_spec.specs.Legal.{Task};
 ghost use Rattle.nz_spec.specs.Order.{HasCompanions};
-ghost use Rattle.nz_spec.specs.Table.{IsTable, Node, term_in};
+ghost use Rattle.nz_spec.specs.Table.{Node, term_in};
 ghost use Rattle.nz_spec.specs.Taken.{IsTaken, IsTakenBoolean};
 ghost use Rattle.nz_spec.specs.Term as spec;
 ghost use Rattle.nz_spec.specs.Work.{IsSpent};

@@ -25,7 +25,7 @@ use Rattle.nz_simplex.specs.State.{IsSound, State, point_in, value_in}
 use Rattle.nz_reals.specs.Stands.{IsAt, IsOf, IsOver}
 use Rattle.nz_reals.specs.Starts.{IsStart, MayRestart, NotesStart}
 use Rattle.nz_reals.specs.State.{Theory, empty_theory}
-use Rattle.nz_reals.specs.Stored.{AreForms, FindsForms, IsStored}
+use Rattle.nz_reals.specs.Stored.{IsStored}
 
 -- ---- Places
 

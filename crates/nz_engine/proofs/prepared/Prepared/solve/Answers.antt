@@ -1,5 +1,5 @@
 -- All is done that comes before a search, and then it runs.
-use Rattle.std.proofs.Common.{rules, ◌≡◌, ℕ, Option, Err, refl}
+use Rattle.std.proofs.Common.{rules, ◌≡◌, ℕ, Option, Err}
 use Rattle.nz_log.specs.Verdicts.{task_in}
 use Rattle.nz_engine.proofs.Ending.{works_solved}
 use Rattle.nz_engine.proofs.Naming.{err_ends}
