@@ -13,7 +13,7 @@ use Rattle.nz_spec.specs.Work.{DecisionEntry, LearnedEntry, NoteLine, PivotEntry
 use Rattle.nz_log.specs.declared.atoms.Atom as log
 use Rattle.nz_log.specs.declared.note.Note.{Note}
 use Rattle.nz_log.specs.declared.note.Note.TheVariants.{Start, Atom, Bound, Form, Told}
-use Rattle.nz_log.specs.Notes.{noted_line, noted_list}
+use Rattle.nz_log.specs.Notes.{AreNotedWithin, noted_line, noted_list}
 use Rattle.nz_log.specs.Standing.{search_after}
 use Rattle.nz_log.specs.Theories.{AddsPivots}
 use Rattle.nz_sat.specs.Numbers.{noted_atoms}
@@ -102,6 +102,25 @@ pub adds_noted : (old new : WorkList Note) → AddsLines IsOfSearch old new → 
 adds_noted old new a =
     ap (λ (w : WorkList Note). noted_atoms w.lines) a.joined ∙ noted-append old.lines a.more
     ∙ ap (λ (us : List log.Atom). noted_atoms old.lines ++ us) (none_named a.more a.each) ∙ append-nil (noted_atoms old.lines)
+
+-- what they name is in each table
+within_append : (ns : List Node) (xs ys : List (WorkLine Note)) → AreNotedWithin ns xs → AreNotedWithin ns ys → AreNotedWithin ns (xs ++ ys)
+within_append ns [] ys h k = k
+within_append ns (UnitLine entry ∷ xs) ys h k = within_append ns xs ys h k
+within_append ns (NoteLine note ∷ xs) ys h k = (h.0, within_append ns xs ys h.1 k)
+
+search_within : (ns : List Node) (lines : List (WorkLine Note)) → AllByRecursion IsOfSearch lines → AreNotedWithin ns lines
+search_within ns [] h = tt
+search_within ns (UnitLine entry ∷ lines) h = search_within ns lines h.1
+search_within ns (NoteLine (Start start) ∷ lines) h = absurd h.0
+search_within ns (NoteLine (Atom t) ∷ lines) h = absurd h.0
+search_within ns (NoteLine (Bound b) ∷ lines) h = absurd h.0
+search_within ns (NoteLine (Form atom) ∷ lines) h = absurd h.0
+search_within ns (NoteLine (Told atom sign) ∷ lines) h = (tt, search_within ns lines h.1)
+
+pub adds_within : (ns : List Node) (old new : WorkList Note) → AddsLines IsOfSearch old new → AreNotedWithin ns old.lines → AreNotedWithin ns new.lines
+adds_within ns old new a h =
+    subst (λ (w : WorkList Note). AreNotedWithin ns w.lines) (sym a.joined) (within_append ns old.lines a.more h (search_within ns a.more a.each))
 
 -- ---- What lines of a theory keep
 
