@@ -137,6 +137,18 @@ order_empty ns log t ids empty none table placed of =
     } in
     subst (λ (s : Theory). IsInOrder ns log s ids) (sym empty) (subst (IsInOrder ns log empty_theory) (sym none) start)
 
+-- it was told nothing, and knows of no atom, and its forms are as they were
+pub order_restarted : (ns : List Node) (log : LogState) (t u : Theory) (ids none : List ℕ) → IsInOrder ns log t ids → none ≡ [] → IsOver u ns → IsOf u log.atoms [] → HasTold u [] → IsInOrder ns log u none
+order_restarted ns log t u ids none h empty over of told =
+    subst (IsInOrder ns log u) (sym empty)
+    (record {
+      over = over;
+      of = of;
+      placed = h.placed;
+      levels = All-from_recursion (Names (Told log) log.atoms) [] tt;
+      told = subst (All (λ (l : Lit). Contains [] l.atom)) (sym told) (none_told []);
+    })
+
 -- no literal was told where so many were
 pub untold : (t : Theory) → length (told_lits t) ≡ 0 → HasTold t []
 untold t none = empty_list (told_lits t) none

@@ -26,6 +26,8 @@ pub enum Act {
     Told(usize),
     /// It takes back all but so many literals.
     Undo(usize),
+    /// It begins anew over its forms, and learns of the same bounds.
+    Restart,
     /// Where the first so many clauses for neighbouring bounds are held, those are added by which just these aren't true together.
     Excludes(usize, &'static [&'static [Number]]),
 }
@@ -134,6 +136,10 @@ fn is_done(alloc: Global, system: &mut System, act: &Act) -> Result<bool, Fail> 
         Act::Told(count) => Ok(system.mark() == *count),
         Act::Undo(mark) => {
             system.undo(*mark);
+            Ok(true)
+        }
+        Act::Restart => {
+            system.restart()?;
             Ok(true)
         }
         Act::Excludes(held, pairs) => excludes(alloc, system, *held, pairs),

@@ -77,6 +77,33 @@ fn a_bound_is_refused(rt: HostRuntime) -> Result<(), Fail> {
     run(rt.alloc(), ROWS, REFUSED)
 }
 
+// Forms and point stay, and no bound does: what was true of the same bounds is so again.
+const RESTARTED: &[Act] = &[
+    Act::Tell(5),
+    Act::Tell(10),
+    Act::Feasible(&[5, 10, -11]),
+    Act::Restart,
+    Act::Told(0),
+    Act::Tell(6),
+    Act::Feasible(&[6, -5]),
+    Act::Restart,
+    Act::Tell(7),
+    Act::Tell(1),
+    Act::Tell(2),
+    Act::Tell(3),
+    Act::Clash(&[1, 2, 3]),
+    Act::Restart,
+    Act::Tell(7),
+    Act::Tell(1),
+    Act::Tell(2),
+    Act::Feasible(&[7, 1, 2, 8]),
+];
+
+#[test]
+fn a_theory_begins_anew_over_its_forms(rt: HostRuntime) -> Result<(), Fail> {
+    run(rt.alloc(), ROWS, RESTARTED)
+}
+
 // Lower bounds of x, the weakest first: above 1, at least 2, above 5; of x - z: above 0, at least 1.
 const NEIGHBOURS: &[Act] = &[
     Act::Excludes(0, &[&[5, 6], &[-9, -5], &[3, 8]]),
