@@ -1,4 +1,4 @@
-; Two rows whose coefficients differ by a factor of 2^100: where their forms are exchanged, a product of coefficients leaves 128 bits.
+; Two rows whose coefficients differ by a factor of 2^100: where their forms are exchanged, a sum of coefficients leaves 128 bits.
 (declare-const x Real)
 (declare-const y Real)
 (assert (>= (+ (* 3.0 x) (* 1267650600228229401496703205376.0 y)) 1.0))

@@ -1,12 +1,18 @@
 -- What the engine keeps, as levels change, and what a check answers.
-use Rattle.std.proofs.Common.{◌≡◌, ℕ, suc, ◌≤◌, List, [], ◌∷◌, ◌++◌, length, take, drop, inl, inr, Option, Some, None, Result, Ok, Err, OnOk, OnErr, sym, ap, subst, ◌∙◌, arith}
+use Rattle.std.proofs.Common.{◌≡◌, ℕ, suc, ◌≤◌, List, [], ◌∷◌, ◌++◌, length, take, drop, inl, inr, Result, Ok, Err, OnOk, OnErr, sym, ap, subst, ◌∙◌, arith}
 use Rattle.std.proofs.lemmas.List.{length-take, take-append-drop, take-append-le, take_all}
-use Rattle.nz_spec.specs.Table.{Node, TermStays}
+use Rattle.nz_spec.specs.Table.{IsTable, Node, TermStays}
+use Rattle.nz_spec.specs.Term.{Term}
 use Rattle.nz_spec.specs.Decide.{IsFrontOfTable}
 use Rattle.nz_log.specs.Leveled.{LogsStayLeveled}
 use Rattle.nz_log.specs.Sound.{LogsStay}
 use Rattle.nz_cform.specs.Laws.{CoversStay}
-use Rattle.nz_engine.specs.Engines.{IsKept, IsLow, IsReadied, IsSettled}
+use Rattle.nz_reals.specs.Stands.{IsOver}
+use Rattle.nz_reals.specs.Starts.{MayRestart, TheoriesRestart}
+use Rattle.nz_reals.specs.State.{Theory, empty_theory}
+use Rattle.nz_engine.specs.declared.check.Kept.{Kept}
+use Rattle.nz_engine.specs.declared.check.Kept.TheVariants as kept
+use Rattle.nz_engine.specs.Engines.{IsAtRest, IsKept, IsLow, IsReadied, IsSettled, theory_of}
 use Rattle.nz_engine.specs.Levels.{count_of}
 use Rattle.nz_engine.specs.Preparing.{PreparedState, CutsTo, IsPrepared, KeepsBounds}
 use Rattle.nz_engine.proofs.Going.{cut_prepared, goes_on, grown, standing}
@@ -30,31 +36,59 @@ settled covers leveled ns old levels p q last front end cuts keeps r =
     record {
       table = r.table;
       prepared = subst (λ ls. IsPrepared ns ls ls q) same (subst (λ ls. IsPrepared ns (take (suc last) old) ls q) (front_of old r.more (suc last) few) cut);
+      rest = subst (IsAtRest ns) (sym cuts.theory) r.rest;
     }
 
 -- what has nothing above may have something
-pub kept_low : (ns : List Node) (levels : List (List ℕ)) (o : Option PreparedState) → IsLow ns levels o → IsKept ns levels o
-kept_low ns levels None h = tt
-kept_low ns levels (Some p) h = record { table = h.table; more = []; standing = standing ns levels [] p h.prepared }
+pub kept_low : (ns : List Node) (levels : List (List ℕ)) (k : Kept) → IsLow ns levels k → IsKept ns levels k
+kept_low ns levels (kept.Theory t) h = h
+kept_low ns levels (kept.Prepared p) h = record { table = h.table; more = []; standing = standing ns levels [] p h.prepared; rest = h.rest }
 
 -- and so it is when the levels go on
-pub kept_on : LogsStay → (ns : List Node) (old new : List (List ℕ)) (o : Option PreparedState) → GoOn old new → IsLow ns old o → IsKept ns new o
-kept_on stay ns old new None on h = tt
-kept_on stay ns old new (Some p) on h =
-    kept_low ns new (Some p) (record { table = h.table; prepared = goes_on ns old new p on h.prepared stay })
+pub kept_on : LogsStay → (ns : List Node) (old new : List (List ℕ)) (k : Kept) → GoOn old new → IsLow ns old k → IsKept ns new k
+kept_on stay ns old new (kept.Theory t) on h = h
+kept_on stay ns old new (kept.Prepared p) on h =
+    kept_low ns new (kept.Prepared p) (record { table = h.table; prepared = goes_on ns old new p on h.prepared stay; rest = h.rest })
+
+-- ---- A table that has grown
+
+-- a table grows behind its front
+grown_from : (front ns : List Node) → IsFrontOfTable front ns → front ++ drop (length front) ns ≡ ns
+grown_from front ns is = ap (λ xs. xs ++ drop (length front) ns) (sym is) ∙ take-append-drop (length front) ns
+
+-- a search may begin with the theory over the table where it may over a front of it
+pub rests_over : TheoriesRestart → (front ns : List Node) (t : Theory) (ts : List Term) → IsFrontOfTable front ns → IsOver t front → MayRestart t front ts → MayRestart t ns ts
+rests_over laws front ns t ts is over may = subst (λ xs. MayRestart t xs ts) (grown_from front ns is) (laws.grown t front (drop (length front) ns) ts over may)
+
+pub over_grown : TheoriesRestart → (front ns : List Node) (t : Theory) → IsFrontOfTable front ns → IsTable ns → IsOver t front → IsOver t ns
+over_grown laws front ns t is table over =
+    let joined = grown_from front ns is in
+    subst (IsOver t) joined (laws.over t front (drop (length front) ns) (subst IsTable (sym joined) table) over)
+
+pub rest_grown : TheoriesRestart → (front ns : List Node) (t : Theory) → IsFrontOfTable front ns → IsTable ns → IsAtRest front t → IsAtRest ns t
+rest_grown laws front ns t is table h =
+    record { over = over_grown laws front ns t is table h.over; known = h.known; may = rests_over laws front ns t h.known is h.over h.may }
+
+-- of what is kept the theory is so
+pub kept_rest : (ns : List Node) (levels : List (List ℕ)) (k : Kept) → IsKept ns levels k → IsAtRest ns (theory_of k)
+kept_rest ns levels (kept.Theory t) h = h
+kept_rest ns levels (kept.Prepared p) h = h.rest
+
+-- over no sum, whatever the table
+pub empty_rest : TheoriesRestart → (ns : List Node) → IsTable ns → IsAtRest ns empty_theory
+empty_rest laws ns table = record { over = record { table = table; units = tt }; known = []; may = laws.empty ns [] }
 
 -- what is settled over a front of a table is so over the table
 pub prepared_over : TermStays → LogsStay → CoversStay → (front ns : List Node) (levels : List (List ℕ)) (p : PreparedState) → IsFrontOfTable front ns → IsSettled front levels p
     → IsPrepared ns levels levels p
 prepared_over terms stay covers front ns levels p is h =
-    let joined : front ++ drop (length front) ns ≡ ns = ap (λ xs. xs ++ drop (length front) ns) (sym is) ∙ take-append-drop (length front) ns in
-    subst (λ xs. IsPrepared xs levels levels p) joined (grown terms stay covers front (drop (length front) ns) levels levels p h.table h.prepared)
+    subst (λ xs. IsPrepared xs levels levels p) (grown_from front ns is) (grown terms stay covers front (drop (length front) ns) levels levels p h.table h.prepared)
 
 -- and after a call that makes the levels go on, or leaves them
-pub kept_either : {X E : Type 0} (r : Result X E) → LogsStay → (ns : List Node) (old on new : List (List ℕ)) (o : Option PreparedState) → GoOn old on → OnOk r (new ≡ on)
-    → OnErr r (new ≡ old) → IsLow ns old o → IsKept ns new o
-kept_either (Ok x) stay ns old on new o goes ok err h = subst (λ ls. IsKept ns ls o) (sym ok) (kept_on stay ns old on o goes h)
-kept_either (Err e) stay ns old on new o goes ok err h = subst (λ ls. IsKept ns ls o) (sym err) (kept_low ns old o h)
+pub kept_either : {X E : Type 0} (r : Result X E) → LogsStay → (ns : List Node) (old on new : List (List ℕ)) (k : Kept) → GoOn old on → OnOk r (new ≡ on)
+    → OnErr r (new ≡ old) → IsLow ns old k → IsKept ns new k
+kept_either (Ok x) stay ns old on new k goes ok err h = subst (λ ls. IsKept ns ls k) (sym ok) (kept_on stay ns old on k goes h)
+kept_either (Err e) stay ns old on new k goes ok err h = subst (λ ls. IsKept ns ls k) (sym err) (kept_low ns old k h)
 
 -- the first levels are as many as they are
 pub take_again : (n : ℕ) (levels new : List (List ℕ)) → new ≡ take n levels → take (length new) levels ≡ new

@@ -1,7 +1,6 @@
 -- How a check ends: its lines are legal, and where an operation left the numbers a search may stop.
 use Rattle.std.proofs.Common.{◌≡◌, ℕ, ◌+◌, ◌≤◌, List, [], ◌∷◌, ◌++◌, map, Result, Ok, Err, refl, sym, ap, subst, ◌∙◌, arith}
 use Rattle.std.specs.Prelude.{All, Contains, IfErr, if◌then◌else◌}
-use Rattle.std.specs.List.{AllByRecursion}
 use Rattle.std.proofs.lemmas.List.Sums.{sum_by-cons}
 use Rattle.nz_fractions.specs.Fraction.{Operation}
 use Rattle.nz_spec.specs.Bland.{Point}
@@ -9,11 +8,12 @@ use Rattle.nz_spec.specs.Decide.{asserted_numbers}
 use Rattle.nz_spec.specs.FormOf.{number_in}
 use Rattle.nz_spec.specs.Legal.{Task, Search, Lead, AreLegal, at_first, no_point, told_literals}
 use Rattle.nz_spec.specs.LiteralBounds.{position_under}
-use Rattle.nz_spec.specs.Places.{IsOperationAt, IsOperationIn, IsStoppedLegally}
+use Rattle.nz_spec.specs.Places.{IsOperationAt, IsOperationIn}
 use Rattle.nz_spec.specs.Table.{Node, term_in}
 use Rattle.nz_spec.specs.Notes as noted
 use Rattle.nz_spec.specs.Work.{WorkLine, UnitLine, NoteLine, WorkList, is_unit, unit_count}
 use Rattle.nz_frac.specs.Operations.{operation_of}
+use Rattle.nz_spec.specs.Term as spec
 use Rattle.nz_log.specs.declared.atoms.Atom.{Atom}
 use Rattle.nz_log.specs.declared.note.Note.{Note}
 use Rattle.nz_log.specs.declared.place.Place.{Place}
@@ -22,16 +22,15 @@ use Rattle.nz_log.specs.declared.place.Site.TheVariants.{Term, Joining, Exchange
 use Rattle.nz_log.specs.declared.stop.Stop.{Stop}
 use Rattle.nz_log.specs.declared.stop.Stop.TheVariants.{Wide, Spent, Memory}
 use Rattle.nz_log.specs.declared.term_lits.TermLit.{TermLit}
-use Rattle.nz_log.specs.Atoms.{IsAtomIn}
 use Rattle.nz_log.specs.Notes.{noted_line, noted_list, AreNotedWithin}
-use Rattle.nz_log.specs.Places.{IsSiteWithin, OnWide, place_of, site_of}
+use Rattle.nz_log.specs.Places.{IsSiteWithin, OnWide, site_of}
 use Rattle.nz_log.specs.Standing.{Ends, IsStoppedAt, Standing, Stands, search_after}
 use Rattle.nz_log.specs.Verdicts.{OnSpent, task_in}
-use Rattle.nz_reals.specs.Stands.{IsAt}
+use Rattle.nz_reals.specs.Stands.{IsAt, IsOver}
 use Rattle.nz_reals.specs.State.{Theory}
-use Rattle.nz_sat.specs.Numbers.{IsAtomAt, noted_atoms}
+use Rattle.nz_sat.specs.Numbers.{IsAtomAt}
 use Rattle.nz_engine.specs.Checking.{HasBegun, IsRootStop, IsStop, IsStopOf, IsTermPlace, IsTermStop, Works, terms_named}
-use Rattle.nz_engine.proofs.Naming.{begun_units, begun_within, listed_part, within_by_atoms}
+use Rattle.nz_engine.proofs.Naming.{listed_part}
 
 -- ---- Work
 
@@ -44,21 +43,16 @@ works_none ns work none =
     let count : unit_count work.lines ≡ 0 = ap unit_count none in
     record { named = subst (AreNotedWithin ns) (sym none) tt; limit = refl; within = omega (arith, count) }
 
--- atoms are noted, and forms
-pub works_begun : (ns : List Node) (all : List Atom) (ids : List ℕ) (old new : WorkList Note) → All (IsAtomAt ns all) ids → HasBegun all ids old new → Works ns old new
-works_begun ns all ids old new within h =
-    let count = begun_units all ids old new h in
-    record { named = within_by_atoms ns new.lines (begun_within ns all ids old new within h); limit = h.limit; within = omega (arith, count) }
+-- what comes before a search
+pub works_begun : (ns : List Node) (t : Theory) (all : List Atom) (ids : List ℕ) (old new : WorkList Note) → IsOver t ns → All (IsAtomAt ns all) ids → HasBegun t all ids old new → Works ns old new
+works_begun ns t all ids old new over within h =
+    let count = h.units in
+    record { named = h.within ns over within; limit = h.limit; within = omega (arith, count) }
 
 -- and a search goes on
-pub works_solved : (ns : List Node) (all : List Atom) (ids : List ℕ) (old mid new : WorkList Note) → All (IsAtomAt ns all) ids → HasBegun all ids old mid → noted_atoms new.lines ≡ noted_atoms mid.lines
-    → new.limit ≡ mid.limit → unit_count new.lines ≤ new.limit → Works ns old new
-works_solved ns all ids old mid new within h notes limit few =
-    record {
-      named = within_by_atoms ns new.lines (subst (AllByRecursion (IsAtomIn ns)) (sym notes) (begun_within ns all ids old mid within h));
-      limit = limit ∙ h.limit;
-      within = few;
-    }
+pub works_solved : (ns : List Node) (old mid new : WorkList Note) → Works ns old mid → (AreNotedWithin ns mid.lines → AreNotedWithin ns new.lines) → new.limit ≡ mid.limit
+    → unit_count new.lines ≤ new.limit → Works ns old new
+works_solved ns old mid new h named limit few = record { named = named h.named; limit = limit ∙ h.limit; within = few }
 
 -- ---- Stops
 
@@ -96,10 +90,10 @@ stop_at ns q work place h few =
 
 -- a term of what is asked, before anything is noted
 term_stop : (ns : List Node) (levels : List (List ℕ)) (assumed : List TermLit) (work : WorkList Note) (root : ℕ) → Contains (asserted_numbers levels ++ terms_named assumed) root → work.lines ≡ []
-    → (place : Place) → IsTermPlace ns (term_in ns root) place → IsStop ns (task_in ns levels assumed) work place
+    → (ts : List spec.Term) (place : Place) → IsTermPlace ns (term_in ns root) place → IsStop ns (task_in ns levels assumed ts) work place
 unfolding legal_none
-term_stop ns levels assumed work root has none place h =
-    let q = task_in ns levels assumed in
+term_stop ns levels assumed work root has none ts place h =
+    let q = task_in ns levels assumed ts in
     let count : unit_count (map (noted_line ns) work.lines) ≡ 0 = ap (λ (ls : List (WorkLine Note)). unit_count (map (noted_line ns) ls)) none in
     record {
       within = subst (IsSiteWithin ns) (sym h.site) h.stop.within;
@@ -113,11 +107,11 @@ term_stop ns levels assumed work root has none place h =
       };
     }
 
-pub root_stop : (ns : List Node) (levels : List (List ℕ)) (assumed : List TermLit) (work : WorkList Note) (e : Stop) → work.lines ≡ [] → IsRootStop ns (asserted_numbers levels ++ terms_named assumed) e
-    → OnWide e (IsStop ns (task_in ns levels assumed) work)
-root_stop ns levels assumed work (Wide place) none h = term_stop ns levels assumed work h.0 h.1 none place h.2
-root_stop ns levels assumed work Spent none h = tt
-root_stop ns levels assumed work Memory none h = tt
+pub root_stop : (ns : List Node) (levels : List (List ℕ)) (assumed : List TermLit) (ts : List spec.Term) (work : WorkList Note) (e : Stop) → work.lines ≡ [] → IsRootStop ns (asserted_numbers levels ++ terms_named assumed) e
+    → OnWide e (IsStop ns (task_in ns levels assumed ts) work)
+root_stop ns levels assumed ts work (Wide place) none h = term_stop ns levels assumed work h.0 h.1 none ts place h.2
+root_stop ns levels assumed ts work Spent none h = tt
+root_stop ns levels assumed ts work Memory none h = tt
 
 pub root_unspent : (ns : List Node) (roots : List ℕ) (e : Stop) (P : Type 0) → IsRootStop ns roots e → OnSpent e P
 root_unspent ns roots (Wide place) P h = tt
@@ -151,11 +145,6 @@ model_stop ns q work t Spent f h few = tt
 model_stop ns q work t Memory f h few = tt
 
 -- ---- What is said of a stop
-
-pub stop_legal : (ns : List Node) (q : Task) (work : WorkList Note) (e : Stop) → OnWide e (IsStop ns q work) → OnWide e (λ p. IsStoppedLegally q (noted_list ns work) (place_of ns p))
-stop_legal ns q work (Wide place) h = h.legally
-stop_legal ns q work Spent h = tt
-stop_legal ns q work Memory h = tt
 
 pub stop_within : (ns : List Node) (q : Task) (work : WorkList Note) (e : Stop) → OnWide e (IsStop ns q work) → OnWide e (λ p. IsSiteWithin ns p.site)
 stop_within ns q work (Wide place) h = h.within

@@ -1,6 +1,6 @@
 -- A search over what is prepared may begin where clauses for bounds that exclude each other are held too.
-use Rattle.std.proofs.Common.{◌≡◌, ℕ, List, [], ◌∷◌, ◌++◌, map, Option, Some, None, get_or, refl, sym, ap, subst, ◌∙◌}
-use Rattle.std.specs.Prelude.{All, Contains, OnOk, Result, Ok, Err}
+use Rattle.std.proofs.Common.{◌≡◌, ℕ, List, [], ◌∷◌, ◌++◌, append-nil, map, Option, Some, None, get_or, refl, sym, ap, subst, ◌∙◌, arith}
+use Rattle.std.specs.Prelude.{All, Contains, IsSome}
 use Rattle.std.proofs.lemmas.List.{map-append}
 use Rattle.std.proofs.lemmas.List.Elements.{All-append, All-contains, All-from_recursion, All-map, All-weaker, Contains-get_or}
 use Rattle.nz_spec.specs.Table.{Node}
@@ -10,8 +10,9 @@ use Rattle.nz_log.specs.Lits.{negated_lit}
 use Rattle.nz_log.specs.Logs.{Entry, IsLive, LogState, level_at, literals_at}
 use Rattle.nz_cform.specs.Forms.{FormState}
 use Rattle.nz_cform.specs.Listings.{IsListing}
-use Rattle.nz_reals.specs.Exclusions.{AddsOn, HasNeighbours, IsExclusion, Keeps}
-use Rattle.nz_reals.specs.State.{Theory}
+use Rattle.nz_reals.specs.Exclusions.{AddsOn, HasNeighbours, IsExclusion, IsLower, Keeps}
+use Rattle.nz_reals.specs.Stands.{IsOver}
+use Rattle.nz_reals.specs.State.{Theory, known_at}
 use Rattle.nz_sat.specs.declared.clauses.Held.{Held}
 use Rattle.nz_sat.specs.Sats.{AreHeld, AreOn, HoldsMore, SatState, held_of}
 use Rattle.nz_engine.specs.declared.prepared.Prepared.TheInside.{Inside}
@@ -59,24 +60,47 @@ held_with log held ids = map-append (λ (h : Held). h.id) held (map (held_of log
 pub live_ids : (log : LogState) (held : List Held) → AreHeld log held → All (IsLive log) (ids_held held)
 live_ids log held are = All-map (IsLive log) (λ (h : Held). h.id) held (λ k d below. (are k d below).0)
 
--- what comes of a fact on a success
-pub ok_then : {T E P Q : Type 0} (r : Result T E) → (P → Q) → OnOk r P → OnOk r Q
-ok_then (Ok x) f p = f p
-ok_then (Err e) f p = tt
-
 -- The clauses that were put are held, and each two neighbouring bounds have theirs.
-pub excludes_by : (theory : Theory) (old : PreparedState) (atoms : List ℕ) (log : LogState) (sat : SatState Theory) (cs : List ℕ) → AddsOn atoms old.log log → All (IsExclusion log atoms) cs
-    → sat.clauses ≡ old.sat.clauses ++ map (held_of log) cs → HasNeighbours theory log atoms (ids_held old.sat.clauses ++ cs) → Excludes theory old atoms (record old { log = log; sat = sat })
-excludes_by theory old atoms log sat cs adds all joined neighbours = record {
-  rest = refl;
+pub excludes_by : (log log' : LogState) (old new : SatState Theory) (atoms cs : List ℕ) → new.theory ≡ old.theory → AddsOn atoms log log' → All (IsExclusion log' atoms) cs
+    → new.clauses ≡ old.clauses ++ map (held_of log') cs → HasNeighbours old.theory log' atoms (ids_held old.clauses ++ cs) → Excludes log old atoms log' new
+excludes_by log log' old new atoms cs theory adds all joined neighbours = record {
+  theory = theory;
   adds = adds;
   ids = cs;
   exclusions = all;
   joined = joined;
-  neighbours = subst (HasNeighbours theory log atoms) (sym (ap ids_held joined ∙ held_with log old.sat.clauses cs)) neighbours;
+  neighbours = subst (λ (t : Theory). HasNeighbours t log' atoms (ids_held new.clauses)) (sym theory)
+      (subst (HasNeighbours old.theory log' atoms) (sym (ap ids_held joined ∙ held_with log' old.clauses cs)) neighbours);
 }
 
-module _ {theory : Theory} {p : PreparedState} {atoms : List ℕ} (q : PreparedState) (x : Excludes theory p atoms q) (were : AreHeld p.log p.sat.clauses) where
+-- Where nothing is known of any atom, no two bounds are neighbours.
+pub excludes_none : (log : LogState) (sat : SatState Theory) (atoms : List ℕ) → ((i : ℕ) → known_at sat.theory i ≡ None) → Excludes log sat atoms log sat
+excludes_none log sat atoms none =
+    let unknown : (l : Lit) → IsLower sat.theory l → ⊥ = λ l low.
+    let both : Some low.known ≡ None = sym low.knows ∙ none l.atom in
+    absurd cc in
+    record {
+      theory = refl;
+      adds = record {
+        keeps = record { live = λ i live. live; kept = λ i live. refl; told = refl; atoms = refl };
+        grows = λ told. record { live = λ i live. live; kept = λ i live. refl; told = refl; atoms = λ i a at. at; rows = λ i e at row. subst (λ (o : Option Entry). IsSome o) (sym at) refl; leveled = λ h. h };
+        sound = λ ns levels within h. h;
+      };
+      ids = [];
+      exclusions = λ k d below. absurd (omega (arith, below));
+      joined = sym (append-nil sat.clauses);
+      neighbours = record {
+        lowers = [];
+        are = record {
+          right = λ k d below. absurd (omega (arith, below));
+          all = λ l on low. absurd (unknown l low);
+          weaker_first = λ k d below. absurd (omega (arith, below));
+        };
+        joined = λ k d below. absurd (omega (arith, below));
+      };
+    }
+
+module _ (p : PreparedState) {atoms : List ℕ} (q : PreparedState) (x : Excludes p.log p.sat atoms q.log q.sat) (were : AreHeld p.log p.sat.clauses) where
   holds_exclusions : HoldsMore q.log p.sat.clauses q.sat.clauses
   holds_exclusions =
       record {
@@ -95,22 +119,18 @@ module _ {theory : Theory} {p : PreparedState} {atoms : List ℕ} (q : PreparedS
       (All-append P p.sat.clauses (map (held_of q.log) x.ids) (still_on p.log q.log x.adds.keeps p.sat.clauses were atoms on)
       (All-map P (held_of q.log) x.ids (All-weaker (IsExclusion q.log atoms) (λ id. All (λ (l : Lit). Contains atoms l.atom) (literals_at q.log id)) (on_atoms q.log atoms) x.ids x.exclusions)))
 
-pub ready_excluded : SearchLaws → {ns : List Node} {assumed : List TermLit} {old p : PreparedState} {ids : List ℕ} {lits : List Lit} → IsReady ns assumed old p ids lits
-    → {theory : Theory} {was q s : PreparedState} → p ≡ was → Excludes theory was ids q → s ≡ q → IsReady ns assumed old s ids lits
-ready_excluded laws {ns} {assumed} {old} {p} {ids} {lits} r {theory} {was} {q} {s} same excludes view =
-    let x : Excludes theory p ids q = subst (λ (z : PreparedState). Excludes theory z ids q) (sym same) excludes in
+pub ready_excluded : SearchLaws → {ns : List Node} {assumed : List TermLit} {old p : PreparedState} {ids : List ℕ} {lits : List Lit} → IsReady ns assumed old p ids lits → (q : PreparedState)
+    → Excludes p.log p.sat ids q.log q.sat → q.form ≡ p.form → q.given ≡ p.given → q.above ≡ p.above → IsReady ns assumed old q ids lits
+ready_excluded laws {ns} {assumed} {old} {p} {ids} {lits} r q x form given above =
     let n = r.handed in
-    let form : q.form ≡ p.form = ap (λ (s : PreparedState). s.form) x.rest in
-    let given : q.given ≡ p.given = ap (λ (s : PreparedState). s.given) x.rest in
-    let above : q.above ≡ p.above = ap (λ (s : PreparedState). s.above) x.rest in
     let first = r.some.1 in
     let grows = x.adds.grows (ids_told laws.rows laws.atoms first n) in
     let were = first.standing.raised.held in
     let after : (levels : List (List ℕ)) → IsPosed ns levels assumed p → IsPosed ns levels assumed q = λ levels h.
-    posed_after laws.atoms laws.covers r q form given above levels grows (holds_exclusions q x were)
-    (named_searched laws.rows laws.atoms h n q grows form (exclusions_on q x were (are_named laws.rows laws.atoms h n).clauses)) (x.adds.sound ns levels (ids_within laws.rows laws.atoms h n)) h in
-    subst (λ (z : PreparedState). IsReady ns assumed old z ids lits) (sym view)
-    (record {
+    posed_after laws.atoms laws.covers r q form given above levels grows (holds_exclusions p q x were)
+    (named_searched laws.rows laws.atoms h n q grows form (exclusions_on p q x were (are_named laws.rows laws.atoms h n).clauses)) (x.adds.sound ns levels (ids_within laws.rows laws.atoms h n))
+    (subst (λ (t : Theory). IsOver t ns) (sym x.theory)) h in
+    record {
       handed = record {
         terms = subst (λ (f : FormState). IsListing f.terms) (sym form) n.terms;
         bounds = subst (λ (f : FormState). IsListing f.bounds) (sym form) n.bounds;
@@ -120,4 +140,4 @@ ready_excluded laws {ns} {assumed} {old} {p} {ids} {lits} r {theory} {was} {q} {
       };
       posed = λ levels h. after levels (r.posed levels h);
       some = (r.some.0, after r.some.0 first);
-    })
+    }

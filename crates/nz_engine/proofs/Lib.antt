@@ -1,8 +1,10 @@
 pub mod Answering
+pub mod Arranging
 pub mod Assuming
 pub mod Beginning
 pub mod Deciding
 pub mod Ending
+pub mod Entering
 pub mod Excluding
 pub mod Going
 pub mod Leveling
@@ -14,5 +16,7 @@ pub mod Placing
 pub mod Posing
 pub mod Putting
 pub mod Refuting
+pub mod Resting
 pub mod RowFacts
+pub mod Searching
 pub mod Solving

@@ -1,14 +1,16 @@
--- Notes of atoms are legal: each is of what is asked, and none is named twice. Where a list of them leads, the theory of no sum stands.
+-- Notes of atoms are legal: each is of what is asked, and none is named twice. Behind the note of a start they lead to where the theory stands that began so.
 use Rattle.std.proofs.Common.{◌≡◌, ◌≢◌, inl, inr, ℕ, zero, suc, ◌+◌, ◌<◌, Bool, true, false, List, [], ◌∷◌, ◌++◌, append-nil, length, get_or, take, map, Option, Some, None, option_map, Result, Ok, Err, refl, sym, ap, ◌∙◌, subst, arith, append_assoc}
-use Rattle.std.specs.Prelude.{All, Contains, flat_map, slice_get, slice_index_or, ⊤}
+use Rattle.std.specs.Prelude.{All, Contains, flat_map, if◌then◌else◌, slice_get, slice_index_or, ⊤}
 use Rattle.std.specs.List.{AllByRecursion, AllPairs}
-use Rattle.std.proofs.lemmas.List.{length-map, map-append, take_all, take_more}
+use Rattle.std.proofs.lemmas.List.{length-map, map-append, take_more}
+use Rattle.std.proofs.lemmas.List.Sums.{sum_by-append}
 use Rattle.std.proofs.lemmas.Option.{get_or_from_slice_get, slice_get-get_or, slice_get_within}
 use Rattle.std.proofs.lemmas.List.Elements.{All-contains, All-contains_itself, All-from_recursion, All-map, All-take, All-weaker, Contains-append_cases, Contains-append_left, Contains-append_right, recursion_from_All}
 use Rattle.nz_lists.proofs.Elements.{AllByRecursion-append, AllByRecursion-weaker}
 use Rattle.nz_lists.proofs.Places.{slice_get_kept}
 use Rattle.nz_spec.specs.Bland.{Point}
 use Rattle.nz_spec.specs.Decide.{asserted_numbers, asserted_terms}
+use Rattle.nz_spec.specs.Form as spec_form
 use Rattle.nz_spec.specs.Gates.{holds}
 use Rattle.nz_spec.specs.Legal.{Task, Search, IsAtom, MayFollow, MayName, Lead, at_first, no_point, after_line, after_lines, literal_by, told_literals, AreLegal}
 use Rattle.nz_spec.specs.Literal.{Literal, term_literal, is_at_most, is_below, negation_of, are_same_literal, StandOnce, TellsLiterals}
@@ -17,7 +19,7 @@ use Rattle.nz_spec.specs.Notes.{atom_note, form_note}
 use Rattle.nz_spec.specs.Order.{post_order, post_orders, companions, listing_order, listing_orders}
 use Rattle.nz_spec.specs.Table.{Node, IsTable, term_in}
 use Rattle.nz_spec.specs.Term.{falsum, Term, apply, Terms, no_terms, terms}
-use Rattle.nz_spec.specs.Work.{WorkLine, UnitLine, NoteLine, WorkList, unit_count, with_line}
+use Rattle.nz_spec.specs.Work.{WorkLine, UnitLine, NoteLine, WorkList, is_unit, unit_count, with_line}
 use Rattle.nz_lin.specs.Bounds.{bounded}
 use Rattle.nz_lin.specs.Forms.{parts_over}
 use Rattle.nz_log.specs.declared.atoms.Atom as log
@@ -25,19 +27,21 @@ use Rattle.nz_log.specs.declared.atoms.Atom.TheVariants as atoms
 use Rattle.nz_log.specs.declared.lits.Lit.{Lit}
 use Rattle.nz_log.specs.declared.term_lits.TermLit.{TermLit}
 use Rattle.nz_log.specs.declared.note.Note.{Note}
-use Rattle.nz_log.specs.declared.note.Note.TheVariants.{Atom, Bound, Form, Told}
+use Rattle.nz_log.specs.declared.note.Note.TheVariants.{Start}
+use Rattle.nz_log.specs.declared.note.Start as code
 use Rattle.nz_log.specs.declared.stop.Stop.{Stop}
 use Rattle.nz_log.specs.declared.stop.Stop.TheVariants.{Wide, Spent, Memory}
 use Rattle.nz_log.specs.Atoms.{AreAtoms, IsAtomIn, IsNormal, TellsLits, atom_in, with_sign}
 use Rattle.nz_log.specs.Lits.{are_same_lit}
-use Rattle.nz_log.specs.Notes.{noted_line, noted_list, AreNotedWithin}
+use Rattle.nz_log.specs.Notes.{forms_over, noted_line, noted_list, AreNotedWithin, IsNoteWithin}
 use Rattle.nz_log.specs.Standing.{Standing, Ends, Stands, search_after}
 use Rattle.nz_log.specs.Verdicts.{task_in}
 use Rattle.nz_reals.specs.Joins.{IsNumberIn}
-use Rattle.nz_reals.specs.Stands.{IsAt}
-use Rattle.nz_reals.specs.State.{empty_theory}
+use Rattle.nz_reals.specs.Stands.{IsAt, IsOver}
+use Rattle.nz_reals.specs.Starts.{NotesStart}
+use Rattle.nz_reals.specs.State.{Theory}
 use Rattle.nz_sat.specs.Numbers.{AreBeginnings, IsAtomAt, IsBeginning, atom_literal, noted_atoms}
-use Rattle.nz_engine.specs.Checking.{AreNumbered, EndsWith, HasBegun, MayBegin, NotesAll, NotesFirst, NotesForms, atom_at, atom_lines, form_lines, note_of, terms_named}
+use Rattle.nz_engine.specs.Checking.{AreNumbered, EndsWith, HasBegun, MayBegin, NotesAll, NotesForms, atom_at, atom_lines, form_lines, note_of, terms_named}
 use Rattle.nz_engine.proofs.Placing.{in_second, lower_or_not, place_of}
 
 -- ---- Lists of lines
@@ -46,6 +50,11 @@ use Rattle.nz_engine.proofs.Placing.{in_second, lower_or_not, place_of}
 after_both : (s : Search) (xs ys : List (WorkLine spec.Note)) → after_lines s (xs ++ ys) ≡ after_lines (after_lines s xs) ys
 after_both s [] ys = refl
 after_both s (x ∷ xs) ys = after_both (after_line s x) xs ys
+
+-- where lines lead, others lead on
+lead_far : (q : Task) (s : Search) (x y z : Point) (xs ys : List (WorkLine spec.Note)) → Lead q s x xs y → Lead q (after_lines s xs) y ys z → Lead q s x (xs ++ ys) z
+lead_far q s x y z [] ys h more = subst (λ (p : Point). Lead q s p ys z) h more
+lead_far q s x y z (line ∷ xs) ys h more = (h.0, h.1, lead_far q (after_line s line) h.0 y z xs ys h.2 more)
 
 lines_both : (ns : List Node) (xs ys : List (WorkLine Note)) → map (noted_line ns) (xs ++ ys) ≡ map (noted_line ns) xs ++ map (noted_line ns) ys
 lines_both ns xs ys = map-append (noted_line ns) xs ys
@@ -130,10 +139,10 @@ module _ (tells : TellsLits) (tells_spec : TellsLiterals) (ns : List Node) (tabl
       (All-map P f xs (All-weaker (Contains xs) (λ x. P (f x)) (λ x has e. (x, has, e)) xs (All-contains_itself xs))) c refl
 
   -- each may be named after those before it
-  lead_names : (q : Task) (seen ids : List ℕ) (s : Search) → s.atoms ≡ map lit seen → StandOnce (seen ++ ids) → AllByRecursion (IsAtomAt ns all) seen → AllByRecursion (IsAtomAt ns all) ids
-      → AllByRecursion (λ i. IsAtom q (lit i)) ids → Lead q s no_point (map (noted_line ns) (atom_lines all ids)) no_point
-  lead_names q seen [] s same once before within each = refl
-  lead_names q seen (i ∷ ids) s same once before within each =
+  lead_names : (q : Task) (x : Point) (seen ids : List ℕ) (s : Search) → s.atoms ≡ map lit seen → StandOnce (seen ++ ids) → AllByRecursion (IsAtomAt ns all) seen → AllByRecursion (IsAtomAt ns all) ids
+      → AllByRecursion (λ i. IsAtom q (lit i)) ids → Lead q s x (map (noted_line ns) (atom_lines all ids)) x
+  lead_names q x seen [] s same once before within each = refl
+  lead_names q x seen (i ∷ ids) s same once before within each =
       let joined : (seen ++ i ∷ []) ++ ids ≡ seen ++ i ∷ ids = append_assoc seen (i ∷ []) ids in
       let fresh : Contains s.atoms (lit i) → ⊥ = λ c.
       let was = from_map lit seen (lit i) (subst (λ (ls : List Literal). Contains ls (lit i)) same c) in
@@ -150,13 +159,13 @@ module _ (tells : TellsLits) (tells_spec : TellsLiterals) (ns : List Node) (tabl
       let inside = All-contains (IsAtomAt ns all) seen was.0 (All-from_recursion (IsAtomAt ns all) seen before) was.1 in
       negated (lit i) (positive i within.0) (subst IsPositive was.2 (positive was.0 inside)) in
       let may : MayName q s (lit i) = record { atom = each.0; fresh = fresh; negation_fresh = other } in
-      let rest : Lead q (after_line s (NoteLine (atom_note (lit i)))) no_point (map (noted_line ns) (atom_lines all ids)) no_point =
-      lead_names q (seen ++ i ∷ []) ids (record s { atoms = s.atoms ++ lit i ∷ [] })
+      let rest : Lead q (after_line s (NoteLine (atom_note (lit i)))) x (map (noted_line ns) (atom_lines all ids)) x =
+      lead_names q x (seen ++ i ∷ []) ids (record s { atoms = s.atoms ++ lit i ∷ [] })
       (ap (λ (ls : List Literal). ls ++ lit i ∷ []) same ∙ sym (map-append lit seen (i ∷ [])))
       (subst StandOnce (sym joined) once)
       (AllByRecursion-append (IsAtomAt ns all) seen (i ∷ []) before (within.0, tt)) within.1 each.1 in
-      subst (λ (line : WorkLine spec.Note). (mid : Point) × MayFollow q s no_point line mid × Lead q (after_line s line) mid (map (noted_line ns) (atom_lines all ids)) no_point)
-      (sym (line_says i within.0)) (no_point, (may, refl), rest)
+      subst (λ (line : WorkLine spec.Note). (mid : Point) × MayFollow q s x line mid × Lead q (after_line s line) mid (map (noted_line ns) (atom_lines all ids)) x)
+      (sym (line_says i within.0)) (x, (may, refl), rest)
 
   -- where the search stands then
   after_names : (ids : List ℕ) (s : Search) → AllByRecursion (IsAtomAt ns all) ids → after_lines s (map (noted_line ns) (atom_lines all ids)) ≡ record s { atoms = s.atoms ++ map lit ids }
@@ -166,76 +175,128 @@ module _ (tells : TellsLits) (tells_spec : TellsLiterals) (ns : List Node) (tabl
       ∙ after_names ids (record s { atoms = s.atoms ++ lit i ∷ [] }) within.1
       ∙ ap (λ (ls : List Literal). record s { atoms = ls }) (append_assoc s.atoms (lit i ∷ []) (map lit ids))
 
-  module _ (q : Task) (ids : List ℕ) (may : MayBegin ns q all ids) (work : WorkList Note) where
-    each_within : AllByRecursion (IsAtomAt ns all) ids
-    each_within = recursion_from_All (IsAtomAt ns all) ids may.within
+  -- Lines of atoms come behind a list that tells of forms alone.
+  module _ (mid : WorkList Note) (fs : List (List spec_form.Part)) (first : search_after ns mid ≡ record at_first { forms = fs }) where
+    stood : (names : List ℕ) → AllByRecursion (IsAtomAt ns all) names → (work : WorkList Note) → work.lines ≡ mid.lines ++ atom_lines all names
+        → search_after ns work ≡ record at_first { forms = fs; atoms = map lit names }
+    stood names within work lines =
+        ap (λ (ls : List (WorkLine Note)). after_lines at_first (map (noted_line ns) ls)) lines
+        ∙ ap (after_lines at_first) (lines_both ns mid.lines (atom_lines all names))
+        ∙ after_both at_first (map (noted_line ns) mid.lines) (map (noted_line ns) (atom_lines all names))
+        ∙ ap (λ (s : Search). after_lines s (map (noted_line ns) (atom_lines all names))) first
+        ∙ after_names names (record at_first { forms = fs }) within
 
-    stood : work.lines ≡ atom_lines all ids → search_after ns work ≡ record at_first { atoms = map lit ids }
-    stood lines = ap (λ (ls : List (WorkLine Note)). after_lines at_first (map (noted_line ns) ls)) lines ∙ after_names ids at_first each_within
+    leads : (q : Task) (names : List ℕ) → StandOnce names → AllByRecursion (IsAtomAt ns all) names → AllByRecursion (λ i. IsAtom q (lit i)) names → (work : WorkList Note)
+        → work.lines ≡ mid.lines ++ atom_lines all names → (y : Point) → Lead q at_first no_point (noted_list ns mid).lines y → Lead q at_first no_point (noted_list ns work).lines y
+    leads q names once within each work lines y lead =
+        let before = map (noted_line ns) mid.lines in
+        let behind = map (noted_line ns) (atom_lines all names) in
+        let more : Lead q (after_lines at_first before) y behind y =
+        subst (λ (s : Search). Lead q s y behind y) (sym first) (lead_names q y [] names (record at_first { forms = fs }) refl once tt within each) in
+        subst (λ (ls : List (WorkLine Note)). Lead q at_first no_point (map (noted_line ns) ls) y) (sym lines)
+        (subst (λ (ls : List (WorkLine spec.Note)). Lead q at_first no_point ls y) (sym (lines_both ns mid.lines (atom_lines all names)))
+        (lead_far q at_first no_point y y before behind lead more))
 
-    -- the theory of no sum stands there
-    pub stands_first : work.lines ≡ atom_lines all ids → Stands (IsAt empty_theory ns) ns q work
-    stands_first lines =
-        record {
-          point = no_point;
-          legal = subst (λ (ls : List (WorkLine Note)). Lead q at_first no_point (map (noted_line ns) ls) no_point) (sym lines)
-              (lead_names q [] ids at_first refl may.once tt each_within (recursion_from_All (λ i. IsAtom q (lit i)) ids may.nameable));
-          at = subst (λ (s : Search). IsAt empty_theory ns s.forms (told_literals s) no_point) (sym (stood lines))
-              (record {
-                over = record { table = table; units = tt };
-                forms = refl;
-                literals = refl;
-                point = refl;
-                bounds = record { lower = refl; upper = refl };
-                marks = λ r told at. cc;
-              });
-        }
+    module _ (t : Theory) (q : Task) (ids : List ℕ) (may : MayBegin t ns q all ids) (work : WorkList Note) where
+      each_within : AllByRecursion (IsAtomAt ns all) ids
+      each_within = recursion_from_All (IsAtomAt ns all) ids may.within
 
-    -- and the list knows each atom by its place
-    pub numbered_first : work.lines ≡ atom_lines all ids → AreNumbered ns all ids work
-    numbered_first lines k i at =
-        let atoms_are : (search_after ns work).atoms ≡ map lit ids = ap (λ (s : Search). s.atoms) (stood lines) in
-        let inside = slice_get_within ids k i at in
-        let long = length-map ids lit in
-        record {
-          named = subst (λ (ls : List Literal). k < length ls) (sym atoms_are) (omega (arith, inside, long));
-          says = ap (λ (ls : List Literal). slice_index_or ls k (holds (apply falsum no_terms))) atoms_are ∙ get_or_from_slice_get (map lit ids) k (lit i) (holds (apply falsum no_terms)) (mapped ids k at);
-        }
-      where
-        mapped : (xs : List ℕ) (j : ℕ) → slice_get xs j ≡ Some i → slice_get (map lit xs) j ≡ Some (lit i)
-        mapped [] j e = cc
-        mapped (x ∷ xs) zero e = ap (option_map lit) e
-        mapped (x ∷ xs) (suc j) e = mapped xs j e
+      -- a theory stands there still
+      pub stands_named : (new : Theory) → work.lines ≡ mid.lines ++ atom_lines all ids → Stands (IsAt new ns) ns q mid → Stands (IsAt new ns) ns q work
+      stands_named new lines h =
+          record {
+            point = h.point;
+            legal = leads q ids may.once each_within (recursion_from_All (λ i. IsAtom q (lit i)) ids may.nameable) work lines h.point h.legal;
+            at = subst (λ (s : Search). IsAt new ns s.forms (told_literals s) h.point) (sym (stood ids each_within work lines))
+                (subst (λ (s : Search). IsAt new ns s.forms (told_literals s) h.point) first h.at);
+          }
 
-    -- a front of the notes is legal
-    pub legal_first : (n : ℕ) → work.lines ≡ atom_lines all (take n ids) → AreLegal q (noted_list ns work).lines
-    legal_first n lines = (
-      no_point,
-      subst (λ (ls : List (WorkLine Note)). Lead q at_first no_point (map (noted_line ns) ls) no_point) (sym lines)
-          (lead_names q [] (take n ids) at_first refl (once_front n ids may.once) tt
-          (recursion_from_All (IsAtomAt ns all) (take n ids) (All-take (IsAtomAt ns all) n ids may.within))
-          (recursion_from_All (λ i. IsAtom q (lit i)) (take n ids) (All-take (λ i. IsAtom q (lit i)) n ids may.nameable))),
-    )
-      where
-        in_front : (k n : ℕ) (xs : List ℕ) (x : ℕ) → slice_get (take n xs) k ≡ Some x → slice_get xs k ≡ Some x
-        in_front k zero xs x e = cc
-        in_front k (suc n) [] x e = cc
-        in_front zero (suc n) (y ∷ xs) x e = e
-        in_front (suc k) (suc n) (y ∷ xs) x e = in_front k n xs x e
+      -- and the list knows each atom by its place
+      pub numbered_first : work.lines ≡ mid.lines ++ atom_lines all ids → AreNumbered ns all ids work
+      numbered_first lines k i at =
+          let atoms_are : (search_after ns work).atoms ≡ map lit ids = ap (λ (s : Search). s.atoms) (stood ids each_within work lines) in
+          let inside = slice_get_within ids k i at in
+          let long = length-map ids lit in
+          record {
+            named = subst (λ (ls : List Literal). k < length ls) (sym atoms_are) (omega (arith, inside, long));
+            says = ap (λ (ls : List Literal). slice_index_or ls k (holds (apply falsum no_terms))) atoms_are ∙ get_or_from_slice_get (map lit ids) k (lit i) (holds (apply falsum no_terms)) (mapped ids k at);
+          }
+        where
+          mapped : (xs : List ℕ) (j : ℕ) → slice_get xs j ≡ Some i → slice_get (map lit xs) j ≡ Some (lit i)
+          mapped [] j e = cc
+          mapped (x ∷ xs) zero e = ap (option_map lit) e
+          mapped (x ∷ xs) (suc j) e = mapped xs j e
 
-        once_front : (n : ℕ) (xs : List ℕ) → StandOnce xs → StandOnce (take n xs)
-        once_front n xs h i j x a b = h i j x (in_front i n xs x a) (in_front j n xs x b)
+      -- a front of the notes is legal
+      pub legal_first : (n : ℕ) → work.lines ≡ mid.lines ++ atom_lines all (take n ids) → (y : Point) → Lead q at_first no_point (noted_list ns mid).lines y → AreLegal q (noted_list ns work).lines
+      legal_first n lines y lead = (
+        y,
+        leads q (take n ids) (once_front n ids may.once)
+            (recursion_from_All (IsAtomAt ns all) (take n ids) (All-take (IsAtomAt ns all) n ids may.within))
+            (recursion_from_All (λ i. IsAtom q (lit i)) (take n ids) (All-take (λ i. IsAtom q (lit i)) n ids may.nameable)) work lines y lead,
+      )
+        where
+          in_front : (k n : ℕ) (xs : List ℕ) (x : ℕ) → slice_get (take n xs) k ≡ Some x → slice_get xs k ≡ Some x
+          in_front k zero xs x e = cc
+          in_front k (suc n) [] x e = cc
+          in_front zero (suc n) (y ∷ xs) x e = e
+          in_front (suc k) (suc n) (y ∷ xs) x e = in_front k n xs x e
+
+          once_front : (n : ℕ) (xs : List ℕ) → StandOnce xs → StandOnce (take n xs)
+          once_front n xs h i j x a b = h i j x (in_front i n xs x a) (in_front j n xs x b)
+
+-- where the note of a start leads
+pub started : (ns : List Node) (t : Theory) (old new : WorkList Note) → old.lines ≡ [] → (n : NotesStart t old new) → search_after ns new ≡ record at_first { forms = forms_over ns n.start.forms.items }
+started ns t old new none n =
+    ap (λ (w : WorkList Note). after_lines at_first (map (noted_line ns) w.lines)) n.line
+    ∙ ap (λ (ls : List (WorkLine Note)). after_lines at_first (map (noted_line ns) (ls ++ NoteLine (Start n.start) ∷ []))) none
 
 -- ---- What lines note
 
+within_append : (ns : List Node) (xs ys : List (WorkLine Note)) → AreNotedWithin ns xs → AreNotedWithin ns ys → AreNotedWithin ns (xs ++ ys)
+within_append ns [] ys h k = k
+within_append ns (UnitLine entry ∷ xs) ys h k = within_append ns xs ys h k
+within_append ns (NoteLine note ∷ xs) ys h k = (h.0, within_append ns xs ys h.1 k)
+
 -- what is noted is of the table where each atom is
-pub within_by_atoms : (ns : List Node) (lines : List (WorkLine Note)) → AllByRecursion (IsAtomIn ns) (noted_atoms lines) → AreNotedWithin ns lines
-within_by_atoms ns [] h = tt
-within_by_atoms ns (NoteLine (Atom t) ∷ lines) h = (h.0, within_by_atoms ns lines h.1)
-within_by_atoms ns (NoteLine (Bound b) ∷ lines) h = (h.0, within_by_atoms ns lines h.1)
-within_by_atoms ns (NoteLine (Form k) ∷ lines) h = (tt, within_by_atoms ns lines h)
-within_by_atoms ns (NoteLine (Told k sign) ∷ lines) h = (tt, within_by_atoms ns lines h)
-within_by_atoms ns (UnitLine entry ∷ lines) h = within_by_atoms ns lines h
+atom_within : (ns : List Node) (a : log.Atom) → IsAtomIn ns a → IsNoteWithin ns (note_of a)
+atom_within ns (atoms.Term t) h = h
+atom_within ns (atoms.AtMost b) h = h
+
+pub atoms_within : (ns : List Node) (all : List log.Atom) (ids : List ℕ) → AllByRecursion (IsAtomAt ns all) ids → AreNotedWithin ns (atom_lines all ids)
+atoms_within ns all [] h = tt
+atoms_within ns all (i ∷ ids) h =
+    (atom_within ns (atom_at all i) (subst (IsAtomIn ns) (sym (get_or_from_slice_get all i h.0.atom (atoms.Term 0) h.0.at)) h.0.within), atoms_within ns all ids h.1)
+
+pub forms_within : (ns : List Node) (ks : List ℕ) → AreNotedWithin ns (form_lines ks)
+forms_within ns [] = tt
+forms_within ns (k ∷ ks) = (tt, forms_within ns ks)
+
+-- no unit is among them
+pub atoms_no_unit : (all : List log.Atom) (ids : List ℕ) → unit_count (atom_lines all ids) ≡ 0
+atoms_no_unit all [] = refl
+atoms_no_unit all (i ∷ ids) = atoms_no_unit all ids
+
+pub forms_no_unit : (ks : List ℕ) → unit_count (form_lines ks) ≡ 0
+forms_no_unit [] = refl
+forms_no_unit (k ∷ ks) = forms_no_unit ks
+
+-- nothing is noted
+pub begun_none : (t : Theory) (all : List log.Atom) (ids : List ℕ) (old : WorkList Note) → old.lines ≡ [] → HasBegun t all ids old old
+begun_none t all ids old none = record { within = λ ns over within. subst (AreNotedWithin ns) (sym none) tt; units = ap unit_count none; limit = refl }
+
+-- and then more is
+pub begun_more : (t : Theory) (all : List log.Atom) (ids : List ℕ) (old mid new : WorkList Note) (more : List (WorkLine Note)) → HasBegun t all ids old mid → new ≡ record mid { lines = mid.lines ++ more }
+    → ((ns : List Node) → IsOver t ns → All (IsAtomAt ns all) ids → AreNotedWithin ns more) → unit_count more ≡ 0 → HasBegun t all ids old new
+begun_more t all ids old mid new more h is named none =
+    let both = sum_by-append (λ (x : WorkLine Note). if is_unit x then 1 else 0) mid.lines more in
+    let units = h.units in
+    let count : unit_count (mid.lines ++ more) ≡ 0 = omega (arith, both, units, none) in
+    record {
+      within = λ ns over within. subst (λ (w : WorkList Note). AreNotedWithin ns w.lines) (sym is) (within_append ns mid.lines more (h.within ns over within) (named ns over within));
+      units = ap (λ (w : WorkList Note). unit_count w.lines) is ∙ count;
+      limit = ap (λ (w : WorkList Note). w.limit) is ∙ h.limit;
+    }
 
 forms_noted : (ks : List ℕ) → noted_atoms (form_lines ks) ≡ []
 forms_noted [] = refl
@@ -248,27 +309,6 @@ named_by (atoms.AtMost b) lines = refl
 begun_noted : (all : List log.Atom) (ids ks : List ℕ) → noted_atoms (atom_lines all ids ++ form_lines ks) ≡ map (atom_at all) ids
 begun_noted all [] ks = forms_noted ks
 begun_noted all (i ∷ ids) ks = named_by (atom_at all i) (atom_lines all ids ++ form_lines ks) ∙ ap (λ (xs : List log.Atom). atom_at all i ∷ xs) (begun_noted all ids ks)
-
--- atoms of a table
-atoms_there : (ns : List Node) (all : List log.Atom) (ids : List ℕ) → AllByRecursion (IsAtomAt ns all) ids → AllByRecursion (IsAtomIn ns) (map (atom_at all) ids)
-atoms_there ns all [] h = tt
-atoms_there ns all (i ∷ ids) h =
-    (subst (IsAtomIn ns) (sym (get_or_from_slice_get all i h.0.atom (atoms.Term 0) h.0.at)) h.0.within, atoms_there ns all ids h.1)
-
-pub begun_within : (ns : List Node) (all : List log.Atom) (ids : List ℕ) (old new : WorkList Note) → All (IsAtomAt ns all) ids → HasBegun all ids old new
-    → AllByRecursion (IsAtomIn ns) (noted_atoms new.lines)
-begun_within ns all ids old new within h =
-    subst (AllByRecursion (IsAtomIn ns)) (sym (ap noted_atoms h.lines ∙ begun_noted all (take h.count ids) h.forms))
-    (atoms_there ns all (take h.count ids) (recursion_from_All (IsAtomAt ns all) (take h.count ids) (All-take (IsAtomAt ns all) h.count ids within)))
-
--- no unit is among them
-note_no_unit : (all : List log.Atom) (ids ks : List ℕ) → unit_count (atom_lines all ids ++ form_lines ks) ≡ 0
-note_no_unit all [] [] = refl
-note_no_unit all [] (k ∷ ks) = note_no_unit all [] ks
-note_no_unit all (i ∷ ids) ks = note_no_unit all ids ks
-
-pub begun_units : (all : List log.Atom) (ids : List ℕ) (old new : WorkList Note) → HasBegun all ids old new → unit_count new.lines ≡ 0
-begun_units all ids old new h = ap unit_count h.lines ∙ note_no_unit all (take h.count ids) h.forms
 
 -- they are beginnings
 beginning : (a : log.Atom) → IsBeginning (NoteLine (note_of a))
@@ -287,17 +327,16 @@ there_all all (i ∷ ids) h =
     let rest = there_all all ids h.1 in
     λ k. first k ∷ rest k
 
-pub notes_all : (all : List log.Atom) (ids ks : List ℕ) (work : WorkList Note) → All (λ i. i < length all) ids → work.lines ≡ atom_lines all ids ++ form_lines ks → NotesAll all ids work
-notes_all all ids ks work within lines =
+-- a start, the atoms, and then forms
+pub notes_all : (all : List log.Atom) (ids ks : List ℕ) (start : code.Start) (work : WorkList Note) → All (λ i. i < length all) ids
+    → work.lines ≡ NoteLine (Start start) ∷ (atom_lines all ids ++ form_lines ks) → NotesAll all ids work
+notes_all all ids ks start work within lines =
     record {
       noted = there_all all ids (recursion_from_All (λ i. i < length all) ids within) ∙ ap (map Some) (sym (ap noted_atoms lines ∙ begun_noted all ids ks));
-      beginnings = subst AreBeginnings (sym lines) (beginnings all ids ks);
+      beginnings = subst AreBeginnings (sym lines) (tt, beginnings all ids ks);
     }
 
 -- ---- Lines of a search that begins
-
-pub noted_lines : (all : List log.Atom) (ids : List ℕ) (old new : WorkList Note) → old.lines ≡ [] → new ≡ record old { lines = old.lines ++ atom_lines all ids } → new.lines ≡ atom_lines all ids
-noted_lines all ids old new none e = ap (λ (w : WorkList Note). w.lines) e ∙ ap (λ ls. ls ++ atom_lines all ids) none
 
 -- one atom more is noted
 pub notes_more : (all : List log.Atom) (ids : List ℕ) (n d : ℕ) (old work new : WorkList Note) (note : Note) → n < length ids
@@ -310,26 +349,6 @@ notes_more all ids n d old work new note below before is step =
     (append_assoc old.lines (atom_lines all (take n ids)) (NoteLine note ∷ [])
     ∙ ap (λ (ls : List (WorkLine Note)). old.lines ++ ls)
     (ap (λ (m : Note). atom_lines all (take n ids) ++ NoteLine m ∷ []) is ∙ sym (map-append line (take n ids) (get_or ids n d ∷ [])) ∙ ap (atom_lines all) (sym (take_more ids n d below))))
-
--- the first so many atoms
-pub begun_first : (all : List log.Atom) (ids : List ℕ) (old new : WorkList Note) → old.lines ≡ [] → NotesFirst all ids old new → HasBegun all ids old new
-begun_first all ids old new none h =
-    record {
-      count = h.count;
-      forms = [];
-      lines = noted_lines all (take h.count ids) old new none h.noted ∙ sym (append-nil (atom_lines all (take h.count ids)));
-      limit = ap (λ (w : WorkList Note). w.limit) h.noted;
-    }
-
--- all atoms, and then forms
-pub begun_more : (all : List log.Atom) (ids : List ℕ) (old mid new : WorkList Note) → mid.lines ≡ atom_lines all ids → mid.limit ≡ old.limit → NotesForms mid new → HasBegun all ids old new
-begun_more all ids old mid new lines limit h =
-    record {
-      count = length ids;
-      forms = h.forms;
-      lines = ap (λ (w : WorkList Note). w.lines) h.noted ∙ ap (λ ls. ls ++ form_lines h.forms) (lines ∙ ap (atom_lines all) (sym (take_all (length ids) ids (omega arith))));
-      limit = ap (λ (w : WorkList Note). w.limit) h.noted ∙ limit;
-    }
 
 -- ---- Stops
 
@@ -416,7 +435,7 @@ part_of_roots f rs r has =
 
 -- what a root is made of is listed in what is asked
 pub listed_part : (ns : List Node) (levels : List (List ℕ)) (assumed : List TermLit) (r : ℕ) → Contains (asserted_numbers levels ++ terms_named assumed) r → (u : Term)
-    → Contains (post_order (term_in ns r)) u → Contains (task_in ns levels assumed).listed u
+    → Contains (post_order (term_in ns r)) u → Contains (task_in ns levels assumed []).listed u
 listed_part ns levels assumed r has u part =
     let roots = asserted_numbers levels ++ terms_named assumed in
     let same : map (term_in ns) roots ≡ asserted_terms ns levels ++ map (λ (l : TermLit). term_in ns l.term) assumed =

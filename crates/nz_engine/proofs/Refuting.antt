@@ -122,7 +122,7 @@ negations_of assumed atoms (Some e) h = (e, refl, of_some (on_terms atoms e.lite
 
 -- so no assignment makes what is asserted and assumed true
 pub dead_end : ClausesAreTrue → (ns : List Node) → IsTable ns → (levels : List (List ℕ)) (log : LogState) → IsLog ns levels log → (assumed : List TermLit) (id : ℕ)
-    → AreNegations assumed (literals_in log id) → IsDeadEnd (task_in ns levels assumed) at_first
+    → AreNegations assumed (literals_in log id) → IsDeadEnd (task_in ns levels assumed []) at_first
 dead_end law ns table levels log order assumed id h a model holds decided =
     let e = negations_of assumed log.atoms (entry_at log id) h in
     let c = e.2 in
@@ -196,7 +196,7 @@ refuted_by log assumed there (Err x) h = tt
 
 -- an answer without values
 pub unsat_of : (ns : List Node) (levels : List (List ℕ)) (assumed : List TermLit) (log : LogState) (v : Verdict) → IsAnswer ns levels assumed log v
-    → OnUnsat v (IsDeadEnd (task_in ns levels assumed) at_first)
+    → OnUnsat v (IsDeadEnd (task_in ns levels assumed []) at_first)
 unsat_of ns levels assumed log (Sat ps) h = tt
 unsat_of ns levels assumed log (Unsat id) h = h.0
 

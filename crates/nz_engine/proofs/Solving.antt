@@ -12,7 +12,7 @@ use Rattle.nz_spec.specs.Form as spec
 use Rattle.nz_spec.specs.Form.{negated_part}
 use Rattle.nz_spec.specs.FormOf.{number_in}
 use Rattle.nz_spec.specs.Gates.{is_boolean_term}
-use Rattle.nz_spec.specs.Legal.{Task, IsAtom, IsTabled, told_literals}
+use Rattle.nz_spec.specs.Legal.{Task, IsAtom, IsTabled, terms_known, told_literals}
 use Rattle.nz_spec.specs.Literal.{term_literal, is_at_most, StandOnce}
 use Rattle.nz_spec.specs.Table.{Node, IsTable, term_in}
 use Rattle.nz_spec.specs.Taken.{IsTakenBoolean}
@@ -30,7 +30,7 @@ use Rattle.nz_log.specs.declared.term_lits.TermLit.{TermLit}
 use Rattle.nz_log.specs.Atoms.{AreAtoms, AtomsOfTerms, HasTerm, IsAtomIn, IsLitIn, IsNormal, Stay, atom_in, lit_of, literal_in, lits_of, term_place, terms_of, with_sign}
 use Rattle.nz_log.specs.Leveled.{AreToldAtoms, IsToldWithin, LogsStayLeveled, Names}
 use Rattle.nz_log.specs.Lits.{negated_lit}
-use Rattle.nz_log.specs.Logs.{Entry, JoinsAtoms, entry_at, literals_at, told_of}
+use Rattle.nz_log.specs.Logs.{Entry, JoinsAtoms, LogState, entry_at, literals_at, told_of}
 use Rattle.nz_log.specs.Sound.{IsLog, LogsStay, live_at}
 use Rattle.nz_log.specs.Standing.{Ends, Stands, search_after}
 use Rattle.nz_log.specs.declared.note.Note.{Note}
@@ -43,7 +43,9 @@ use Rattle.nz_cform.specs.Forms.{FormState, covered_at}
 use Rattle.nz_cform.specs.Laws.{CoversStay}
 use Rattle.nz_cform.specs.Listings.{IsListing, listed_at}
 use Rattle.nz_reals.specs.Knowing.{of_stays}
-use Rattle.nz_reals.specs.Stands.{HasTold, IsAt, IsFeasible, IsOf}
+use Rattle.nz_reals.specs.Stands.{HasTold, IsAt, IsFeasible, IsOf, IsOver}
+use Rattle.nz_reals.specs.Starts.{MayRestart, TheoriesRestart}
+use Rattle.nz_reals.specs.State.{Theory}
 use Rattle.nz_reals.specs.Sums.{AreNonzero}
 use Rattle.nz_sat.specs.Numbers.{IsAtomAt, atom_literal}
 use Rattle.nz_sat.specs.Sats as sat
@@ -135,7 +137,7 @@ by_number ns [] h = tt
 by_number ns (p ∷ ps) h = (h.0, by_number ns ps h.1)
 
 tabled_by : (ns : List Node) (q : Task) (t : Term.Term) (ps : List spec.Part) (b : Fraction) (sign : Bool) → Contains q.listed t → IsOfRow (number_in ns) t (with_sign sign (is_at_most ps b))
-    → IsTabled q (is_at_most ps b)
+    → IsTabled q.listed (is_at_most ps b)
 tabled_by ns q t ps b true listed h =
     let k = h.bound refl in
     record { number = number_in ns; term = t; listed = listed; row = k.row; tabled = k.tabled; has = inl k.has }
@@ -318,7 +320,7 @@ module _ (laws : RowLaws) (own : AtomsOfTerms) {ns : List Node} {levels : List (
   ready = posed.standing.raised
 
   -- what is covered is listed in what is asked
-  covered_listed : (t : ℕ) → IsSome (covered_at p.form t) → Contains (task_in ns levels assumed).listed (term_in ns t)
+  covered_listed : (t : ℕ) → IsSome (covered_at p.form t) → Contains (task_in ns levels assumed []).listed (term_in ns t)
   covered_listed t some =
       let k = some_of (covered_at p.form t) some in
       let roots = asserted_numbers levels ++ terms_named assumed in
@@ -342,11 +344,11 @@ module _ (laws : RowLaws) (own : AtomsOfTerms) {ns : List Node} {levels : List (
   pub ids_within : All (IsAtomAt ns p.log.atoms) ids
   ids_within = All-weaker (IsSearched ns p.log p.form) (IsAtomAt ns p.log.atoms) (searched_within laws ns posed.table levels (levels ++ terms_named assumed ∷ []) p ready) ids ids_searched
 
-  pub ids_learnable : AreLearnable p.log.atoms ids
+  pub ids_learnable : AreLearnable p.sat.theory p.log.atoms ids
   ids_learnable =
       record {
         table = ns;
-        is_table = posed.table;
+        over = posed.over;
         each = All-weaker (IsSearched ns p.log p.form) (IsLearnable ns p.log.atoms) (searched_learnable laws ns posed.table levels (levels ++ terms_named assumed ∷ []) p ready) ids ids_searched;
       }
 
@@ -359,11 +361,12 @@ module _ (laws : RowLaws) (own : AtomsOfTerms) {ns : List Node} {levels : List (
   pub ids_once : StandOnce ids
   ids_once = subst StandOnce (sym n.numbers) (atoms_once ns p own ready.order.atoms n.terms n.bounds n.there.covered bound_at)
 
-  pub may_begin : MayBegin ns (task_in ns levels assumed) p.log.atoms ids
-  may_begin =
-      let q = task_in ns levels assumed in
+  pub may_begin : TheoriesRestart → (ts : List Term.Term) → MayRestart p.sat.theory ns ts → MayBegin p.sat.theory ns (task_in ns levels assumed ts) p.log.atoms ids
+  may_begin restart ts rest =
+      let q = task_in ns levels assumed ts in
       record {
-        table = posed.table;
+        over = posed.over;
+        rest = restart.more p.sat.theory ns ts (terms_known q) (λ t c. Contains-append_left ts q.listed t c) rest;
         within = ids_within;
         nameable = All-weaker (IsSearched ns p.log p.form) (λ i. IsAtom q (atom_literal ns p.log.atoms i))
             (searched_nameable laws ns posed.table levels (levels ++ terms_named assumed ∷ []) p ready q covered_listed) ids ids_searched;
@@ -400,8 +403,8 @@ module _ (laws : RowLaws) (own : AtomsOfTerms) {ns : List Node} {levels : List (
   pub are_consistent : AreConsistent assumed → sat.AreConsistent lits
   are_consistent apart = subst sat.AreConsistent (sym n.on_atoms) (consistent_lits p.log.atoms assumed n.there.named apart)
 
-  pub is_asked : IsAsked ns levels p.log ids lits (task_in ns levels assumed)
-  is_asked =
+  pub is_asked : (ts : List Term.Term) → IsAsked ns levels p.log ids lits (task_in ns levels assumed ts)
+  is_asked ts =
       record {
         table = posed.table;
         within = ids_within;
@@ -472,10 +475,12 @@ module _ (laws : RowLaws) (own : AtomsOfTerms) {ns : List Node} {levels : List (
 
 module _ (own : AtomsOfTerms) (covers : CoversStay) (ns : List Node) (levels : List (List ℕ)) (assumed : List TermLit) (p q : PreparedState) (form : q.form ≡ p.form)
     (given : q.given ≡ p.given) (above : q.above ≡ p.above) where
-  posed_with : ((roots : List (List ℕ)) → IsPrepared ns levels roots p → IsPrepared ns levels roots q) → IsPosed ns levels assumed p → IsPosed ns levels assumed q
-  posed_with stays h =
+  posed_with : ((roots : List (List ℕ)) → IsPrepared ns levels roots p → IsPrepared ns levels roots q) → (IsOver p.sat.theory ns → IsOver q.sat.theory ns) → IsPosed ns levels assumed p
+      → IsPosed ns levels assumed q
+  posed_with stays over h =
       record {
         table = h.table;
+        over = over h.over;
         standing = record {
           raised = stays (levels ++ terms_named assumed ∷ []) h.standing.raised;
           plain = λ e. stays levels (h.standing.plain (sym above ∙ e));
@@ -489,20 +494,21 @@ module _ (own : AtomsOfTerms) (covers : CoversStay) (ns : List Node) (levels : L
 
   -- a search has learned
   pub posed_on : theories.Grows p.log q.log → HoldsMore q.log p.sat.clauses q.sat.clauses → AreSearched ns q.log q.form q.sat.clauses → (IsLog ns levels p.log → IsLog ns levels q.log)
-      → IsPosed ns levels assumed p → IsPosed ns levels assumed q
-  posed_on grows more on sound h = posed_with (λ roots r. learned ns levels roots p q grows form given more r own covers on (sound h.standing.raised.order)) h
+      → (IsOver p.sat.theory ns → IsOver q.sat.theory ns) → IsPosed ns levels assumed p → IsPosed ns levels assumed q
+  posed_on grows more on sound over h = posed_with (λ roots r. learned ns levels roots p q grows form given more r own covers on (sound h.standing.raised.order)) over h
 
   -- atoms have joined
-  pub posed_joined : LogsStay → LogsStayLeveled → JoinsAtoms p.log q.log → AreAtoms q.log.atoms → q.sat.clauses ≡ p.sat.clauses → IsPosed ns levels assumed p → IsPosed ns levels assumed q
-  posed_joined stay leveled joins all clauses h =
-      posed_with (λ roots r. joined_prepared own stay leveled covers ns levels roots p q joins all form given clauses r) h
+  pub posed_joined : LogsStay → LogsStayLeveled → JoinsAtoms p.log q.log → AreAtoms q.log.atoms → q.sat ≡ p.sat → IsPosed ns levels assumed p → IsPosed ns levels assumed q
+  posed_joined stay leveled joins all same h =
+      posed_with (λ roots r. joined_prepared own stay leveled covers ns levels roots p q joins all form given (ap (λ (s : sat.SatState Theory). s.clauses) same) r)
+      (subst (λ (s : sat.SatState Theory). IsOver s.theory ns) (sym same)) h
 
 -- a search may go on where atoms have joined
 pub posed_named : AtomsOfTerms → CoversStay → LogsStay → LogsStayLeveled → (ns : List Node) (levels : List (List ℕ)) (assumed : List TermLit) (p q : PreparedState)
     → q ≡ record p { log = q.log } → JoinsAtoms p.log q.log → AreAtoms q.log.atoms → IsPosed ns levels assumed p → IsPosed ns levels assumed q
 posed_named own covers stay leveled ns levels assumed p q rest joins all posed =
     posed_joined own covers ns levels assumed p q (ap (λ (s : PreparedState). s.form) rest) (ap (λ (s : PreparedState). s.given) rest) (ap (λ (s : PreparedState). s.above) rest) stay leveled
-    joins all (ap (λ (s : PreparedState). s.sat.clauses) rest) posed
+    joins all (ap (λ (s : PreparedState). s.sat) rest) posed
 
 -- ---- What is known before a search
 
@@ -524,5 +530,63 @@ ready_as {ns} {assumed} {old} {p} {q} {ids} {xs} {lits} {ls} view same_ids same_
 -- and may again when it has learned
 pub posed_after : AtomsOfTerms → CoversStay → {ns : List Node} {assumed : List TermLit} {old p : PreparedState} {ids : List ℕ} {lits : List Lit} → IsReady ns assumed old p ids lits → (q : PreparedState)
     → q.form ≡ p.form → q.given ≡ p.given → q.above ≡ p.above → (levels : List (List ℕ)) → theories.Grows p.log q.log → HoldsMore q.log p.sat.clauses q.sat.clauses
-    → AreSearched ns q.log q.form q.sat.clauses → (IsLog ns levels p.log → IsLog ns levels q.log) → IsPosed ns levels assumed p → IsPosed ns levels assumed q
-posed_after own covers {ns} {assumed} {old} {p} r q form given above levels grows more on sound h = posed_on own covers ns levels assumed p q form given above grows more on sound h
+    → AreSearched ns q.log q.form q.sat.clauses → (IsLog ns levels p.log → IsLog ns levels q.log) → (IsOver p.sat.theory ns → IsOver q.sat.theory ns) → IsPosed ns levels assumed p
+    → IsPosed ns levels assumed q
+posed_after own covers {ns} {assumed} {old} {p} r q form given above levels grows more on sound over h = posed_on own covers ns levels assumed p q form given above grows more on sound over h
+
+-- Another theory stands in place of the one.
+module _ (ns : List Node) (levels : List (List ℕ)) (p q : PreparedState) (log : q.log ≡ p.log) (form : q.form ≡ p.form) (clauses : q.sat.clauses ≡ p.sat.clauses) (given : q.given ≡ p.given) where
+  with_theory : (roots : List (List ℕ)) → IsPrepared ns levels roots p → IsPrepared ns levels roots q
+  with_theory roots h =
+      subst (λ (s : PreparedState). IsPrepared ns levels roots (record q { log = s.log; form = s.form; sat = record q.sat { clauses = s.sat.clauses }; given = s.given }))
+      (λ i. record p { log = sym log i; form = sym form i; sat = record p.sat { clauses = sym clauses i }; given = sym given i })
+      (record {
+        order = h.order;
+        covers = h.covers;
+        below = h.below;
+        made = h.made;
+        taken = h.taken;
+        leveled = h.leveled;
+        held = h.held;
+        searched = h.searched;
+        rows = h.rows;
+        units = λ k t below at. let u = h.units k t below at in record { held = u.held; there = u.there; named = u.named; literals = u.literals; behind = u.behind };
+        within = h.within;
+        lower = h.lower;
+      })
+
+-- A search may begin over it, and may be handed the same.
+pub ready_with : {ns : List Node} {assumed : List TermLit} {old p : PreparedState} {ids : List ℕ} {lits : List Lit} → IsReady ns assumed old p ids lits → (q : PreparedState) → q.log ≡ p.log
+    → q.form ≡ p.form → q.sat.clauses ≡ p.sat.clauses → q.given ≡ p.given → q.above ≡ p.above → (IsOver p.sat.theory ns → All (IsAtomAt ns p.log.atoms) ids → IsOver q.sat.theory ns)
+    → ((levels : List (List ℕ)) → IsPosed ns levels assumed p → All (IsAtomAt ns p.log.atoms) ids) → IsReady ns assumed old q ids lits
+ready_with {ns} {assumed} {old} {p} {ids} {lits} r q log form clauses given above over within =
+    let after : (levels : List (List ℕ)) → IsPosed ns levels assumed p → IsPosed ns levels assumed q = λ levels h.
+    record {
+      table = h.table;
+      over = over h.over (within levels h);
+      standing = record {
+        raised = with_theory ns levels p q log form clauses given (levels ++ terms_named assumed ∷ []) h.standing.raised;
+        plain = λ e. with_theory ns levels p q log form clauses given levels (h.standing.plain (sym above ∙ e));
+      };
+      all_given = h.all_given ∙ sym given;
+      assumed_covered = subst (λ f. All (λ (l : TermLit). IsSome (covered_at f l.term)) assumed) (sym form) h.assumed_covered;
+      taken = h.taken;
+      assumed_taken = h.assumed_taken;
+      assumed_within = h.assumed_within;
+    } in
+    let n = r.handed in
+    record {
+      handed = record {
+        terms = subst (λ (f : FormState). IsListing f.terms) (sym form) n.terms;
+        bounds = subst (λ (f : FormState). IsListing f.bounds) (sym form) n.bounds;
+        numbers = n.numbers ∙ (λ i. map (term_place (sym log i).atoms) (boolean_terms ns (sym form i).terms.ids) ++ (sym form i).bounds.ids);
+        on_atoms = n.on_atoms ∙ (λ i. lits_of (sym log i).atoms assumed);
+        there = record {
+          covered = subst (λ (f : FormState). All (HasTerm q.log.atoms) (boolean_terms ns f.terms.ids)) (sym form)
+              (subst (λ (l : LogState). All (HasTerm l.atoms) (boolean_terms ns p.form.terms.ids)) (sym log) n.there.covered);
+          named = subst (λ (l : LogState). All (λ (m : TermLit). HasTerm l.atoms m.term) assumed) (sym log) n.there.named;
+        };
+      };
+      posed = λ levels h. after levels (r.posed levels h);
+      some = (r.some.0, after r.some.0 r.some.1);
+    }

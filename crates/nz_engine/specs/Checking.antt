@@ -1,5 +1,5 @@
 -- A check: its atoms, its answer, its work, and where it stopped.
-use Rattle.std.specs.Prelude.{◌≡◌, ℕ, ◌<◌, ◌≤◌, ◌++◌, Bool, List, [], ◌∷◌, length, All, Contains, Option, Some, None, IsSome, if◌then◌else◌, map, option_map, slice_get, slice_index_or, take, ⊤}
+use Rattle.std.specs.Prelude.{◌≡◌, ℕ, ◌<◌, ◌≤◌, ◌++◌, Bool, List, [], ◌∷◌, length, All, Contains, Option, Some, None, IsSome, if◌then◌else◌, map, option_map, slice_get, slice_index_or, take, IfErr, OnOk, Result, ⊤}
 use Rattle.nz_spec.specs.Term as spec_term
 use Rattle.nz_spec.specs.Term.{Head, constant, Value, is_bool, truth}
 use Rattle.nz_spec.specs.Table.{Node, IsTable, term_in, assignment_by}
@@ -8,7 +8,7 @@ use Rattle.nz_spec.specs.Decide.{asserted_numbers, asserted_terms, AreModelValue
 use Rattle.nz_spec.specs.Form as form
 use Rattle.nz_spec.specs.Literal as spec
 use Rattle.nz_spec.specs.Literal.{AreTrueLiterals, StandOnce}
-use Rattle.nz_spec.specs.Legal.{Task, at_first, IsAtom, IsDeadEnd, AreLegal}
+use Rattle.nz_spec.specs.Legal.{Task, at_first, IsAtom, IsDeadEnd, AreLegal, terms_known}
 use Rattle.nz_spec.specs.Places.{IsStoppedLegally}
 use Rattle.nz_spec.specs.Taken.{IsTakenBoolean}
 use Rattle.nz_spec.specs.Work.{WorkLine, NoteLine, WorkList, unit_count}
@@ -25,7 +25,7 @@ use Rattle.nz_log.specs.declared.term_lits.TermLit.{TermLit}
 use Rattle.nz_log.specs.Atoms.{AreAtoms, HasTerm, lits_of, term_place}
 use Rattle.nz_log.specs.Logs.{LogState}
 use Rattle.nz_log.specs.Places.{IsPlaceIn, IsSiteWithin, place_of}
-use Rattle.nz_log.specs.Standing.{IsStoppedAt}
+use Rattle.nz_log.specs.Standing.{IsStoppedAt, Stands}
 use Rattle.nz_log.specs.TermLits.{literal_of, AreNegations}
 use Rattle.nz_log.specs.Verdicts.{task_in}
 use Rattle.nz_log.specs.declared.note.Note.{Note}
@@ -34,15 +34,18 @@ use Rattle.nz_log.specs.Notes.{noted_list, AreNotedWithin}
 use Rattle.nz_cform.specs.Forms.{covered_at}
 use Rattle.nz_cform.specs.Listings.{IsListing}
 use Rattle.nz_cform.specs.Stops.{IsStopIn}
+use Rattle.nz_reals.specs.Exclusions.{HasNeighbours}
 use Rattle.nz_reals.specs.Joins.{IsNumberIn}
-use Rattle.nz_reals.specs.Stands.{HasTold, IsAt, IsFeasible, IsOf}
+use Rattle.nz_reals.specs.Stands.{HasTold, IsAt, IsFeasible, IsOf, IsOver}
+use Rattle.nz_reals.specs.Starts.{MayRestart}
 use Rattle.nz_reals.specs.State.{Theory}
 use Rattle.nz_reals.specs.Sums.{AreNonzero}
 use Rattle.nz_sat.specs.Numbers.{AreBeginnings, AreNotedIn, IsAtomAt, atom_literal}
 use Rattle.nz_sat.specs.Sats.{IsSatisfied, IsTheoryMet, truth_of}
 use Rattle.nz_engine.specs.Engines.{literals_in}
 use Rattle.nz_engine.specs.Levels.{count_of}
-use Rattle.nz_engine.specs.Preparing.{PreparedState, IsStanding, atoms_of, boolean_terms}
+use Rattle.nz_engine.specs.Preparing.{PreparedState, IsStanding, atoms_of, boolean_terms, ids_held}
+use Rattle.nz_engine.specs.SearchLaws.{SearchLaws}
 
 -- the terms that the literals name
 abbrev pub terms_named : List TermLit → List ℕ
@@ -69,9 +72,10 @@ pub record AreHanded (ns : List Node) (p : PreparedState) (ls : List TermLit) (a
   pub on_atoms : literals ≡ lits_of p.log.atoms ls
   pub there : HaveAtoms ns p ls
 
--- A search may begin: each assertion has its clause, and the terms of the assumed literals are covered.
+-- A search may begin: each assertion has its clause, and the terms of the assumed literals are covered. The theory has forms of the table alone.
 pub record IsPosed (ns : List Node) (levels : List (List ℕ)) (assumed : List TermLit) (p : PreparedState) : Type 0 where
   pub table : IsTable ns
+  pub over : IsOver p.sat.theory ns
   pub standing : IsStanding ns levels (terms_named assumed) p
   pub all_given : count_of levels ≡ p.given
   pub assumed_covered : AreCovered p assumed
@@ -84,6 +88,11 @@ pub record IsReady (ns : List Node) (assumed : List TermLit) (old p : PreparedSt
   pub handed : AreHanded ns p assumed ids lits
   pub posed : (levels : List (List ℕ)) → IsPosed ns levels assumed old → IsPosed ns levels assumed p
   pub some : (levels : List (List ℕ)) × IsPosed ns levels assumed p
+
+-- So it may, and may begin with the theory, where it stands, after searches that were asked of these terms.
+pub record MaySearch (ns : List Node) (levels : List (List ℕ)) (assumed : List TermLit) (ts : List spec_term.Term) (p : PreparedState) : Type 0 where
+  pub posed : IsPosed ns levels assumed p
+  pub rest : MayRestart p.sat.theory ns ts
 
 -- ---- Notes
 
@@ -112,14 +121,13 @@ pub record NotesForms (old new : WorkList Note) : Type 0 where
   pub forms : List ℕ
   pub noted : new ≡ record old { lines = old.lines ++ form_lines forms }
 
--- A list that had no line notes the first so many of these atoms, and then forms.
-pub record HasBegun (all : List log.Atom) (ids : List ℕ) (old new : WorkList Note) : Type 0 where
-  pub count : ℕ
-  pub forms : List ℕ
-  pub lines : new.lines ≡ atom_lines all (take count ids) ++ form_lines forms
+-- What lines before a search name is in each table that has what the theory and these atoms name. They have no unit.
+pub record HasBegun (t : Theory) (all : List log.Atom) (ids : List ℕ) (old new : WorkList Note) : Type 0 where
+  pub within : (ns : List Node) → IsOver t ns → All (IsAtomAt ns all) ids → AreNotedWithin ns new.lines
+  pub units : unit_count new.lines ≡ 0
   pub limit : new.limit ≡ old.limit
 
--- The list names these atoms, in this order, and then notes forms alone.
+-- The list names these atoms, in this order, and notes nothing else but forms.
 pub record NotesAll (all : List log.Atom) (ids : List ℕ) (work : WorkList Note) : Type 0 where
   pub noted : AreNotedIn all work.lines ids
   pub beginnings : AreBeginnings work.lines
@@ -140,15 +148,16 @@ pub record IsLearnable (ns : List Node) (all : List log.Atom) (i : ℕ) : Type 0
   pub within : IsAtomAt ns all i
   pub nonzero : IsNonzero (atom_at all i)
 
--- some table has what these atoms name
-pub record AreLearnable (all : List log.Atom) (ids : List ℕ) : Type 0 where
+-- some table has what the theory and these atoms name
+pub record AreLearnable (t : Theory) (all : List log.Atom) (ids : List ℕ) : Type 0 where
   pub table : List Node
-  pub is_table : IsTable table
+  pub over : IsOver t table
   pub each : All (IsLearnable table all) ids
 
--- A search is asked over these atoms, which it may name, each once, in the table.
-pub record MayBegin (ns : List Node) (q : Task) (all : List log.Atom) (ids : List ℕ) : Type 0 where
-  pub table : IsTable ns
+-- A search is asked over these atoms, which it may name, each once, in the table. It may begin with the theory, where it stands.
+pub record MayBegin (t : Theory) (ns : List Node) (q : Task) (all : List log.Atom) (ids : List ℕ) : Type 0 where
+  pub over : IsOver t ns
+  pub rest : MayRestart t ns (terms_known q)
   pub within : All (IsAtomAt ns all) ids
   pub nameable : All (λ i. IsAtom q (atom_literal ns all i)) ids
   pub once : StandOnce ids
@@ -159,6 +168,28 @@ abbrev pub EndsWith : List Node → Task → WorkList Note → Stop → Type 0
 EndsWith ns q work (Wide place) = IsStoppedAt ns q work place
 EndsWith ns q work Spent = AreLegal q (noted_list ns work).lines
 EndsWith ns q work Memory = AreLegal q (noted_list ns work).lines
+
+-- What comes of a theory that begins anew and learns of these atoms, where the list had no line.
+pub record BeginsAnew (all : List log.Atom) (ids : List ℕ) (old new : Theory) (before after : WorkList Note) (result : Result (Unit {0}) Stop) : Type 0 where
+  pub untold : OnOk result (HasTold new [])
+  pub of : OnOk result (IsOf new all ids)
+  pub over : OnOk result ((ns : List Node) → IsOver old ns → All (IsAtomAt ns all) ids → IsOver new ns)
+  pub begun : HasBegun old all ids before after
+  pub noted : OnOk result (NotesAll all ids after)
+  pub stands : OnOk result ((ns : List Node) (q : Task) → MayBegin old ns q all ids → Stands (IsAt new ns) ns q after)
+  pub stopped : IfErr result (λ e. (ns : List Node) (q : Task) → MayBegin old ns q all ids → EndsWith ns q after e)
+  pub unspent : IfErr result (λ e. e ≡ Spent → ⊥)
+
+-- All has been done that comes before a search over these atoms and literals, which may begin over the levels over which it might have before: the theory has
+-- learned of the atoms, of which the list tells, and stands where the list leads.
+pub record IsBegun (ns : List Node) (assumed : List TermLit) (old p : PreparedState) (ids : List ℕ) (lits : List Lit) (work : WorkList Note) : Type 0 where
+  pub laws : SearchLaws
+  pub ready : IsReady ns assumed old p ids lits
+  pub of : IsOf p.sat.theory p.log.atoms ids
+  pub untold : HasTold p.sat.theory []
+  pub notes : NotesAll p.log.atoms ids work
+  pub neighbours : HasNeighbours p.sat.theory p.log ids (ids_held p.sat.clauses)
+  pub stands : (levels : List (List ℕ)) (ts : List spec_term.Term) → MaySearch ns levels assumed ts old → Stands (IsAt p.sat.theory ns) ns (task_in ns levels assumed ts) work
 
 -- an operation of a term that this one is made of left the numbers
 pub record IsTermPlace (ns : List Node) (root : spec_term.Term) (place : Place) : Type 0 where
@@ -229,4 +260,4 @@ abbrev pub IsAnswer : List Node → List (List ℕ) → List TermLit → LogStat
 IsAnswer ns levels assumed log (Sat ps) =
     AreModelValues ns (asserted_terms ns levels) [] ps × AreTrueLiterals (assignment_by ns ps) (map (literal_of ns) assumed)
 IsAnswer ns levels assumed log (Unsat id) =
-    IsDeadEnd (task_in ns levels assumed) at_first × AreNegations assumed (literals_in log id)
+    IsDeadEnd (task_in ns levels assumed []) at_first × AreNegations assumed (literals_in log id)

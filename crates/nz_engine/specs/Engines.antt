@@ -1,5 +1,5 @@
 -- What an engine holds.
-use Rattle.std.specs.Prelude.{ℕ, List, [], ◌∷◌, Option, Some, None, option_map, slice_get, ⊤}
+use Rattle.std.specs.Prelude.{ℕ, List, [], ◌∷◌, Option, Some, None, option_map, slice_get}
 use Rattle.std.specs.declared.snapshot.Snapshot.{Snapshot}
 use Rattle.nz_spec.specs.Table.{Node, IsTable}
 use Rattle.nz_log.specs.declared.atoms.Atom.{Atom}
@@ -7,15 +7,26 @@ use Rattle.nz_log.specs.declared.atoms.Atom.TheVariants.{Term, AtMost}
 use Rattle.nz_log.specs.declared.lits.Lit.{Lit}
 use Rattle.nz_log.specs.declared.term_lits.TermLit.{TermLit}
 use Rattle.nz_log.specs.Logs.{LogState, empty_log, entry_at}
+use Rattle.nz_spec.specs.Term as spec
+use Rattle.nz_reals.specs.Stands.{IsOver}
+use Rattle.nz_reals.specs.Starts.{MayRestart}
+use Rattle.nz_reals.specs.State.{Theory, empty_theory}
+use Rattle.nz_engine.specs.declared.check.Kept.{Kept}
+use Rattle.nz_engine.specs.declared.check.Kept.TheVariants as kept
 use Rattle.nz_engine.specs.Preparing.{PreparedState, IsPrepared, IsStanding}
 
 pub record EngineState : Type 0 where
   pub levels : List (List ℕ)  -- the numbers of the asserted terms, the oldest level first
   pub table : List Node  -- of the last check; before the first one it has no term
   pub log : LogState  -- the clauses that are kept
+  pub theory : Theory  -- the theory that is kept
 
 abbrev pub empty_engine : EngineState
-empty_engine = record { levels = []; table = []; log = empty_log }
+empty_engine = record { levels = []; table = []; log = empty_log; theory = empty_theory }
+
+-- a later search may begin with the theory, where it stands, after searches that were asked of these terms
+abbrev pub Begins : EngineState → List spec.Term → Type 0
+Begins e ts = MayRestart e.theory e.table ts
 
 -- a literal on a term, where its atom is one
 abbrev pub on_term : List Atom → Lit → Option TermLit
@@ -43,25 +54,41 @@ abbrev pub table_of : Option (Snapshot (List Node)) → List Node
 table_of None = []
 table_of (Some seen) = seen.value
 
-abbrev pub log_of : Option PreparedState → LogState
-log_of None = empty_log
-log_of (Some p) = p.log
+abbrev pub log_of : Kept → LogState
+log_of (kept.Prepared p) = p.log
+log_of (kept.Theory t) = empty_log
+
+abbrev pub theory_of : Kept → Theory
+theory_of (kept.Prepared p) = p.sat.theory
+theory_of (kept.Theory t) = t
+
+-- a theory over no sum
+abbrev pub nothing_kept : Kept
+nothing_kept = kept.Theory empty_theory
+
+-- A search over the table may begin with the theory, where it stands, after searches that were asked of some terms.
+pub record IsAtRest (ns : List Node) (t : Theory) : Type 0 where
+  pub over : IsOver t ns
+  pub known : List spec.Term
+  pub may : MayRestart t ns known
 
 -- What is prepared is so over the table and the levels, beside what was assumed.
 pub record IsReadied (ns : List Node) (levels : List (List ℕ)) (p : PreparedState) : Type 0 where
   pub table : IsTable ns
   pub more : List ℕ
   pub standing : IsStanding ns levels more p
+  pub rest : IsAtRest ns p.sat.theory
 
-abbrev pub IsKept : List Node → List (List ℕ) → Option PreparedState → Type 0
-IsKept ns levels None = ⊤
-IsKept ns levels (Some p) = IsReadied ns levels p
+abbrev pub IsKept : List Node → List (List ℕ) → Kept → Type 0
+IsKept ns levels (kept.Prepared p) = IsReadied ns levels p
+IsKept ns levels (kept.Theory t) = IsAtRest ns t
 
 -- What is prepared is so over the table and the levels, with nothing above them.
 pub record IsSettled (ns : List Node) (levels : List (List ℕ)) (p : PreparedState) : Type 0 where
   pub table : IsTable ns
   pub prepared : IsPrepared ns levels levels p
+  pub rest : IsAtRest ns p.sat.theory
 
-abbrev pub IsLow : List Node → List (List ℕ) → Option PreparedState → Type 0
-IsLow ns levels None = ⊤
-IsLow ns levels (Some p) = IsSettled ns levels p
+abbrev pub IsLow : List Node → List (List ℕ) → Kept → Type 0
+IsLow ns levels (kept.Prepared p) = IsSettled ns levels p
+IsLow ns levels (kept.Theory t) = IsAtRest ns t

@@ -20,7 +20,7 @@ use Rattle.nz_cform.specs.Forms.{FormState, Cuts, covered_at, empty_form}
 use Rattle.nz_cform.specs.Listings.{listed_at}
 use Rattle.nz_reals.specs.Exclusions.{AddsOn, HasNeighbours, IsExclusion}
 use Rattle.nz_reals.specs.Stands.{HasTold, IsOf}
-use Rattle.nz_reals.specs.State.{Theory, empty_theory}
+use Rattle.nz_reals.specs.State.{Theory}
 use Rattle.nz_sat.specs.declared.clauses.Held.{Held}
 use Rattle.nz_sat.specs.Sats.{SatState, AreHeld, HoldsMore, held_of, held_up_to}
 use Rattle.nz_engine.specs.Levels.{count_in, count_of}
@@ -34,11 +34,11 @@ pub record PreparedState : Type 0 where
   pub given : ℕ
   pub above : Bool
 
-abbrev pub nothing_prepared : PreparedState
-nothing_prepared = record {
+abbrev pub nothing_prepared : Theory → PreparedState
+nothing_prepared theory = record {
   log = empty_log;
   form = empty_form;
-  sat = record { clauses = []; truths = []; theory = empty_theory };
+  sat = record { clauses = []; truths = []; theory = theory };
   given = 0;
   above = false;
 }
@@ -143,13 +143,13 @@ abbrev pub ids_held : List Held → List ℕ
 ids_held held = map (λ (h : Held). h.id) held
 
 -- Clauses for neighbouring bounds on these atoms are put and held, so that each two have theirs, unless their sum leaves the numbers.
-pub record Excludes (theory : Theory) (old : PreparedState) (atoms : List ℕ) (new : PreparedState) : Type 0 where
-  pub rest : new ≡ record old { log = new.log; sat = new.sat }
-  pub adds : AddsOn atoms old.log new.log
+pub record Excludes (log : LogState) (old : SatState Theory) (atoms : List ℕ) (log' : LogState) (new : SatState Theory) : Type 0 where
+  pub theory : new.theory ≡ old.theory
+  pub adds : AddsOn atoms log log'
   pub ids : List ℕ
-  pub exclusions : All (IsExclusion new.log atoms) ids
-  pub joined : new.sat.clauses ≡ old.sat.clauses ++ map (held_of new.log) ids
-  pub neighbours : HasNeighbours theory new.log atoms (ids_held new.sat.clauses)
+  pub exclusions : All (IsExclusion log' atoms) ids
+  pub joined : new.clauses ≡ old.clauses ++ map (held_of log') ids
+  pub neighbours : HasNeighbours new.theory log' atoms (ids_held new.clauses)
 
 -- When the search began, and the theory had been told nothing, each two neighbouring bounds of one form had their clause among those held, unless their sum
 -- leaves the numbers. What is held besides was learned since.
@@ -163,12 +163,13 @@ pub record BeganExcluded (ns : List Node) (new : PreparedState) : Type 0 where
   pub grown : Grows log new.log
   pub learned : HoldsMore new.log held new.sat.clauses
 
--- What is above a level is taken back, and the count is no more than what stands up to it.
+-- What is above a level is taken back, and the count is no more than what stands up to it. The theory stays.
 pub record CutsTo (old : PreparedState) (level count : ℕ) (new : PreparedState) : Type 0 where
   pub log : Drops old.log level new.log
   pub sound : (ns : List Node) (levels : List (List ℕ)) → IsLog ns levels old.log → IsLog ns (take (suc level) levels) new.log
   pub form : Cuts old.form level new.form
   pub clauses : new.sat.clauses ≡ held_up_to level old.sat.clauses
+  pub theory : new.sat.theory ≡ old.sat.theory
   pub given : new.given ≡ min old.given count
   pub above : new.above ≡ false
 

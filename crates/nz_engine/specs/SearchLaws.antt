@@ -3,6 +3,7 @@ use Rattle.nz_spec.specs.FormOf.{FormsAreSums}
 use Rattle.nz_spec.specs.WellSorted.{OperandsAreSorted}
 use Rattle.nz_log.specs.Atoms.{AtomsOfTerms}
 use Rattle.nz_cform.specs.Laws.{CoversStay}
+use Rattle.nz_reals.specs.Starts.{TheoriesRestart}
 
 -- what rows of taken terms rest on
 pub record RowLaws : Type 0 where
@@ -13,3 +14,4 @@ pub record SearchLaws : Type 0 where
   pub rows : RowLaws
   pub atoms : AtomsOfTerms
   pub covers : CoversStay
+  pub restart : TheoriesRestart

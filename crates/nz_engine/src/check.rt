@@ -1,21 +1,23 @@
 //! A check, over what is kept from the one before.
 ghost use Rattle.std.specs.Prelude.{◌≡◌, ◌++◌, ℕ, [], All, List, length, map, take, IfErr, IfOk};
 ghost use Rattle.nz_spec.specs.Decide.{AreInTable, AreModelValues, IsFrontOfTable, asserted_numbers, asserted_terms};
-ghost use Rattle.nz_spec.specs.Legal.{AreLegal};
+ghost use Rattle.nz_spec.specs.Legal.{AreLegal, terms_known};
 ghost use Rattle.nz_spec.specs.Literal.{AreTrueLiterals};
 ghost use Rattle.nz_spec.specs.Order.{HasCompanions};
 ghost use Rattle.nz_spec.specs.Table.{Node, assignment_by, term_in};
 ghost use Rattle.nz_spec.specs.Taken.{IsTakenBoolean};
+ghost use Rattle.nz_spec.specs.Term as spec;
 ghost use Rattle.nz_spec.specs.Work.{IsSpent};
 ghost use Rattle.nz_log.specs.declared.term_lits.TermLit.{TermLit};
 ghost use Rattle.nz_log.specs.declared.stop.Stop.TheVariants as stop;
 ghost use Rattle.nz_log.specs.Notes.{noted_list};
-ghost use Rattle.nz_log.specs.Places.{OnWide};
+ghost use Rattle.nz_log.specs.Places.{IsSiteWithin, OnWide};
 ghost use Rattle.nz_log.specs.TermLits.{AreConsistent, AreOfTerms, literal_of};
 ghost use Rattle.nz_log.specs.Verdicts.{OnSpent, task_in};
 ghost use Rattle.nz_cform.specs.Covering.{Covers};
+ghost use Rattle.nz_reals.specs.Starts.{MayRestart};
 ghost use Rattle.nz_engine.specs.Checking.{HasFound, IsAnswer, IsPosed, IsRootStop, IsStop, IsStopOf, Works, terms_named};
-ghost use Rattle.nz_engine.specs.Engines.{IsKept, IsLow, IsReadied};
+ghost use Rattle.nz_engine.specs.Engines.{IsKept, IsLow, IsReadied, nothing_kept, theory_of};
 ghost use Rattle.nz_engine.specs.Preparing.{IsPrepared};
 
 use crate::levels::Levels;
@@ -24,11 +26,21 @@ use nz_base::{Memory, Work};
 use nz_cform::laws::{covers_stay, rows_meet_tables};
 use nz_log::laws::{atoms_of_terms, clauses_are_true, logs_stay, logs_stay_leveled};
 use nz_log::{Note, Stop, TermLit, Verdict};
+use nz_reals::Reals;
+use nz_reals::laws::theories_restart;
 use nz_spec::deciding::tables_decide;
 use nz_spec::form::term_has_its_number;
 use nz_spec::table::{assigns_by_number, term_of_node, term_stays};
 use nz_term::{Assign, Terms, known_table};
 use std::alloc::Global;
+use std::mem;
+
+/// What is kept from check to check: all that was prepared, or the theory alone.
+#[derive(Debug, Drop)]
+pub enum Kept {
+    Prepared(Prepared),
+    Theory(Reals),
+}
 
 /// What a check comes to: its answer, and what is kept.
 #[derive(Debug, Drop)]
@@ -37,69 +49,81 @@ pub struct Found {
     pub prepared: Prepared,
 }
 
+/// Takes out what is kept, and leaves a theory over no sum. Takes no memory.
+pub fn take_kept(alloc: Global, kept: &mut Kept) -> Kept
+    ensures taken { result ≡ kept.old }
+    ensures left { kept.new ≡ nothing_kept }
+{
+    mem::replace(kept, Kept::Theory(Reals::new(alloc)))
+}
+
 /// What is prepared up to the last of these levels. Takes no memory.
-fn cut_to(mut prepared: Prepared, levels: &Levels) -> Option<Prepared>
+fn cut_to(mut prepared: Prepared, levels: &Levels) -> Kept
     ensures low { (ns : List Node) (old : List (List ℕ)) → take (length levels.now) old ≡ levels.now → IsReadied ns old prepared → IsLow ns levels.now result }
+    ensures theory { theory_of result ≡ prepared.sat.theory }
 {
     covers_stay();
     logs_stay_leveled();
     match levels.len().checked_sub(1) {
         Some(last) => {
-            // What was learned may have bounds that are listed no more: then all is made anew.
+            // What was learned may have bounds that are listed no more: then the clauses are made anew, over the same theory.
             if prepared.cut(last, levels) {
-                Some(prepared)
+                Kept::Prepared(prepared)
             } else {
-                None
+                Kept::Theory(prepared.take_theory())
             }
         }
-        None => None,
+        None => Kept::Theory(prepared.take_theory()),
     }
 }
 
 /// What is prepared, if anything is, up to the last of these levels. Takes no memory.
-pub fn cut_kept(prepared: Option<Prepared>, levels: &Levels) -> Option<Prepared>
-    ensures low { (ns : List Node) (old : List (List ℕ)) → take (length levels.now) old ≡ levels.now → IsKept ns old prepared → IsLow ns levels.now result }
+pub fn cut_kept(kept: Kept, levels: &Levels) -> Kept
+    ensures low { (ns : List Node) (old : List (List ℕ)) → take (length levels.now) old ≡ levels.now → IsKept ns old kept → IsLow ns levels.now result }
+    ensures theory { theory_of result ≡ theory_of kept }
 {
-    match prepared {
-        Some(prepared) => cut_to(prepared, levels),
-        None => None,
+    match kept {
+        Kept::Prepared(prepared) => cut_to(prepared, levels),
+        Kept::Theory(theory) => Kept::Theory(theory),
     }
 }
 
 /// What is prepared, without what is covered for assumed literals alone. Takes no memory.
-pub fn lowered(prepared: Option<Prepared>, levels: &Levels) -> Option<Prepared>
-    ensures low { (ns : List Node) → IsKept ns levels.now prepared → IsLow ns levels.now result }
+pub fn lowered(kept: Kept, levels: &Levels) -> Kept
+    ensures low { (ns : List Node) → IsKept ns levels.now kept → IsLow ns levels.now result }
+    ensures theory { theory_of result ≡ theory_of kept }
 {
-    match prepared {
-        Some(prepared) => {
+    match kept {
+        Kept::Prepared(prepared) => {
             if prepared.is_above() {
                 cut_to(prepared, levels)
             } else {
-                Some(prepared)
+                Kept::Prepared(prepared)
             }
         }
-        None => None,
+        Kept::Theory(theory) => Kept::Theory(theory),
     }
 }
 
 /// What is prepared for these levels, or nothing yet.
-fn begun(alloc: Global, kept: Option<Prepared>, levels: &Levels) -> Result<Prepared, Memory>
+fn begun(alloc: Global, kept: Kept, levels: &Levels) -> Result<Prepared, Memory>
     ensures stands { IfOk result (λ p. (front ns : List Node) → IsFrontOfTable front ns → IsKept front levels.now kept → IsPrepared ns levels.now levels.now p) }
+    ensures theory { IfOk result (λ p. p.sat.theory ≡ theory_of kept) }
 {
     logs_stay();
     covers_stay();
     logs_stay_leveled();
     term_stays();
     match lowered(kept, levels) {
-        Some(prepared) => Ok(prepared),
-        None => Prepared::new(alloc),
+        Kept::Prepared(prepared) => Ok(prepared),
+        Kept::Theory(theory) => Prepared::new(alloc, theory),
     }
 }
 
 /// The clauses of what is asserted and assumed.
 fn posed(
     alloc: Global,
-    kept: Option<Prepared>,
+    kept: Kept,
     levels: &Levels,
     terms: &Terms,
     assumed: &[TermLit],
@@ -111,9 +135,12 @@ fn posed(
     requires companions { HasCompanions terms.now }
     requires kept { (front : List Node) × IsFrontOfTable front terms.now × IsKept front levels.now kept }
     ensures posed { IfOk result (λ p. IsPosed terms.now levels.now assumed.now p) }
+    ensures theory { IfOk result (λ p. p.sat.theory ≡ theory_of kept) }
     ensures stop { IfErr result (IsRootStop terms.now (asserted_numbers levels.now ++ terms_named assumed.now)) }
 {
     known_table(terms);
+    term_stays();
+    theories_restart();
     let mut prepared = begun(alloc, kept, levels)?;
     prepared.add_assertions(terms, levels)?;
     prepared.assume(terms, levels, assumed)?;
@@ -145,7 +172,7 @@ fn model(alloc: Global, terms: &Terms, prepared: &Prepared) -> Result<Assign, St
 /// dropped.
 pub fn decide(
     alloc: Global,
-    kept: Option<Prepared>,
+    kept: Kept,
     levels: &Levels,
     terms: &Terms,
     assumed: &[TermLit],
@@ -161,12 +188,18 @@ pub fn decide(
     requires kept { (front : List Node) × IsFrontOfTable front terms.now × IsKept front levels.now kept }
     ensures answer { IfOk result (λ f. IsAnswer terms.now levels.now assumed.now f.prepared.log f.verdict) }
     ensures readied { IfOk result (λ f. IsReadied terms.now levels.now f.prepared) }
-    ensures legal { AreLegal (task_in terms.now levels.now assumed.now) (noted_list terms.now work.new).lines }
+    // Where the search may begin with the theory that is kept, after searches that were asked of these terms.
+    ensures legal { (ts : List spec.Term) → MayRestart (theory_of kept) terms.now ts → AreLegal (task_in terms.now levels.now assumed.now ts) (noted_list terms.now work.new).lines }
+    ensures begins { IfOk result (λ f. (ts : List spec.Term) → MayRestart (theory_of kept) terms.now ts → MayRestart f.prepared.sat.theory terms.now (terms_known (task_in terms.now levels.now assumed.now ts))) }
     ensures works { Works terms.now work.old work.new }
     ensures spent { IfErr result (λ s. OnSpent s (IsSpent work.new)) }
-    ensures stopped { IfErr result (λ s. OnWide s (IsStop terms.now (task_in terms.now levels.now assumed.now) work.new)) }
+    ensures stopped { IfErr result (λ s. OnWide s (λ p. (ts : List spec.Term) → MayRestart (theory_of kept) terms.now ts → IsStop terms.now (task_in terms.now levels.now assumed.now ts) work.new p)) }
+    ensures place_within { IfErr result (λ s. OnWide s (λ p. IsSiteWithin terms.now p.site)) }
 {
     clauses_are_true();
+    theories_restart();
+    term_stays();
+    known_table(terms);
     let mut prepared = posed(alloc, kept, levels, terms, assumed)?;
     let refuted = prepared.solve(terms, assumed, work)?;
     match refuted {

@@ -1,56 +1,61 @@
 //! The engine as its callers see it.
-ghost use Rattle.std.specs.Prelude.{◌≡◌, IfOk};
-ghost use Rattle.nz_engine.specs.Engines.{empty_engine};
+ghost use Rattle.std.specs.Prelude.{◌≡◌, IfOk, List};
+ghost use Rattle.nz_spec.specs.Term as spec;
+ghost use Rattle.nz_engine.specs.Engines.{Begins, empty_engine};
 
-use crate::check::{Found, cut_kept, decide, lowered};
+use crate::check::{Found, Kept, cut_kept, decide, lowered, take_kept};
 use crate::levels::Levels;
-use crate::prepared::Prepared;
 use nz_base::{Memory, Work};
 use nz_log::laws::logs_stay;
 use nz_log::{ClauseId, Decide, Note, Step, Stop, TermLit, Verdict};
+use nz_reals::Reals;
+use nz_reals::laws::theories_restart;
 use nz_spec::derivation::derivations_grow;
-use nz_term::{TermId, Terms};
+use nz_spec::table::term_stays;
+use nz_term::{TermId, Terms, known_table};
 use std::alloc::Global;
 use std::marker::Model;
 use std::snapshot::Snapshot;
 
 /// A search that decides checks. What it made for one check it keeps for the next, as far as what is asserted still is; a check that ends with no
-/// answer drops it.
+/// answer drops it. Where clauses have to be made anew, the forms of the theory stay, without bounds, and its point.
 #[derive(Drop)]
 pub struct Engine {
     alloc: Global,
     levels: Levels,
     // The table of the last check.
     seen: Option<Snapshot<Terms>>,
-    prepared: Option<Prepared>,
+    kept: Kept,
 }
 
 impl Model for Engine {
-    ghost use Rattle.nz_engine.specs.Engines.{EngineState, IsKept, log_of, table_of};
+    ghost use Rattle.nz_engine.specs.Engines.{EngineState, IsKept, log_of, table_of, theory_of};
 
     ghost Value = { EngineState };
 
-    ghost view = { λ e. record { levels = e.levels; table = table_of e.seen; log = log_of e.prepared } };
+    ghost view = { λ e. record { levels = e.levels; table = table_of e.seen; log = log_of e.kept; theory = theory_of e.kept } };
 
-    ghost invariant = { λ e. IsKept (table_of e.seen) e.levels e.prepared };
+    ghost invariant = { λ e. IsKept (table_of e.seen) e.levels e.kept };
 }
 
 impl Engine {
     /// An engine with no level. Takes no memory.
     pub fn new(alloc: Global) -> Result<Engine, Memory>
         ensures none { IfOk result (λ engine. engine ≡ empty_engine) }
+        ensures begins { IfOk result (λ engine. (ts : List spec.Term) → Begins engine ts) }
     {
+        theories_restart();
         Ok(Engine {
             alloc,
             levels: Levels::new(alloc),
             seen: None,
-            prepared: None,
+            kept: Kept::Theory(Reals::new(alloc)),
         })
     }
 }
 
 impl Decide for Engine {
-    ghost use Rattle.nz_engine.specs.Engines.{clause_at};
+    ghost use Rattle.nz_engine.specs.Engines.{Begins, clause_at};
 
     ghost levels = { λ e. e.levels };
 
@@ -58,20 +63,25 @@ impl Decide for Engine {
 
     ghost clause = { clause_at };
 
+    ghost begins = { Begins };
+
     fn push(&mut self) -> Result<(), Memory> {
         logs_stay();
-        self.prepared = lowered(self.prepared.take(), &self.levels);
+        let kept = take_kept(self.alloc, &mut self.kept);
+        self.kept = lowered(kept, &self.levels);
         self.levels.push()
     }
 
     fn pop(&mut self, count: usize) {
         self.levels.pop(count);
-        self.prepared = cut_kept(self.prepared.take(), &self.levels);
+        let kept = take_kept(self.alloc, &mut self.kept);
+        self.kept = cut_kept(kept, &self.levels);
     }
 
     fn add(&mut self, term: TermId) -> Result<(), Memory> {
         logs_stay();
-        self.prepared = lowered(self.prepared.take(), &self.levels);
+        let kept = take_kept(self.alloc, &mut self.kept);
+        self.kept = lowered(kept, &self.levels);
         self.levels.add(term)
     }
 
@@ -81,7 +91,10 @@ impl Decide for Engine {
         assumed: &[TermLit],
         work: &mut Work<Note>,
     ) -> Result<Verdict, Stop> {
-        let kept = self.prepared.take();
+        known_table(terms);
+        term_stays();
+        theories_restart();
+        let kept = take_kept(self.alloc, &mut self.kept);
         self.seen = Some(Snapshot::of(terms));
         let Found { verdict, prepared } = decide(
             self.alloc,
@@ -91,14 +104,14 @@ impl Decide for Engine {
             assumed,
             work,
         )?;
-        self.prepared = Some(prepared);
+        self.kept = Kept::Prepared(prepared);
         Ok(verdict)
     }
 
     fn steps(&self, id: ClauseId) -> Result<Vec<Step<'_>>, Memory> {
         derivations_grow();
         // A clause that can be asked for is of a log.
-        let Some(prepared) = &self.prepared else {
+        let Kept::Prepared(prepared) = &self.kept else {
             unreachable!()
         };
         prepared.steps(id)

@@ -6,5 +6,6 @@ mod engine;
 mod joining;
 mod levels;
 mod prepared;
+mod truths;
 
 pub use engine::Engine;

@@ -4,7 +4,7 @@ ghost use Rattle.nz_spec.specs.Decide.{asserted_numbers};
 ghost use Rattle.nz_spec.specs.Gates.{is_boolean_term};
 ghost use Rattle.nz_spec.specs.Legal.{Task};
 ghost use Rattle.nz_spec.specs.Order.{HasCompanions};
-ghost use Rattle.nz_spec.specs.Table.{IsTable, Node, term_in};
+ghost use Rattle.nz_spec.specs.Table.{Node, term_in};
 ghost use Rattle.nz_spec.specs.Taken.{IsTaken, IsTakenBoolean};
 ghost use Rattle.nz_spec.specs.Term as spec;
 ghost use Rattle.nz_spec.specs.Work.{IsSpent};
@@ -22,10 +22,9 @@ ghost use Rattle.nz_cform.specs.Forms.{covered_at};
 ghost use Rattle.nz_cform.specs.Stops as form;
 ghost use Rattle.nz_reals.specs.Chosen.{HasWorths};
 ghost use Rattle.nz_reals.specs.Stands.{HasTold, IsAt, IsFeasible, IsOf, IsOver};
-ghost use Rattle.nz_reals.specs.State.{empty_theory};
 ghost use Rattle.nz_sat.specs.Numbers.{IsAtomAt};
 ghost use Rattle.nz_sat.specs.Sats.{AreHeld, held_of};
-ghost use Rattle.nz_engine.specs.Checking.{AreCovered, AreHanded, AreLearnable, AreNumbered, AreTakenAt, EndsWith, HasBegun, HasFound, IsPosed, IsReady, IsRootStop, IsStopOf, IsTermStop, MayBegin, NotesAll, NotesFirst, NotesForms, Works, atom_lines, note_of, terms_named, truth_in, value_at};
+ghost use Rattle.nz_engine.specs.Checking.{AreCovered, AreHanded, AreLearnable, AreNumbered, AreTakenAt, BeginsAnew, EndsWith, HasFound, IsBegun, IsPosed, IsReady, IsRootStop, IsStopOf, IsTermStop, MayBegin, MaySearch, NotesFirst, NotesForms, Works, atom_lines, note_of, terms_named, truth_in, value_at};
 ghost use Rattle.nz_engine.specs.Engines.{literals_in};
 ghost use Rattle.nz_engine.specs.Levels.{IsPlaced, count_of};
 ghost use Rattle.nz_engine.specs.SearchLaws.{SearchLaws};
@@ -33,12 +32,14 @@ ghost use Rattle.nz_engine.specs.Preparing.{BeganExcluded, CoversAlso, CutsTo, E
 
 use crate::joining::joining_order;
 use crate::levels::Levels;
+use crate::truths::truths_for;
 use nz_base::{Memory, Work};
 use nz_cform::laws::{covers_stay, rows_name_covered};
 use nz_cform::{ClauseForm, FormStop};
 use nz_log::laws::{atoms_of_terms, logs_stay, logs_stay_leveled, tells_lits};
 use nz_log::{Atom, AtomId, ClauseId, Lit, Log, Note, Place, Site, Step, Stop, TermLit};
 use nz_reals::Reals;
+use nz_reals::laws::theories_restart;
 use nz_sat::{Held, Sat};
 use nz_spec::deciding::taken_terms_are_in_order;
 use nz_spec::derivation::tells_literals;
@@ -47,6 +48,7 @@ use nz_spec::term::operands_are_sorted;
 use nz_term::{Assign, Head, Sort, TermId, Terms, Value, known_table};
 use std::alloc::Global;
 use std::marker::Model;
+use std::mem;
 
 /// The clauses of assertions and of all that these are made of, in a log, each held by a search, at the level in which its assertion stands. What is
 /// assumed may be covered above all levels, for one check.
@@ -78,18 +80,25 @@ impl Model for Prepared {
 }
 
 impl Prepared {
-    /// No clause. Takes no memory.
-    pub fn new(alloc: Global) -> Result<Prepared, Memory>
-        ensures empty { IfOk result (λ p. p ≡ nothing_prepared) }
+    /// No clause, over a theory. Takes no memory.
+    pub fn new(alloc: Global, theory: Reals) -> Result<Prepared, Memory>
+        ensures empty { IfOk result (λ p. p ≡ nothing_prepared theory) }
     {
         Ok(Prepared {
             alloc,
             log: Log::new(alloc)?,
             form: ClauseForm::new(alloc),
-            sat: Sat::new(alloc, Reals::new(alloc)),
+            sat: Sat::new(alloc, theory),
             given: 0,
             above: false,
         })
+    }
+
+    /// Takes out the theory, and leaves one over no sum. Takes no memory.
+    pub fn take_theory(&mut self) -> Reals
+        ensures theory { result ≡ self.old.sat.theory }
+    {
+        take_theory(self.alloc, &mut self.sat)
     }
 
     /// Whether terms are covered for assumed literals alone.
@@ -108,6 +117,7 @@ impl Prepared {
         requires covers { Covers terms.now self.old.log self.old.form }
         ensures covered { OnOk result (CoversAlso terms.now self.old term level self.new) }
         ensures above { self.new.above ≡ self.old.above }
+        ensures theory { self.new.sat.theory ≡ self.old.sat.theory }
         ensures stop { IfErr result (IsTermStop terms.now (term_in terms.now term)) }
     {
         let alloc = self.alloc;
@@ -128,6 +138,7 @@ impl Prepared {
         requires covers { Covers terms.now self.old.log self.old.form }
         ensures stands { OnOk result ((levels : List (List ℕ)) → IsPlaced levels self.old.given term level → IsPrepared terms.now levels levels self.old → IsPrepared terms.now levels levels self.new) }
         ensures given { OnOk result (self.new.given ≡ suc self.old.given) }
+        ensures theory { self.new.sat.theory ≡ self.old.sat.theory }
         ensures stop { IfErr result (IsTermStop terms.now (term_in terms.now term)) }
     {
         known_table(terms);
@@ -160,6 +171,7 @@ impl Prepared {
         requires stands { IsPrepared terms.now levels.now levels.now self.old }
         ensures stands { OnOk result (IsPrepared terms.now levels.now levels.now self.new) }
         ensures all_given { OnOk result (count_of levels.now ≡ self.new.given) }
+        ensures theory { self.new.sat.theory ≡ self.old.sat.theory }
         ensures stop { IfErr result (IsRootStop terms.now (asserted_numbers levels.now)) }
     {
         while let Some(next) = levels.at(self.given) {
@@ -179,6 +191,7 @@ impl Prepared {
         ensures covered { OnOk result (IsSome (covered_at self.new.form term)) }
         ensures stays { OnOk result ((t : ℕ) → IsSome (covered_at self.old.form t) → IsSome (covered_at self.new.form t)) }
         ensures given { OnOk result (self.new.given ≡ self.old.given) }
+        ensures theory { self.new.sat.theory ≡ self.old.sat.theory }
         ensures stop { IfErr result (IsTermStop terms.now (term_in terms.now term)) }
     {
         known_table(terms);
@@ -213,6 +226,7 @@ impl Prepared {
         ensures stands { OnOk result (IsStanding terms.now levels.now (terms_named assumed.now) self.new) }
         ensures covered { OnOk result (AreCovered self.new assumed.now) }
         ensures given { OnOk result (self.new.given ≡ self.old.given) }
+        ensures theory { self.new.sat.theory ≡ self.old.sat.theory }
         ensures stop { IfErr result (IsRootStop terms.now (terms_named assumed.now)) }
     {
         let level = levels.len();
@@ -234,42 +248,50 @@ impl Prepared {
         assumed: &[TermLit],
         work: &mut Work<Note>,
     ) -> Result<Option<ClauseId>, Stop>
-        requires posed { (levels : List (List ℕ)) × IsPosed terms.now levels assumed.now self.old }
+        requires may { (levels : List (List ℕ)) × (ts : List spec.Term) × MaySearch terms.now levels assumed.now ts self.old }
         requires consistent { AreConsistent assumed.now }
         requires no_steps { work.old.lines ≡ [] }
         ensures posed { OnOk result ((levels : List (List ℕ)) → IsPosed terms.now levels assumed.now self.old → IsPosed terms.now levels assumed.now self.new) }
         ensures found { IfOk result (λ r. r ≡ None → HasFound terms.now assumed.now self.new) }
         ensures refuted { IfOk result (λ r. IfSome r (λ id. AreNegations assumed.now (literals_in self.new.log id))) }
-        ensures ends { (levels : List (List ℕ)) → IsPosed terms.now levels assumed.now self.old → Ends (IsAt self.new.sat.theory terms.now) terms.now (task_in terms.now levels assumed.now) work.new result }
+        // Where a search may begin with the theory, it goes on legally, and leads to where the theory stands then.
+        ensures ends { (levels : List (List ℕ)) (ts : List spec.Term) → MaySearch terms.now levels assumed.now ts self.old → Ends (IsAt self.new.sat.theory terms.now) terms.now (task_in terms.now levels assumed.now ts) work.new result }
         ensures works { Works terms.now work.old work.new }
         ensures spent { IfErr result (λ s. OnSpent s (IsSpent work.new)) }
         ensures excluded { OnOk result (BeganExcluded terms.now self.new) }
     {
-        search_laws();
-        let named = self.ready(terms, assumed)?;
-        let atoms: &[AtomId] = &named.atoms;
-        let literals: &[Lit] = &named.literals;
-        let theory = begun(self.alloc, &self.log, atoms, work)?;
-        self.exclude(&theory, atoms)?;
-        self.sat.theory = theory;
-        self.sat.solve(&mut self.log, atoms, literals, work)
+        let named = self.begin(terms, assumed, work)?;
+        self.sat
+            .solve(&mut self.log, &named.atoms, &named.literals, work)
     }
 
-    /// Adds the clauses for neighbouring bounds among these atoms, which a theory has learned of, and holds them. Two whose clause is held get none.
-    fn exclude(&mut self, theory: &Reals, atoms: &[AtomId]) -> Result<(), Memory>
-        requires of { IsOf theory.now self.old.log.atoms atoms.now }
-        requires held { AreHeld self.old.log self.old.sat.clauses }
-        ensures excludes { OnOk result (Excludes theory.now self.old atoms.now self.new) }
+    /// Does all that comes before a search: names its atoms, which are noted behind the forms with which the theory begins, lets the sums that they bound
+    /// join, and holds the clauses for neighbouring bounds.
+    fn begin(
+        &mut self,
+        terms: &Terms,
+        assumed: &[TermLit],
+        work: &mut Work<Note>,
+    ) -> Result<Named, Stop>
+        requires posed { (levels : List (List ℕ)) × IsPosed terms.now levels assumed.now self.old }
+        requires no_steps { work.old.lines ≡ [] }
+        ensures begun { IfOk result (λ n. IsBegun terms.now assumed.now self.old self.new n.atoms.items n.literals.items work.new) }
+        ensures stopped { IfErr result (λ e. (levels : List (List ℕ)) (ts : List spec.Term) → MaySearch terms.now levels assumed.now ts self.old → EndsWith terms.now (task_in terms.now levels assumed.now ts) work.new e) }
+        ensures works { Works terms.now work.old work.new }
+        ensures unspent { IfErr result (λ e. e ≡ stop.Spent → ⊥) }
     {
-        let held = ids_of(self.alloc, self.sat.clauses())?;
-        let exclusions = theory.exclusions(&mut self.log, atoms, &held)?;
-        hold(&mut self.sat, &self.log, &exclusions)
+        search_laws();
+        let named = self.ready(terms, assumed)?;
+        begin_anew(self.alloc, &mut self.sat, &self.log, &named.atoms, work)?;
+        exclude(self.alloc, &mut self.sat, &mut self.log, &named.atoms)?;
+        Ok(named)
     }
 
     /// Names what a search is handed, which may begin then.
     fn ready(&mut self, terms: &Terms, assumed: &[TermLit]) -> Result<Named, Memory>
         requires posed { (levels : List (List ℕ)) × IsPosed terms.now levels assumed.now self.old }
         ensures ready { IfOk result (λ n. IsReady terms.now assumed.now self.old self.new n.atoms.items n.literals.items) }
+        ensures theory { self.new.sat.theory ≡ self.old.sat.theory }
     {
         search_laws();
         logs_stay();
@@ -346,6 +368,7 @@ fn search_laws()
     covers_stay();
     forms_are_sums();
     operands_are_sorted();
+    theories_restart();
 }
 
 /// The numbers of clauses that are held.
@@ -359,10 +382,37 @@ fn ids_of(alloc: Global, held: &[Held]) -> Result<Vec<ClauseId>, Memory>
     Ok(ids)
 }
 
+/// Takes the theory out of a search, and leaves one over no sum.
+fn take_theory(alloc: Global, sat: &mut Sat<Reals>) -> Reals
+    ensures theory { result ≡ sat.old.theory }
+{
+    mem::replace(&mut sat.theory, Reals::new(alloc))
+}
+
+/// Adds the clauses for neighbouring bounds among these atoms, of which the theory has learned, and holds them. Two whose clause is held get none.
+fn exclude(
+    alloc: Global,
+    sat: &mut Sat<Reals>,
+    log: &mut Log,
+    atoms: &[AtomId],
+) -> Result<(), Memory>
+    requires of { IsOf sat.old.theory log.old.atoms atoms.now }
+    requires held { AreHeld log.old sat.old.clauses }
+    ensures excludes { OnOk result (Excludes log.old sat.old atoms.now log.new sat.new) }
+{
+    if sat.theory.knows_none() {
+        return Ok(());
+    }
+    let held = ids_of(alloc, sat.clauses())?;
+    let exclusions = sat.theory.exclusions(log, atoms, &held)?;
+    hold(sat, log, &exclusions)
+}
+
 /// Holds these clauses too.
 fn hold(sat: &mut Sat<Reals>, log: &Log, clauses: &[ClauseId]) -> Result<(), Memory>
     requires live { All (λ id. IsLive log.now id) clauses.now }
     ensures held { OnOk result (sat.new.clauses ≡ sat.old.clauses ++ map (held_of log.now) clauses.now) }
+    ensures theory { sat.new.theory ≡ sat.old.theory }
 {
     for clause in clauses {
         sat.add(log, *clause)?;
@@ -446,48 +496,79 @@ fn note_atoms(
     Ok(())
 }
 
-/// The theory over the sums that these atoms bound, which are noted.
-fn reals_of(
+/// Lets the sums that these atoms bound join a theory, which are noted.
+fn join_sums(
     alloc: Global,
+    theory: &mut Reals,
     log: &Log,
     atoms: &[AtomId],
     work: &mut Work<Note>,
-) -> Result<Reals, Stop>
-    requires learnable { AreLearnable log.now.atoms atoms.now }
-    ensures untold { IfOk result (λ r. HasTold r []) }
-    ensures of { IfOk result (λ r. IsOf r log.now.atoms atoms.now) }
-    ensures over { IfOk result (λ r. (ns : List Node) → IsTable ns → All (IsAtomAt ns log.now.atoms) atoms.now → IsOver r ns) }
+) -> Result<(), Stop>
+    requires learnable { AreLearnable theory.old log.now.atoms atoms.now }
+    requires untold { HasTold theory.old [] }
+    requires of { IsOf theory.old log.now.atoms [] }
+    ensures untold { HasTold theory.new [] }
+    ensures of { OnOk result (IsOf theory.new log.now.atoms atoms.now) }
+    ensures over { OnOk result ((ns : List Node) → IsOver theory.old ns → All (IsAtomAt ns log.now.atoms) atoms.now → IsOver theory.new ns) }
     ensures forms { NotesForms work.old work.new }
-    // Where the list knows each of the atoms by its place, and the theory of no sum stands where it leads, so does this one, where it leads then.
-    ensures stands { IfOk result (λ r. (ns : List Node) (q : Task) → IsTable ns → All (IsAtomAt ns log.now.atoms) atoms.now → AreNumbered ns log.now.atoms atoms.now work.old → Stands (IsAt empty_theory ns) ns q work.old → Stands (IsAt r ns) ns q work.new) }
-    ensures stopped { IfErr result (λ e. (ns : List Node) (q : Task) → IsTable ns → All (IsAtomAt ns log.now.atoms) atoms.now → AreNumbered ns log.now.atoms atoms.now work.old → Stands (IsAt empty_theory ns) ns q work.old → EndsWith ns q work.new e) }
+    // Where the list knows each of the atoms by its place, and the theory stands where it leads, so it does again.
+    ensures stands { OnOk result ((ns : List Node) (q : Task) → All (IsAtomAt ns log.now.atoms) atoms.now → AreNumbered ns log.now.atoms atoms.now work.old → Stands (IsAt theory.old ns) ns q work.old → Stands (IsAt theory.new ns) ns q work.new) }
+    ensures stopped { IfErr result (λ e. (ns : List Node) (q : Task) → All (IsAtomAt ns log.now.atoms) atoms.now → AreNumbered ns log.now.atoms atoms.now work.old → Stands (IsAt theory.old ns) ns q work.old → EndsWith ns q work.new e) }
     ensures unspent { IfErr result (λ e. e ≡ stop.Spent → ⊥) }
 {
     let order = joining_order(alloc, log, atoms)?;
-    let mut reals = Reals::new(alloc);
     for number in order.as_slice() {
-        reals.add_atom(log, atoms[*number], *number, work)?;
+        theory.add_atom(log, atoms[*number], *number, work)?;
     }
-    Ok(reals)
+    Ok(())
 }
 
-/// Notes these atoms, and makes the theory over the sums that they bound.
-fn begun(alloc: Global, log: &Log, atoms: &[AtomId], work: &mut Work<Note>) -> Result<Reals, Stop>
-    requires learnable { AreLearnable log.now.atoms atoms.now }
+/// Begins a theory anew, notes these atoms, and lets the sums that they bound join.
+fn begin_theory(
+    alloc: Global,
+    theory: &mut Reals,
+    log: &Log,
+    atoms: &[AtomId],
+    work: &mut Work<Note>,
+) -> Result<(), Stop>
+    requires learnable { AreLearnable theory.old log.now.atoms atoms.now }
     requires no_steps { work.old.lines ≡ [] }
-    ensures untold { IfOk result (λ r. HasTold r []) }
-    ensures of { IfOk result (λ r. IsOf r log.now.atoms atoms.now) }
-    ensures over { IfOk result (λ r. (ns : List Node) → IsTable ns → All (IsAtomAt ns log.now.atoms) atoms.now → IsOver r ns) }
-    ensures begun { HasBegun log.now.atoms atoms.now work.old work.new }
-    ensures all { OnOk result (NotesAll log.now.atoms atoms.now work.new) }
-    ensures stands { IfOk result (λ r. (ns : List Node) (q : Task) → MayBegin ns q log.now.atoms atoms.now → Stands (IsAt r ns) ns q work.new) }
-    ensures stopped { IfErr result (λ e. (ns : List Node) (q : Task) → MayBegin ns q log.now.atoms atoms.now → EndsWith ns q work.new e) }
-    ensures unspent { IfErr result (λ e. e ≡ stop.Spent → ⊥) }
+    ensures begins { BeginsAnew log.now.atoms atoms.now theory.old theory.new work.old work.new result }
 {
     tells_lits();
     tells_literals();
+    theory.restart(work)?;
     note_atoms(alloc, log, atoms, work)?;
-    reals_of(alloc, log, atoms, work)
+    join_sums(alloc, theory, log, atoms, work)
+}
+
+/// Lets sums join a theory that has none, in a planned order, before it begins anew.
+fn arrange(theory: &mut Reals, log: &Log, atoms: &[AtomId], truths: &[Lit]) -> Result<(), Memory>
+    requires learnable { AreLearnable theory.old log.now.atoms atoms.now }
+    ensures over { (ns : List Node) → IsOver theory.old ns → All (IsAtomAt ns log.now.atoms) atoms.now → IsOver theory.new ns }
+    ensures rest { (ns : List Node) (q : Task) → MayBegin theory.old ns q log.now.atoms atoms.now → MayBegin theory.new ns q log.now.atoms atoms.now }
+{
+    theory.arrange(log, atoms, truths)
+}
+
+/// Begins the theory of a search anew, notes these atoms, and lets the sums that they bound join. Where it has none yet, those are arranged first: the
+/// numbers of forms decide which exchanges are made.
+fn begin_anew(
+    alloc: Global,
+    sat: &mut Sat<Reals>,
+    log: &Log,
+    atoms: &[AtomId],
+    work: &mut Work<Note>,
+) -> Result<(), Stop>
+    requires learnable { AreLearnable sat.old.theory log.now.atoms atoms.now }
+    requires held { AreHeld log.now sat.old.clauses }
+    requires no_steps { work.old.lines ≡ [] }
+    ensures begins { BeginsAnew log.now.atoms atoms.now sat.old.theory sat.new.theory work.old work.new result }
+    ensures clauses { sat.new.clauses ≡ sat.old.clauses }
+{
+    let truths = truths_for(alloc, &sat.theory, log, atoms, sat.clauses())?;
+    arrange(&mut sat.theory, log, atoms, &truths)?;
+    begin_theory(alloc, &mut sat.theory, log, atoms, work)
 }
 
 /// The truth of a term, where it has one.

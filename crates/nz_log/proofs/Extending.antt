@@ -10,7 +10,6 @@ use Rattle.nz_spec.specs.Literal.{term_literal}
 use Rattle.nz_spec.specs.Steps.{link_step, unit_step, farkas_step, branch_step, cut_step, step_clause, IsSortedStep}
 use Rattle.nz_spec.specs.Table.{Node, IsTable, TermStays, term_in}
 use Rattle.nz_spec.specs.Term.{sort_of}
-use Rattle.nz_term.specs.Constants as sorts
 use Rattle.nz_lin.specs.declared.form.Part.{Part}
 use Rattle.nz_lin.specs.Bounds.{bounded}
 use Rattle.nz_lin.specs.Forms.{NamesUnit, parts_over}

@@ -7,7 +7,7 @@ use Rattle.std.proofs.lemmas.List.{map_push, take_more}
 use Rattle.nz_lists.proofs.Elements.{AllByRecursion-append}
 use Rattle.nz_log.specs.declared.atoms.Atom.{Atom}
 use Rattle.nz_log.specs.declared.atoms.Atom.TheVariants.{Term, AtMost}
-use Rattle.nz_log.specs.Atoms.{AreAtoms, AtomsOfTerms, HasTerm, Stay, is_of_term, term_place}
+use Rattle.nz_log.specs.Atoms.{AtomsOfTerms, HasTerm, Stay, is_of_term, term_place}
 
 -- an atom of a term is that one
 of_term : (t : ℕ) (a : Atom) → is_of_term t a ≡ true → a ≡ Term t

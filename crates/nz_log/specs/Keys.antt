@@ -1,8 +1,6 @@
 -- Which atoms are the same, as they are written, and what a hash is fed of them.
-use Rattle.std.specs.Prelude.{ℕ, Bool, true, false, ◌&&◌, ◌==◌, List, [], ◌∷◌, ◌++◌, flat_map}
+use Rattle.std.specs.Prelude.{Bool, true, false, ◌&&◌, ◌==◌, List, [], ◌∷◌, ◌++◌, flat_map}
 use Rattle.std.specs.Hash as fed
-use Rattle.std.specs.Ordering.{int_eq}
-use Rattle.nz_fractions.specs.Fraction.{Fraction}
 use Rattle.nz_spec.specs.Same.{are_same_fraction}
 use Rattle.nz_spec.specs.Term.{are_same_sort}
 use Rattle.nz_term.specs.Constants.{sort_of}

@@ -1,15 +1,33 @@
 -- What a work list of the code is, with its notes as the definitions have them: by the terms that a table has under their numbers.
-use Rattle.std.specs.Prelude.{◌<◌, List, [], ◌∷◌, length, map, ⊤}
+use Rattle.std.specs.Prelude.{◌<◌, List, [], ◌∷◌, length, map, option_map, Option, ⊤}
+use Rattle.std.specs.List.{AllByRecursion}
+use Rattle.std.specs.declared.vec.Vec.{Vec}
+use Rattle.std.specs.declared.alloc.Global.{Global}
+use Rattle.nz_spec.specs.Form as form
 use Rattle.nz_spec.specs.Gates.{holds}
+use Rattle.nz_spec.specs.Infinitesimal.{Infinitesimal}
 use Rattle.nz_spec.specs.Notes as spec
-use Rattle.nz_spec.specs.Notes.{atom_note, form_note, told_note}
+use Rattle.nz_spec.specs.Notes.{start_note, atom_note, form_note, told_note}
 use Rattle.nz_spec.specs.Table.{Node, term_in}
 use Rattle.nz_spec.specs.Work.{WorkLine, UnitLine, NoteLine, WorkList}
+use Rattle.nz_delta.specs.declared.delta.Delta.{Delta}
+use Rattle.nz_delta.specs.DeltaSpace.{infinitesimal_of}
+use Rattle.nz_lin.specs.declared.form.Part.{Part}
 use Rattle.nz_lin.specs.Bounds.{HasUnits, literal_over}
+use Rattle.nz_lin.specs.Forms.{AreUnits, parts_over}
 use Rattle.nz_log.specs.declared.note.Note.{Note}
-use Rattle.nz_log.specs.declared.note.Note.TheVariants.{Atom, Bound, Form, Told}
+use Rattle.nz_log.specs.declared.note.Note.TheVariants.{Start, Atom, Bound, Form, Told}
+
+-- the forms, over a table
+abbrev pub forms_over : List Node → List (Vec Part Global) → List (List form.Part)
+forms_over ns fs = map (λ (f : Vec Part Global). parts_over ns f.items) fs
+
+-- the places, by the numbers that they stand for
+abbrev pub places_of : List (Option Delta) → List (Option Infinitesimal)
+places_of xs = map (option_map infinitesimal_of) xs
 
 abbrev pub note_of : List Node → Note → spec.Note
+note_of ns (Start start) = start_note (forms_over ns start.forms.items) (places_of start.places.items)
 note_of ns (Atom term) = atom_note (holds (term_in ns term))
 note_of ns (Bound bound) = atom_note (literal_over ns bound)
 note_of ns (Form atom) = form_note atom
@@ -24,8 +42,13 @@ noted_line ns (NoteLine note) = NoteLine (note_of ns note)
 abbrev pub noted_list : List Node → WorkList Note → WorkList spec.Note
 noted_list ns work = record { lines = map (noted_line ns) work.lines; limit = work.limit }
 
+-- the parts of forms are units of the table
+abbrev pub AreFormsWithin : List Node → List (Vec Part Global) → Type 0
+AreFormsWithin ns fs = AllByRecursion (λ (f : Vec Part Global). AreUnits ns f.items) fs
+
 -- what a note names is in the table
 abbrev pub IsNoteWithin : List Node → Note → Type 0
+IsNoteWithin ns (Start start) = AreFormsWithin ns start.forms.items
 IsNoteWithin ns (Atom term) = term < length ns
 IsNoteWithin ns (Bound bound) = HasUnits ns bound
 IsNoteWithin ns (Form atom) = ⊤

@@ -12,7 +12,6 @@ use Rattle.nz_term.specs.declared.heads.Sort.TheVariants as sort
 use Rattle.nz_term.specs.Constants.{sort_of}
 use Rattle.nz_lin.specs.declared.bound.Bound.{Bound}
 use Rattle.nz_lin.specs.declared.form.Part.{Part}
-use Rattle.nz_lin.specs.Forms.{Numbered}
 use Rattle.nz_log.specs.declared.atoms.Atom.{Atom}
 use Rattle.nz_log.specs.declared.atoms.Atom.TheVariants.{Term, AtMost}
 use Rattle.nz_log.specs.Keys.{are_same_atom, are_same_bound, are_same_part, are_same_units}

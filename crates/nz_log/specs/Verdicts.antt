@@ -33,10 +33,12 @@ OnSpent Spent P = P
 OnSpent (Wide place) P = ⊤
 OnSpent Memory P = ⊤
 
--- What a search is asked: of the asserted terms and the assumed literals, and of all that they are made of.
-abbrev pub task_in : List Node → List (List ℕ) → List TermLit → Task
-task_in ns levels assumed = record {
+-- What a search is asked: of the asserted terms and the assumed literals, and of all that they are made of. The searches before were asked of the
+-- earlier terms.
+abbrev pub task_in : List Node → List (List ℕ) → List TermLit → List spec.Term → Task
+task_in ns levels assumed earlier = record {
   asserted = asserted_terms ns levels;
   assumed = map (literal_of ns) assumed;
   listed = flat_map listing_order (asserted_terms ns levels ++ map (λ (l : TermLit). term_in ns l.term) assumed);
+  earlier = earlier;
 }

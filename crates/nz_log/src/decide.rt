@@ -20,11 +20,12 @@ pub enum Verdict {
 
 /// A search that decides whether asserted terms and assumed literals can all be true. Terms are asserted by levels.
 pub trait Decide: Drop {
-    ghost use Rattle.std.specs.Prelude.{◌≡◌, ℕ, ◌-◌, ◌<◌, ◌≤◌, List, [], ◌∷◌, ◌++◌, length, map, take, All, Option, Some, IsSome, OnOk, OnErr, IfOk, IfErr};
+    ghost use Rattle.std.specs.Prelude.{◌≡◌, ℕ, ◌-◌, ◌<◌, ◌≤◌, List, [], ◌∷◌, ◌++◌, length, map, take, All, Contains, Option, Some, IsSome, OnOk, OnErr, IfOk, IfErr};
     ghost use Rattle.nz_spec.specs.Table.{Node, term_in, assignment_by};
+    ghost use Rattle.nz_spec.specs.Term as spec;
     ghost use Rattle.nz_spec.specs.Literal.{AreTrueLiterals};
     ghost use Rattle.nz_spec.specs.Decide.{AreInTable, asserted_numbers, with_number, asserted_terms, IsFrontOfTable, AreModelValues};
-    ghost use Rattle.nz_spec.specs.Legal.{at_first, IsDeadEnd, AreLegal};
+    ghost use Rattle.nz_spec.specs.Legal.{at_first, terms_known, IsDeadEnd, AreLegal};
     ghost use Rattle.nz_spec.specs.Order.{HasCompanions};
     ghost use Rattle.nz_spec.specs.Places.{IsStoppedLegally};
     ghost use Rattle.nz_spec.specs.Taken.{IsTakenBoolean};
@@ -46,6 +47,9 @@ pub trait Decide: Drop {
     /// The literals of the clause of a number, where it can be asked for: it is on terms alone.
     ghost clause: { Self → ℕ → Option (List TermLit) };
 
+    /// Whether the forms and the point that it keeps may be those with which a search begins that was asked of these terms before.
+    ghost begins: { Self → List spec.Term → Type 0 };
+
     /// Begins a level, in which nothing is asserted yet.
     ///
     /// # Errors
@@ -54,13 +58,15 @@ pub trait Decide: Drop {
     fn push(&mut self) -> Result<(), Memory>
         ensures ok { OnOk result (levels self.new ≡ levels self.old ++ [] ∷ []) }
         ensures err { OnErr result (levels self.new ≡ levels self.old) }
-        ensures table { table self.new ≡ table self.old };
+        ensures table { table self.new ≡ table self.old }
+        ensures begins { (ts : List spec.Term) → begins self.old ts → begins self.new ts };
 
     /// Takes the last levels off, so many of them. Takes no memory.
     fn pop(&mut self, count: usize)
         requires { count ≤ length (levels self.old) }
         ensures rest { levels self.new ≡ take (length (levels self.old) - count) (levels self.old) }
-        ensures table { table self.new ≡ table self.old };
+        ensures table { table self.new ≡ table self.old }
+        ensures begins { (ts : List spec.Term) → begins self.old ts → begins self.new ts };
 
     /// Asserts the term of this number in the last level.
     ///
@@ -71,7 +77,8 @@ pub trait Decide: Drop {
         requires { 0 < length (levels self.old) }
         ensures ok { OnOk result (levels self.new ≡ with_number (levels self.old) term) }
         ensures err { OnErr result (levels self.new ≡ levels self.old) }
-        ensures table { table self.new ≡ table self.old };
+        ensures table { table self.new ≡ table self.old }
+        ensures begins { (ts : List spec.Term) → begins self.old ts → begins self.new ts };
 
     /// Decides whether some assignment makes every asserted term and every assumed literal true. The steps go into the work list, which is to
     /// have none yet.
@@ -98,19 +105,22 @@ pub trait Decide: Drop {
         requires consistent { AreConsistent assumed.now }
         ensures sat { IfOk result (λ v. IfSat v (AreModelValues terms.now (asserted_terms terms.now (levels self.old)) [])) }
         ensures sat_assumed { IfOk result (λ v. IfSat v (λ ps. AreTrueLiterals (assignment_by terms.now ps) (map (literal_of terms.now) assumed.now))) }
-        ensures unsat { IfOk result (λ v. OnUnsat v (IsDeadEnd (task_in terms.now (levels self.old) assumed.now) at_first)) }
+        ensures unsat { IfOk result (λ v. OnUnsat v (IsDeadEnd (task_in terms.now (levels self.old) assumed.now []) at_first)) }
         ensures derived { IfOk result (λ v. IfUnsat v (λ id. AreNegations assumed.now (clause self.new id))) }
 
-        // Each step is one that a search may take there, whatever comes of it.
-        ensures legal { AreLegal (task_in terms.now (levels self.old) assumed.now) (noted_list terms.now work.new).lines }
+        // Each step is one that a search may take there which may begin with what is kept, whatever comes of it.
+        ensures legal { (ts : List spec.Term) → begins self.old ts → AreLegal (task_in terms.now (levels self.old) assumed.now ts) (noted_list terms.now work.new).lines }
         ensures named { AreNotedWithin terms.now work.new.lines }
         ensures spent { IfErr result (λ s. OnSpent s (IsSpent work.new)) }
-        ensures stopped { IfErr result (λ s. OnWide s (λ p. IsStoppedLegally (task_in terms.now (levels self.old) assumed.now) (noted_list terms.now work.new) (place_of terms.now p))) }
+        ensures stopped { IfErr result (λ s. OnWide s (λ p. (ts : List spec.Term) → begins self.old ts → IsStoppedLegally (task_in terms.now (levels self.old) assumed.now ts) (noted_list terms.now work.new) (place_of terms.now p))) }
         ensures place_within { IfErr result (λ s. OnWide s (λ p. IsSiteWithin terms.now p.site)) }
         ensures limit { work.new.limit ≡ work.old.limit }
         ensures levels { levels self.new ≡ levels self.old }
         ensures table { OnOk result (table self.new ≡ terms.now) }
-        ensures front { IsFrontOfTable (table self.new) terms.now };
+        ensures front { IsFrontOfTable (table self.new) terms.now }
+
+        // A later search may begin with what it keeps where the terms of this one are among those of the searches before.
+        ensures begins { (ts us : List spec.Term) → begins self.old ts → ((t : spec.Term) → Contains (terms_known (task_in terms.now (levels self.old) assumed.now ts)) t → Contains us t) → begins self.new us };
 
     /// The derivation of a clause from the asserted terms: steps, numbered from 0, of which the last gives it.
     ///

@@ -38,7 +38,7 @@ pub use link_rows::link_count;
 pub use lits::{AtomId, Lit};
 pub use log::Log;
 pub use multiples::Multiple;
-pub use note::Note;
+pub use note::{Note, Start};
 pub use origins::{ClauseId, Link};
 pub use place::{Place, Site};
 pub use steps::{Literal, LiteralMultiple, Step};

@@ -1,10 +1,20 @@
 //! Notes: the lines of a work list that are no units.
-use nz_lin::Bound;
+use nz_delta::Delta;
+use nz_lin::{Bound, Part};
 use nz_term::TermId;
+
+/// The forms with which a search begins, and where the nonbasic ones stand; a basic one has no place.
+#[derive(Debug, Drop)]
+pub struct Start {
+    pub forms: Vec<Vec<Part>>,
+    pub places: Vec<Option<Delta>>,
+}
 
 /// A line of a work list that is no unit. Atoms are named by their numbers in the list.
 #[derive(Debug, Drop)]
 pub enum Note {
+    /// The simplex begins with these forms, and stands at these places.
+    Start(Start),
     /// The next atom is that the Boolean term of this number is true.
     Atom(TermId),
     /// The next atom is this bound, which isn't strict.

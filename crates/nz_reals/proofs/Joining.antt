@@ -242,10 +242,10 @@ one_nonzero : is_zero (whole (pos 1)) ≡ false
 unfolding fraction_eq denominator
 one_nonzero = refl
 
-unit_sum : (p : Part) → IsFormSum (unit_of p)
+pub unit_sum : (p : Part) → IsFormSum (unit_of p)
 unit_sum p = record { nonzero = (one_nonzero, tt); straight = one_straight }
 
-unit_units : (ns : List Node) (p : Part) → NamesUnit ns p → AreUnits ns (unit_of p)
+pub unit_units : (ns : List Node) (p : Part) → NamesUnit ns p → AreUnits ns (unit_of p)
 unit_units ns p names = record { names = (names, tt); in_order = (tt, tt) }
 
 module _ (old new : Theory) (f : List Part) (v : ℕ) (may : MayAddSum old f) (joined : IsJoined old.simplex new.simplex f v) where

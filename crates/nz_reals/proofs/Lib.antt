@@ -1,4 +1,5 @@
 pub mod Adding
+pub mod Arranged
 pub mod Bounding
 pub mod Choosing
 pub mod Contradicting
@@ -14,8 +15,10 @@ pub mod Lowering
 pub mod News
 pub mod Placing
 pub mod Refuting
+pub mod Restarting
 pub mod Saying
 pub mod Standing
+pub mod Starting
 pub mod Sums
 pub mod Telling
 pub mod Tolds

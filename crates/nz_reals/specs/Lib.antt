@@ -1,3 +1,4 @@
+pub mod Arranging
 pub mod Chosen
 pub mod Exclusions
 pub mod Joins
@@ -5,6 +6,7 @@ pub mod Knowing
 pub mod Known
 pub mod Limits
 pub mod Stands
+pub mod Starts
 pub mod State
 pub mod Stored
 pub mod Sums

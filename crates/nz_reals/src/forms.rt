@@ -115,7 +115,7 @@ fn on_side(side: Side, number: Frac, infinitesimals: i64) -> Said
 }
 
 /// Whether the first coefficient is below 0.
-fn is_turned(parts: &[Part]) -> bool
+pub(crate) fn is_turned(parts: &[Part]) -> bool
     ensures turned { result ≡ is_turned parts.now }
 {
     match parts {

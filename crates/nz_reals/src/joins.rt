@@ -85,7 +85,7 @@ impl Reals {
     }
 
     /// The number of a sum among the forms. A unit alone may be missing.
-    fn find(&self, sum: &Bound) -> Result<Option<Var>, Memory>
+    pub(crate) fn find(&self, sum: &Bound) -> Result<Option<Var>, Memory>
         requires zero { sum.now ≡ zero_bound sum.now.sides.parts }
         ensures found { IfOk result (λ r. IfSome r (λ v. slice_get self.now.simplex.forms v ≡ Some sum.now.sides.parts)) }
         ensures free { result ≡ Ok None → IsFree self.now sum.now.sides.parts }
@@ -98,7 +98,7 @@ impl Reals {
     }
 
     /// Adds a sum to the forms.
-    fn join(&mut self, sum: Bound) -> Result<Var, Stop>
+    pub(crate) fn join(&mut self, sum: Bound) -> Result<Var, Stop>
         requires zero { sum ≡ zero_bound sum.sides.parts }
         requires may { MayAddSum self.old sum.sides.parts }
         requires free { IsFree self.old sum.sides.parts }

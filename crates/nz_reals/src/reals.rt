@@ -1,5 +1,5 @@
 //! Bounds on sums of units over a simplex: which the theory knows, and which it was told.
-ghost use Rattle.std.specs.Prelude.{◌≡◌, ◌<◌, ℕ, List, [], All, Contains, IfOk, IfSome, IsSome, Ok, None, length, map, Some};
+ghost use Rattle.std.specs.Prelude.{◌≡◌, ◌<◌, ℕ, List, [], All, Contains, IfOk, IfSome, IsSome, Ok, None, length, map, nat_lt, Some, true};
 ghost use Rattle.nz_log.specs.declared.atoms.Atom.{Atom};
 ghost use Rattle.nz_simplex.specs.State.{IsSound};
 ghost use Rattle.nz_reals.specs.Known.{known_of, said_by, said_of};
@@ -69,6 +69,20 @@ impl Reals {
             bounded: Vec::new(alloc),
             told: Vec::new(alloc),
         }
+    }
+
+    /// Whether nothing is known of any atom.
+    pub fn knows_none(&self) -> bool
+        ensures none { result ≡ true → (i : ℕ) → known_at self.now i ≡ None }
+    {
+        self.bounded.is_empty()
+    }
+
+    /// Whether a sum has joined.
+    pub fn has_forms(&self) -> bool
+        ensures forms { result ≡ nat_lt 0 (length self.now.simplex.forms) }
+    {
+        self.simplex.len() > 0
     }
 
     /// What is known of an atom.

@@ -1,6 +1,6 @@
 -- A theory with its log, as the log grows, as literals are told and taken back, and as it learns of an atom.
 use Rattle.std.proofs.Common.{◌≡◌, ◌≢◌, true, false, ℕ, suc, ◌<◌, ◌+◌, inl, inr, List, [], ◌∷◌, ◌++◌, length, map, take, Option, Some, None, IfSome, refl, sym, subst, ◌∙◌, arith}
-use Rattle.std.specs.Prelude.{All, Contains, IsSome, slice_index_or}
+use Rattle.std.specs.Prelude.{All, Contains, IsSome, slice_get, slice_index_or, ⊤}
 use Rattle.std.proofs.lemmas.Option.{same_Some}
 use Rattle.std.proofs.lemmas.List.{map_push}
 use Rattle.std.proofs.lemmas.List.Elements.{All-contains, All-from_recursion, All-map, All-push, All-take, All-weaker, recursion_from_All}
@@ -8,19 +8,23 @@ use Rattle.nz_lists.proofs.Members.{map_has}
 use Rattle.nz_lists.proofs.Numbers.{same_or_below}
 use Rattle.nz_spec.specs.Table.{IsTable, Node}
 use Rattle.nz_spec.specs.Term.{is_zero}
+use Rattle.nz_lin.specs.declared.bound.Bound.{Bound}
 use Rattle.nz_lin.specs.declared.form.Part.{Part}
 use Rattle.nz_lin.specs.Bounds.{HasUnits}
 use Rattle.nz_lin.specs.Forms.{NamesUnit}
-use Rattle.nz_log.specs.declared.atoms.Atom.TheVariants.{AtMost}
+use Rattle.nz_log.specs.declared.atoms.Atom.{Atom}
+use Rattle.nz_log.specs.declared.atoms.Atom.TheVariants.{Term, AtMost}
 use Rattle.nz_log.specs.declared.lits.Lit.{Lit}
 use Rattle.nz_log.specs.Atoms.{IsAtomIn, IsLitIn, Stay, terms_of, unit_numbers}
 use Rattle.nz_log.specs.Leveled.{AreTold, AreToldAtoms, Names}
 use Rattle.nz_log.specs.Logs.{IsLive, LogState, JoinsAtoms, told_of}
 use Rattle.nz_log.specs.Theories.{Grows, IsClash, told_after}
+use Rattle.nz_reals.specs.Arranging.{AreAtomsIn, MayArrange}
 use Rattle.nz_reals.specs.Joins.{IsAtomFor}
 use Rattle.nz_reals.specs.Knowing.{of_stays}
 use Rattle.nz_reals.specs.Stands.{HasTold, IsOf, IsOver}
 use Rattle.nz_reals.specs.State.{Theory, empty_theory, told_lits}
+use Rattle.nz_reals.specs.Sums.{AreNonzero}
 use Rattle.nz_reals_tests.specs.Systems.{AreAllPlaced, IsInOrder, IsSum}
 
 -- ---- The log
@@ -59,10 +63,18 @@ module _ (old new : LogState) (same : new.told ≡ old.told) (stay : Stay old.at
   still_levels : (ids : List ℕ) → AreToldAtoms old ids → AreToldAtoms new ids
   still_levels ids there = All-weaker (Names (Told old) old.atoms) (Names (Told new) new.atoms) still_named (map on ids) there
 
+  still_within : (ns : List Node) (ids : List ℕ) → AreAtomsIn ns old.atoms ids → AreAtomsIn ns new.atoms ids
+  still_within ns ids there = All-weaker (λ (i : ℕ). IsLitIn ns old.atoms (on i)) (λ (i : ℕ). IsLitIn ns new.atoms (on i)) (λ i l. record { atom = l.atom; at = stay i l.atom l.at; within = l.within }) ids there
+
+  still_sums : (ids : List ℕ) → All (IsSum old) ids → All (IsSum new) ids
+  still_sums ids there = All-weaker (IsSum old) (IsSum new) (λ i s. record { bound = s.bound; at = stay i (AtMost s.bound) s.at; nonzero = s.nonzero }) ids there
+
   order_stays : (ns : List Node) (t : Theory) (ids : List ℕ) → IsInOrder ns old t ids → IsInOrder ns new t ids
   order_stays ns t ids h = record {
     over = h.over;
     of = of_stays t old.atoms new.atoms ids h.of stay;
+    within = still_within ns ids h.within;
+    sums = still_sums ids h.sums;
     placed = λ u inside. told_alike u (h.placed u inside);
     levels = still_levels ids h.levels;
     told = h.told;
@@ -93,6 +105,8 @@ order_told ns old new t u ids ls h grows over of told among =
     let before : IsInOrder ns old u ids = record {
       over = over;
       of = of;
+      within = h.within;
+      sums = h.sums;
       placed = h.placed;
       levels = h.levels;
       told = subst (AreOn ids) (sym told) among;
@@ -110,6 +124,8 @@ pub order_undone : (ns : List Node) (log : LogState) (t u : Theory) (ids : List 
 order_undone ns log t u ids mark h over of told = record {
   over = over;
   of = of;
+  within = h.within;
+  sums = h.sums;
   placed = h.placed;
   levels = h.levels;
   told = subst (AreOn ids) (sym told) (All-take (λ (l : Lit). Contains ids l.atom) mark (told_lits t) h.told);
@@ -122,20 +138,46 @@ clash_live log ls (Some id) h = h.live
 
 -- ---- Atoms
 
+-- no atom, so each is as is wanted
+none_so : (P : ℕ → Type 0) → All P []
+none_so P = All-from_recursion P [] tt
+
 none_told : (ids : List ℕ) → AreOn ids []
 none_told ids = All-from_recursion (λ (l : Lit). Contains ids l.atom) [] tt
+
+-- a theory over no sum is over each table
+pub over_empty : (ns : List Node) (t : Theory) → t ≡ empty_theory → IsTable ns → IsOver t ns
+over_empty ns t empty table =
+    let start : IsOver empty_theory ns = record { table = table; units = tt } in
+    subst (λ (s : Theory). IsOver s ns) (sym empty) start
 
 -- the theory knows of no atom
 pub order_empty : (ns : List Node) (log : LogState) (t : Theory) (ids : List ℕ) → t ≡ empty_theory → ids ≡ [] → IsTable ns → AreAllPlaced ns log → IsOf t log.atoms [] → IsInOrder ns log t ids
 order_empty ns log t ids empty none table placed of =
     let start : IsInOrder ns log empty_theory [] = record {
-      over = record { table = table; units = tt };
+      over = over_empty ns empty_theory refl table;
       of = subst (λ (s : Theory). IsOf s log.atoms []) empty of;
+      within = none_so (λ (i : ℕ). IsLitIn ns log.atoms (on i));
+      sums = none_so (IsSum log);
       placed = placed;
       levels = All-from_recursion (Names (Told log) log.atoms) [] tt;
       told = none_told [];
     } in
     subst (λ (s : Theory). IsInOrder ns log s ids) (sym empty) (subst (IsInOrder ns log empty_theory) (sym none) start)
+
+-- it was told nothing, and knows of no atom, and its forms are as they were
+pub order_restarted : (ns : List Node) (log : LogState) (t u : Theory) (ids none : List ℕ) → IsInOrder ns log t ids → none ≡ [] → IsOver u ns → IsOf u log.atoms [] → HasTold u [] → IsInOrder ns log u none
+order_restarted ns log t u ids none h empty over of told =
+    subst (IsInOrder ns log u) (sym empty)
+    (record {
+      over = over;
+      of = of;
+      within = none_so (λ (i : ℕ). IsLitIn ns log.atoms (on i));
+      sums = none_so (IsSum log);
+      placed = h.placed;
+      levels = All-from_recursion (Names (Told log) log.atoms) [] tt;
+      told = subst (All (λ (l : Lit). Contains [] l.atom)) (sym told) (none_told []);
+    })
 
 -- no literal was told where so many were
 pub untold : (t : Theory) → length (told_lits t) ≡ 0 → HasTold t []
@@ -144,6 +186,24 @@ untold t none = empty_list (told_lits t) none
     empty_list : (ls : List Lit) → length ls ≡ 0 → ls ≡ []
     empty_list [] e = refl
     empty_list (l ∷ ls) e = absurd (omega (arith, e))
+
+-- no coefficient of the bound that an atom is is 0
+abbrev IsNonzero : Atom → Type 0
+IsNonzero (Term t) = ⊤
+IsNonzero (AtMost b) = AreNonzero b.sides.parts
+
+bound_nonzero : (log : LogState) (i : ℕ) → IsSum log i → (b : Bound) → slice_get log.atoms i ≡ Some (AtMost b) → AreNonzero b.sides.parts
+bound_nonzero log i s b at = subst IsNonzero (same_Some (AtMost s.bound) (AtMost b) (sym s.at ∙ at)) (recursion_from_All (λ (p : Part). is_zero p.coefficient ≡ false) s.bound.sides.parts s.nonzero)
+
+-- Over the atoms of a system another theory may be arranged.
+pub may_arrange : (ns : List Node) (log : LogState) (t : Theory) (ids : List ℕ) → IsInOrder ns log t ids → MayArrange log.atoms ids
+may_arrange ns log t ids h =
+    record {
+      table = ns;
+      is_table = h.over.table;
+      within = h.within;
+      nonzero = All-weaker (IsSum log) (λ (i : ℕ). (b : Bound) → slice_get log.atoms i ≡ Some (AtMost b) → AreNonzero b.sides.parts) (bound_nonzero log) ids h.sums;
+    }
 
 -- Of a bound over the table the theory may learn.
 module _ (ns : List Node) (log : LogState) (l : Lit) (within : IsLitIn ns log.atoms l) (sum : IsSum log l.atom) where
@@ -185,6 +245,8 @@ module _ (ns : List Node) (log : LogState) (l : Lit) (within : IsLitIn ns log.at
       let all : IsInOrder ns log u ids' = record {
         over = over;
         of = of;
+        within = All-push (λ (i : ℕ). IsLitIn ns log.atoms (on i)) ids l.atom h.within sum_within;
+        sums = All-push (IsSum log) ids l.atom h.sums sum;
         placed = h.placed;
         levels = subst (All (Names (Told log) log.atoms)) (sym (map_push on ids l.atom)) (All-push (Names (Told log) log.atoms) (map on ids) (on l.atom) h.levels (named h.placed));
         told = subst (AreOn ids') (sym told) (none_told ids');

@@ -26,6 +26,10 @@ pub enum Act {
     Told(usize),
     /// It takes back all but so many literals.
     Undo(usize),
+    /// It begins anew over its forms, and learns of the same bounds.
+    Restart,
+    /// It begins anew over forms that are arranged where these are true from the start, and learns of the same bounds.
+    Arrange(&'static [Number]),
     /// Where the first so many clauses for neighbouring bounds are held, those are added by which just these aren't true together.
     Excludes(usize, &'static [&'static [Number]]),
 }
@@ -102,6 +106,13 @@ fn clashes(alloc: Global, system: &mut System, numbers: &[Number]) -> Result<boo
     Ok(is_refuted(alloc, system, clause, numbers)?)
 }
 
+/// Lets a theory begin anew over forms that are arranged where the literals of these numbers are true from the start.
+fn arrange(alloc: Global, system: &mut System, numbers: &[Number]) -> Result<bool, Fail> {
+    let truths = literals(alloc, system, numbers)?;
+    system.arrange(&truths)?;
+    Ok(true)
+}
+
 /// Whether the clauses for neighbouring bounds that are added, where the first so many are held, are just that these aren't true together, in this order.
 fn excludes(
     alloc: Global,
@@ -136,6 +147,11 @@ fn is_done(alloc: Global, system: &mut System, act: &Act) -> Result<bool, Fail> 
             system.undo(*mark);
             Ok(true)
         }
+        Act::Restart => {
+            system.restart()?;
+            Ok(true)
+        }
+        Act::Arrange(numbers) => arrange(alloc, system, numbers),
         Act::Excludes(held, pairs) => excludes(alloc, system, *held, pairs),
     }
 }

@@ -77,6 +77,72 @@ fn a_bound_is_refused(rt: HostRuntime) -> Result<(), Fail> {
     run(rt.alloc(), ROWS, REFUSED)
 }
 
+// Forms and point stay, and no bound does: what was true of the same bounds is so again.
+const RESTARTED: &[Act] = &[
+    Act::Tell(5),
+    Act::Tell(10),
+    Act::Feasible(&[5, 10, -11]),
+    Act::Restart,
+    Act::Told(0),
+    Act::Tell(6),
+    Act::Feasible(&[6, -5]),
+    Act::Restart,
+    Act::Tell(7),
+    Act::Tell(1),
+    Act::Tell(2),
+    Act::Tell(3),
+    Act::Clash(&[1, 2, 3]),
+    Act::Restart,
+    Act::Tell(7),
+    Act::Tell(1),
+    Act::Tell(2),
+    Act::Feasible(&[7, 1, 2, 8]),
+];
+
+#[test]
+fn a_theory_begins_anew_over_its_forms(rt: HostRuntime) -> Result<(), Fail> {
+    run(rt.alloc(), ROWS, RESTARTED)
+}
+
+const BROKEN: &[Row] = &[
+    Row([-1, -1, 0], -2), // 1: x + y >= 2
+    Row([0, -1, -1], -3), // 2: y + z >= 3
+    Row([-1, 0, -1], -1), // 3: x + z >= 1
+    Row([1, 1, 1], 2), // 4: x + y + z <= 2
+    Row([1, 1, 1], 3), // 5: x + y + z <= 3
+];
+
+// At 0, where each unit begins, 1, 2 and 3 are false. Half of their sum is x + y + z >= 3.
+const ARRANGED: &[Act] = &[
+    Act::Arrange(&[1, 2, 3]),
+    Act::Told(0),
+    Act::Tell(1),
+    Act::Tell(2),
+    Act::Tell(3),
+    Act::Feasible(&[1, 2, 3, -4]),
+    Act::Tell(5),
+    Act::Feasible(&[1, 2, 3, -4, 5]),
+    Act::Tell(4),
+    Act::Clash(&[1, 2, 3, 4]),
+    // The theory that comes then has other forms first, and says the same.
+    Act::Arrange(&[1, -3, -5]),
+    Act::Told(0),
+    Act::Tell(1),
+    Act::Tell(-3),
+    Act::Tell(-5),
+    Act::Feasible(&[1, -3, -4, -5]),
+    Act::Undo(1),
+    Act::Tell(2),
+    Act::Tell(3),
+    Act::Tell(4),
+    Act::Clash(&[1, 2, 3, 4]),
+];
+
+#[test]
+fn a_theory_begins_anew_over_arranged_forms(rt: HostRuntime) -> Result<(), Fail> {
+    run(rt.alloc(), BROKEN, ARRANGED)
+}
+
 // Lower bounds of x, the weakest first: above 1, at least 2, above 5; of x - z: above 0, at least 1.
 const NEIGHBOURS: &[Act] = &[
     Act::Excludes(0, &[&[5, 6], &[-9, -5], &[3, 8]]),

@@ -1,6 +1,6 @@
 //! A theory with the log and the terms that it speaks of. What a call asks of its arguments is tested here, so that the tests have nothing to prove: the
 //! system's invariant is known to no other file.
-ghost use Rattle.std.specs.Prelude.{◌≡◌, ◌<◌, ℕ, All, IfOk, IfSome, IsSome, OnOk, false};
+ghost use Rattle.std.specs.Prelude.{◌≡◌, ◌<◌, ℕ, [], All, IfOk, IfSome, IsSome, OnOk, false};
 ghost use Rattle.std.specs.Bool.{OnTrue};
 ghost use Rattle.nz_spec.specs.Term.{is_zero};
 ghost use Rattle.nz_lin.specs.Bounds.{HasUnits};
@@ -33,6 +33,8 @@ pub struct System {
     log: Log,
     reals: Reals,
     atoms: Vec<AtomId>,
+    // The sums that are bounded, and by which number each.
+    bounds: Vec<(TermId, i64)>,
     // What a failed call was about to do isn't known, so no other follows it.
     known: bool,
 }
@@ -57,14 +59,14 @@ impl System {
     /// The theory that learned of these bounds, in their order.
     pub fn over(alloc: Global, rows: &[Row]) -> Result<System, Fail> {
         let mut terms = Terms::new(alloc)?;
-        let sums = sums_of(alloc, &mut terms, rows)?;
-        let mut system = System::new(alloc, terms)?;
-        system.learn_all(&sums, rows)?;
+        let bounds = bounds_of(alloc, &mut terms, rows)?;
+        let mut system = System::new(alloc, terms, bounds)?;
+        system.learn_all()?;
         Ok(system)
     }
 
-    /// The theory that knows of no bound, over these terms.
-    fn new(alloc: Global, terms: Terms) -> Result<System, Memory> {
+    /// The theory that knows of no bound yet, over these terms.
+    fn new(alloc: Global, terms: Terms, bounds: Vec<(TermId, i64)>) -> Result<System, Memory> {
         known_table(&terms);
         let mut log = Log::new(alloc)?;
         place_all(&mut log, terms.len())?;
@@ -74,16 +76,50 @@ impl System {
             log,
             reals: Reals::new(alloc),
             atoms: Vec::new(alloc),
+            bounds,
             known: true,
         })
     }
 
-    /// Learns that these sums are at most the numbers of these rows.
-    fn learn_all(&mut self, sums: &[TermId], rows: &[Row]) -> Result<(), Fail> {
-        for (sum, row) in sums.iter().zip(rows) {
-            self.learn(*sum, row.1)?;
+    /// Learns of all bounds.
+    fn learn_all(&mut self) -> Result<(), Fail> {
+        let bounds = Vec::from_slice(self.alloc, &self.bounds)?;
+        for (sum, limit) in &bounds {
+            self.learn(*sum, *limit)?;
         }
         Ok(())
+    }
+
+    /// Begins anew over the forms that are there, and learns of all bounds again.
+    pub fn restart(&mut self) -> Result<(), Fail> {
+        if !self.known {
+            return Err(failed());
+        }
+        self.known = false;
+        let mut work = Work::new(self.alloc)?;
+        self.reals.restart(&mut work)?;
+        self.atoms.clear();
+        self.known = true;
+        self.learn_all()
+    }
+
+    /// Begins anew over forms that are arranged where these literals are true from the start, and learns of all bounds again.
+    pub fn arrange(&mut self, truths: &[Lit]) -> Result<(), Fail> {
+        if !self.known {
+            return Err(failed());
+        }
+        self.known = false;
+        arrange(
+            self.alloc,
+            &self.terms,
+            &self.log,
+            &mut self.reals,
+            &self.atoms,
+            truths,
+        )?;
+        self.atoms.clear();
+        self.known = true;
+        self.learn_all()
     }
 
     /// Learns that a term is at most a number.
@@ -180,18 +216,18 @@ impl System {
     }
 }
 
-/// The sums of multiples of the three units, one a row.
-fn sums_of(alloc: Global, terms: &mut Terms, rows: &[Row]) -> Result<Vec<TermId>, Memory> {
+/// The sums of multiples of the three units, one a row, each with its number.
+fn bounds_of(alloc: Global, terms: &mut Terms, rows: &[Row]) -> Result<Vec<(TermId, i64)>, Memory> {
     let units = [
         constant(alloc, terms, b"x", Sort::Real)?,
         constant(alloc, terms, b"y", Sort::Real)?,
         constant(alloc, terms, b"z", Sort::Real)?,
     ];
-    let mut sums = Vec::new(alloc);
+    let mut bounds = Vec::new(alloc);
     for row in rows {
-        sums.push(sum_of(alloc, terms, &units, &row.0)?)?;
+        bounds.push((sum_of(alloc, terms, &units, &row.0)?, row.1))?;
     }
-    Ok(sums)
+    Ok(bounds)
 }
 
 /// The sum of multiples of units.
@@ -228,6 +264,26 @@ fn bound_on(alloc: Global, terms: &Terms, term: TermId, limit: i64) -> Result<Bo
     }
     let form = lin(alloc, terms, term)?;
     Ok(Bound::at_most_zero(form).with_limit(Frac::whole(limit)))
+}
+
+/// Puts a new theory in place of one, arranged over the atoms that this one knows, where these literals are true from the start. It knows of no atom.
+fn arrange(
+    alloc: Global,
+    terms: &Terms,
+    log: &Log,
+    reals: &mut Reals,
+    atoms: &[AtomId],
+    truths: &[Lit],
+) -> Result<(), Memory>
+    requires order { IsInOrder terms.now log.now reals.old atoms.now }
+    ensures order { OnOk result (IsInOrder terms.now log.now reals.new []) }
+{
+    terms.len();
+    *reals = Reals::new(alloc);
+    reals.arrange(log, atoms, truths)?;
+    let mut work = Work::new(alloc)?;
+    reals.restart(&mut work)?;
+    Ok(())
 }
 
 /// Learns of a bound, before the theory is told anything.

@@ -3,10 +3,12 @@ use Rattle.std.proofs.Common.{◌≡◌, ℕ, ◌+◌, ◌<◌, List, [], ◌∷
 use Rattle.std.proofs.lemmas.List.{length-append}
 use Rattle.std.specs.List.{AllByRecursion}
 use Rattle.std.specs.Prelude.{map}
+use Rattle.std.specs.declared.vec.Vec.{Vec}
+use Rattle.std.specs.declared.alloc.Global.{Global}
 use Rattle.nz_spec.specs.Farkas as farkas
 use Rattle.nz_spec.specs.Gates.{holds}
 use Rattle.nz_spec.specs.Notes as notes
-use Rattle.nz_spec.specs.Notes.{atom_note, term_site, sum_site}
+use Rattle.nz_spec.specs.Notes.{start_note, atom_note, term_site, sum_site}
 use Rattle.nz_spec.specs.Table.{Node, TermStays}
 use Rattle.nz_spec.specs.Term.{sort_of}
 use Rattle.nz_spec.specs.Work.{WorkLine, UnitLine, NoteLine, WorkList}
@@ -17,14 +19,14 @@ use Rattle.nz_lin.specs.declared.bound.Bound.{Bound}
 use Rattle.nz_lin.specs.declared.bound.Multiple.{Multiple}
 use Rattle.nz_lin.specs.declared.form.Part.{Part}
 use Rattle.nz_lin.specs.Bounds.{bounded, literal_over, multiples_over, HasUnits}
-use Rattle.nz_lin.specs.Forms.{NamesUnit, parts_over}
+use Rattle.nz_lin.specs.Forms.{AreUnits, NamesUnit, parts_over}
 use Rattle.nz_sexpr.specs.Packed.{packed_heard_view}
 use Rattle.nz_log.specs.declared.note.Note.{Note}
 use Rattle.nz_log.specs.declared.note.Note.TheVariants as note
 use Rattle.nz_log.specs.declared.place.Place.{Place}
 use Rattle.nz_log.specs.declared.place.Site.{Site}
 use Rattle.nz_log.specs.declared.place.Site.TheVariants as site
-use Rattle.nz_log.specs.Notes.{note_of, noted_line, IsNoteWithin, AreNotedWithin}
+use Rattle.nz_log.specs.Notes.{forms_over, places_of, note_of, noted_line, AreFormsWithin, IsNoteWithin, AreNotedWithin}
 use Rattle.nz_log.specs.Places.{site_of, place_of, IsSiteWithin}
 use Rattle.nz_reply.specs.declared.reply.Cause.{Cause}
 use Rattle.nz_reply.specs.declared.reply.Cause.TheVariants as cause
@@ -46,8 +48,11 @@ module _ (stays : TermStays) (ns more : List Node) where
   parts_stay [] h = refl
   parts_stay (p ∷ ps) h = λ i. record { coefficient = p.coefficient; unit = stays ns more p.unit h.0.0 i } ∷ parts_stay ps h.1 i
 
+  units_wider : (ps : List Part) → AreUnits ns ps → AreUnits (ns ++ more) ps
+  units_wider ps h = record { names = parts_wider ps h.names; in_order = h.in_order }
+
   bound_wider : (b : Bound) → HasUnits ns b → HasUnits (ns ++ more) b
-  bound_wider b h = record { names = parts_wider b.sides.parts h.names; in_order = h.in_order }
+  bound_wider b h = units_wider b.sides.parts h
 
   bound_stays : (b : Bound) → HasUnits ns b → literal_over (ns ++ more) b ≡ literal_over ns b
   bound_stays b h = ap (λ ps. bounded b.strict ps b.sides.offset) (parts_stay b.sides.parts h.names)
@@ -64,13 +69,23 @@ module _ (stays : TermStays) (ns more : List Node) where
 
   -- ---- Notes
 
+  forms_wider : (fs : List (Vec Part Global)) → AreFormsWithin ns fs → AreFormsWithin (ns ++ more) fs
+  forms_wider [] h = tt
+  forms_wider (f ∷ fs) h = (units_wider f.items h.0, forms_wider fs h.1)
+
+  forms_stay : (fs : List (Vec Part Global)) → AreFormsWithin ns fs → forms_over (ns ++ more) fs ≡ forms_over ns fs
+  forms_stay [] h = refl
+  forms_stay (f ∷ fs) h = λ i. parts_stay f.items h.0.names i ∷ forms_stay fs h.1 i
+
   note_within : (n : Note) → IsNoteWithin ns n → IsNoteWithin (ns ++ more) n
+  note_within (note.Start start) h = forms_wider start.forms.items h
   note_within (note.Atom t) h = wider t h
   note_within (note.Bound b) h = bound_wider b h
   note_within (note.Form atom) h = tt
   note_within (note.Told atom sign) h = tt
 
   note_stays : (n : Note) → IsNoteWithin ns n → note_of (ns ++ more) n ≡ note_of ns n
+  note_stays (note.Start start) h = ap (λ fs. start_note fs (places_of start.places.items)) (forms_stay start.forms.items h)
   note_stays (note.Atom t) h = ap (λ u. atom_note (holds u)) (stays ns more t h)
   note_stays (note.Bound b) h = ap atom_note (bound_stays b h)
   note_stays (note.Form atom) h = refl

@@ -12,6 +12,7 @@ use Rattle.nz_spec.specs.Error.{out_of_memory}
 use Rattle.nz_spec.specs.Reply.{reply_text, error}
 use Rattle.nz_spec.specs.Right.{after}
 use Rattle.nz_spec.specs.Table.{Node}
+use Rattle.nz_spec.specs.Term.{Term}
 use Rattle.nz_spec.specs.Transcript.{Kept, GoesOn, EndsByExit, things_of, texts_of}
 use Rattle.nz_spec.specs.Run.{buffer_size, IsAnswered, IsBrokenOff, IsCutShort, IsInterrupted, TookMany}
 use Rattle.nz_session.specs.declared.session.Session.{Session}
@@ -66,8 +67,8 @@ incomplete read old new more told goes kept ends heard alike complete =
 
 -- ---- The run
 
-module _ {E : Type 0} (levels : E → List (List ℕ)) (table : E → List Node) (limit : ℕ) (session : Session E) (first left held now : Option (List ℕ)) (count : ℕ)
-    (reading : IsReading levels table limit session first left held now count) where
+module _ {E : Type 0} (levels : E → List (List ℕ)) (table : E → List Node) (begins : E → List Term → Type 0) (limit : ℕ) (session : Session E) (first left held now : Option (List ℕ)) (count : ℕ)
+    (reading : IsReading levels table begins limit session first left held now count) where
   -- fewer than 2^32 reads bring fewer than 2^64 bytes, whatever one more brings
   pub is_short : count ≤ 2 ^ 32 → IsShort reading.read
   is_short few = let short : length reading.read ≤ 4096 * count = reading.short in omega (arith, short, few)
@@ -183,7 +184,7 @@ module _ {E : Type 0} (levels : E → List (List ℕ)) (table : E → List Node)
       fed_broken n = broken (reading.read ++ piece) consumes_more false (λ h. absurd (true≢false (sym h))) (is_short_more few piece small) n
 
   pub reads_more : (next : Session E) (after later : Option (List ℕ)) (piece : List ℕ) → Consumes left after piece → 0 < length piece → length piece ≤ buffer_size
-      → Serves levels table limit next (reading.read ++ piece) → Writes (kept_by session) (kept_by next) now later → IsReading levels table limit next first after held later (count + 1)
+      → Serves levels table begins limit next (reading.read ++ piece) → Writes (kept_by session) (kept_by next) now later → IsReading levels table begins limit next first after held later (count + 1)
   reads_more next after later piece d some small serves writes =
       let all : length (reading.read ++ piece) ≡ length reading.read + length piece = length-append reading.read piece in
       let long : count ≤ length reading.read = reading.long in
@@ -200,9 +201,9 @@ module _ {E : Type 0} (levels : E → List (List ℕ)) (table : E → List Node)
 -- ---- The beginning
 
 -- a session that has read nothing
-pub begins : {E : Type 0} (levels : E → List (List ℕ)) (table : E → List Node) (limit : ℕ) (session : Session E) (first held : Option (List ℕ)) → Serves levels table limit session [] → kept_by session ≡ []
-    → IsReading levels table limit session first first held held 0
-begins levels table limit session first held serves nothing = record {
+pub reading_begins : {E : Type 0} (levels : E → List (List ℕ)) (table : E → List Node) (begins : E → List Term → Type 0) (limit : ℕ) (session : Session E) (first held : Option (List ℕ)) → Serves levels table begins limit session [] → kept_by session ≡ []
+    → IsReading levels table begins limit session first first held held 0
+reading_begins levels table begins limit session first held serves nothing = record {
   read = [];
   taken = Consumes-nil first;
   long = omega arith;

@@ -2,6 +2,7 @@
 use Rattle.std.specs.Prelude.{ℕ, ◌≤◌, ◌*◌, List, length, Option}
 use Rattle.std.specs.Io.KnownBytes.{Appends, Consumes}
 use Rattle.nz_spec.specs.Table.{Node}
+use Rattle.nz_spec.specs.Term.{Term}
 use Rattle.nz_spec.specs.Transcript.{texts_of}
 use Rattle.nz_spec.specs.Run.{buffer_size}
 use Rattle.nz_session.specs.declared.session.Session.{Session}
@@ -9,10 +10,10 @@ use Rattle.nz_session.specs.Serve.{Serves, kept_by}
 
 -- So many reads were made, each of a byte or more; the session has answered what is complete in the bytes read, and its
 -- replies were written.
-pub record IsReading {E : Type 0} (levels : E → List (List ℕ)) (table : E → List Node) (limit : ℕ) (session : Session E) (first left held now : Option (List ℕ)) (count : ℕ) : Type 0 where
+pub record IsReading {E : Type 0} (levels : E → List (List ℕ)) (table : E → List Node) (begins : E → List Term → Type 0) (limit : ℕ) (session : Session E) (first left held now : Option (List ℕ)) (count : ℕ) : Type 0 where
   pub read : List ℕ
   pub taken : Consumes first left read
   pub long : count ≤ length read
   pub short : length read ≤ buffer_size * count
-  pub serves : Serves levels table limit session read
+  pub serves : Serves levels table begins limit session read
   pub written : Appends held now (texts_of (kept_by session))

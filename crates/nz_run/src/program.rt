@@ -78,9 +78,9 @@ fn read_once<E: Decide, S: Source, K: Sink>(
     out: &mut K,
     buffer: &mut [u8; BUFFER],
 ) -> Option<End>
-    requires { (limit : ℕ) × (first : Option (List ℕ)) × (held : Option (List ℕ)) × (count : ℕ) × IsReading E.levels E.table limit session.old first (S.left input.old) held (K.held out.old) count × (count < 2 ^ 32) }
-    ensures going { IfNone result ((limit : ℕ) (first : Option (List ℕ)) (held : Option (List ℕ)) (count : ℕ) → count < 2 ^ 32 → IsReading E.levels E.table limit session.old first (S.left input.old) held (K.held out.old) count → IsReading E.levels E.table limit session.new first (S.left input.new) held (K.held out.new) (count + 1)) }
-    ensures ended { IfSome result (λ end. (limit : ℕ) (first : Option (List ℕ)) (held : Option (List ℕ)) (count : ℕ) → count < 2 ^ 32 → IsReading E.levels E.table limit session.old first (S.left input.old) held (K.held out.old) count → EndsAs end limit first (S.left input.new) held (K.held out.new) (kept_by session.new)) }
+    requires { (limit : ℕ) × (first : Option (List ℕ)) × (held : Option (List ℕ)) × (count : ℕ) × IsReading E.levels E.table E.begins limit session.old first (S.left input.old) held (K.held out.old) count × (count < 2 ^ 32) }
+    ensures going { IfNone result ((limit : ℕ) (first : Option (List ℕ)) (held : Option (List ℕ)) (count : ℕ) → count < 2 ^ 32 → IsReading E.levels E.table E.begins limit session.old first (S.left input.old) held (K.held out.old) count → IsReading E.levels E.table E.begins limit session.new first (S.left input.new) held (K.held out.new) (count + 1)) }
+    ensures ended { IfSome result (λ end. (limit : ℕ) (first : Option (List ℕ)) (held : Option (List ℕ)) (count : ℕ) → count < 2 ^ 32 → IsReading E.levels E.table E.begins limit session.old first (S.left input.old) held (K.held out.old) count → EndsAs end limit first (S.left input.new) held (K.held out.new) (kept_by session.new)) }
     ensures in_time { IfSome result (λ end. end ≡ End.Reads → ⊥) }
     ensures input_faults { S.faults input.new ≡ counted S.last (reads_fail result) (S.faults input.old) }
     ensures output_faults { K.faults out.new ≡ counted K.last (writes_fail result) (K.faults out.old) }
@@ -108,8 +108,8 @@ fn read_once<E: Decide, S: Source, K: Sink>(
 
 /// Reads, and answers, to the end.
 fn serve<E: Decide, S: Source, K: Sink>(session: &mut Session<E>, input: &mut S, out: &mut K) -> End
-    requires start { (limit : ℕ) × IsReading E.levels E.table limit session.old (S.left input.old) (S.left input.old) (K.held out.old) (K.held out.old) 0 }
-    ensures ended { (limit : ℕ) → IsReading E.levels E.table limit session.old (S.left input.old) (S.left input.old) (K.held out.old) (K.held out.old) 0 → EndsAs result limit (S.left input.old) (S.left input.new) (K.held out.old) (K.held out.new) (kept_by session.new) }
+    requires start { (limit : ℕ) × IsReading E.levels E.table E.begins limit session.old (S.left input.old) (S.left input.old) (K.held out.old) (K.held out.old) 0 }
+    ensures ended { (limit : ℕ) → IsReading E.levels E.table E.begins limit session.old (S.left input.old) (S.left input.old) (K.held out.old) (K.held out.old) 0 → EndsAs result limit (S.left input.old) (S.left input.new) (K.held out.old) (K.held out.new) (kept_by session.new) }
     ensures reads { result ≡ End.Reads → TookMany (S.left input.old) (S.left input.new) (2 ^ 32) }
     ensures input_faults { S.faults input.new ≡ counted S.last (ends_by_read result) (S.faults input.old) }
     ensures output_faults { K.faults out.new ≡ counted K.last (ends_by_write result) (K.faults out.old) }

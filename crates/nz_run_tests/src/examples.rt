@@ -31,9 +31,9 @@ const EXAMPLES: &[Example] = &[
             (check-sat)\n",
         replies: b"sat\n\
             (\n\
-            (define-fun a () Real (- 2.0))\n\
-            (define-fun b () Real (- 1.0))\n\
-            (define-fun c () Real 0.0)\n\
+            (define-fun a () Real (- 1.0))\n\
+            (define-fun b () Real 0.0)\n\
+            (define-fun c () Real 1.0)\n\
             )\n\
             unsat\n",
     },

@@ -1,5 +1,6 @@
 //! Of `nz_session`: each public call of the session once on its happy path, and a check that finds no memory.
-ghost use Rattle.std.specs.Prelude.{◌≡◌, []};
+ghost use Rattle.std.specs.Prelude.{◌≡◌, List, []};
+ghost use Rattle.nz_spec.specs.Term.{Term};
 
 use crate::checks::{holds, is};
 use crate::run::{ROOM, sink_is, sink_with};
@@ -8,6 +9,7 @@ use nz_engine::Engine;
 use nz_log::{ClauseId, Decide, Note, Step, Stop, TermLit, Verdict};
 use nz_reply::{Journal, Reply};
 use nz_session::{Fed, Session};
+use nz_spec::work::more_terms_may_begin;
 use nz_term::{TermId, Terms};
 use std::alloc::{AllocError, Global};
 use std::process::Abort;
@@ -27,13 +29,15 @@ struct OnceOnly {
 }
 
 impl Decide for OnceOnly {
-    ghost use Rattle.nz_engine.specs.Engines.{clause_at};
+    ghost use Rattle.nz_engine.specs.Engines.{Begins, clause_at};
 
     ghost levels = { λ e. e.engine.levels };
 
     ghost table = { λ e. e.engine.table };
 
     ghost clause = { λ e id. clause_at e.engine id };
+
+    ghost begins = { λ e ts. Begins e.engine ts };
 
     fn push(&mut self) -> Result<(), Memory> {
         self.engine.push()
@@ -54,6 +58,7 @@ impl Decide for OnceOnly {
         work: &mut Work<Note>,
     ) -> Result<Verdict, Stop> {
         if self.has_checked {
+            more_terms_may_begin();
             return Err(Stop::Memory);
         }
         self.has_checked = true;
@@ -83,6 +88,7 @@ fn run_script<E: Decide>(
 ) -> Result<Outcome, Memory>
     requires told { E.levels engine ≡ [] }
     requires table { E.table engine ≡ [] }
+    requires begins { (ts : List Term) → E.begins engine ts }
 {
     let mut session = Session::new(alloc, engine, units)?;
     let fed = session.feed(script, sink);

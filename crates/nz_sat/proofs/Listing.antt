@@ -1,5 +1,5 @@
 -- Work lists that go on by lines of a search, and where they lead.
-use Rattle.std.proofs.Common.{◌≡◌, ◌+◌, ◌≤◌, if◌then◌else◌, List, [], ◌∷◌, ◌++◌, map, refl, sym, ap, subst, ◌∙◌, arith, append_assoc}
+use Rattle.std.proofs.Common.{◌≡◌, ◌≤◌, if◌then◌else◌, List, [], ◌∷◌, ◌++◌, map, refl, sym, ap, subst, ◌∙◌, arith, append_assoc}
 use Rattle.std.specs.List.{AllByRecursion}
 use Rattle.std.proofs.lemmas.List.{append-nil, map-append}
 use Rattle.std.proofs.lemmas.List.Sums.{fold-append, sum_by-append}
@@ -12,8 +12,8 @@ use Rattle.nz_spec.specs.Table.{Node}
 use Rattle.nz_spec.specs.Work.{DecisionEntry, LearnedEntry, NoteLine, PivotEntry, UnitLine, WorkLine, WorkList, is_unit, unit_count, with_line}
 use Rattle.nz_log.specs.declared.atoms.Atom as log
 use Rattle.nz_log.specs.declared.note.Note.{Note}
-use Rattle.nz_log.specs.declared.note.Note.TheVariants.{Atom, Bound, Form, Told}
-use Rattle.nz_log.specs.Notes.{noted_line, noted_list}
+use Rattle.nz_log.specs.declared.note.Note.TheVariants.{Start, Atom, Bound, Form, Told}
+use Rattle.nz_log.specs.Notes.{AreNotedWithin, noted_line, noted_list}
 use Rattle.nz_log.specs.Standing.{search_after}
 use Rattle.nz_log.specs.Theories.{AddsPivots}
 use Rattle.nz_sat.specs.Numbers.{noted_atoms}
@@ -74,6 +74,7 @@ module _ {P : WorkLine Note → Type 0} where
 -- what comes of a theory comes of a search
 pub search_line : (line : WorkLine Note) → IsOfTheory line → IsOfSearch line
 search_line (UnitLine entry) h = tt
+search_line (NoteLine (Start start)) h = h
 search_line (NoteLine (Atom t)) h = h
 search_line (NoteLine (Bound b)) h = h
 search_line (NoteLine (Form atom)) h = h
@@ -102,9 +103,29 @@ adds_noted old new a =
     ap (λ (w : WorkList Note). noted_atoms w.lines) a.joined ∙ noted-append old.lines a.more
     ∙ ap (λ (us : List log.Atom). noted_atoms old.lines ++ us) (none_named a.more a.each) ∙ append-nil (noted_atoms old.lines)
 
+-- what they name is in each table
+within_append : (ns : List Node) (xs ys : List (WorkLine Note)) → AreNotedWithin ns xs → AreNotedWithin ns ys → AreNotedWithin ns (xs ++ ys)
+within_append ns [] ys h k = k
+within_append ns (UnitLine entry ∷ xs) ys h k = within_append ns xs ys h k
+within_append ns (NoteLine note ∷ xs) ys h k = (h.0, within_append ns xs ys h.1 k)
+
+search_within : (ns : List Node) (lines : List (WorkLine Note)) → AllByRecursion IsOfSearch lines → AreNotedWithin ns lines
+search_within ns [] h = tt
+search_within ns (UnitLine entry ∷ lines) h = search_within ns lines h.1
+search_within ns (NoteLine (Start start) ∷ lines) h = absurd h.0
+search_within ns (NoteLine (Atom t) ∷ lines) h = absurd h.0
+search_within ns (NoteLine (Bound b) ∷ lines) h = absurd h.0
+search_within ns (NoteLine (Form atom) ∷ lines) h = absurd h.0
+search_within ns (NoteLine (Told atom sign) ∷ lines) h = (tt, search_within ns lines h.1)
+
+pub adds_within : (ns : List Node) (old new : WorkList Note) → AddsLines IsOfSearch old new → AreNotedWithin ns old.lines → AreNotedWithin ns new.lines
+adds_within ns old new a h =
+    subst (λ (w : WorkList Note). AreNotedWithin ns w.lines) (sym a.joined) (within_append ns old.lines a.more h (search_within ns a.more a.each))
+
 -- ---- What lines of a theory keep
 
 pub atoms_kept : (ns : List Node) (r : legal.Search) (line : WorkLine Note) → IsOfTheory line → (after_line r (noted_line ns line)).atoms ≡ r.atoms
+atoms_kept ns r (NoteLine (Start start)) h = absurd h
 atoms_kept ns r (NoteLine (Atom t)) h = absurd h
 atoms_kept ns r (NoteLine (Bound b)) h = absurd h
 atoms_kept ns r (NoteLine (Form atom)) h = absurd h
@@ -114,6 +135,7 @@ atoms_kept ns r (UnitLine (LearnedEntry keep clause)) h = absurd h
 atoms_kept ns r (UnitLine (PivotEntry leaves enters)) h = refl
 
 pub decided_kept : (ns : List Node) (r : legal.Search) (line : WorkLine Note) → IsOfTheory line → (after_line r (noted_line ns line)).decided ≡ r.decided
+decided_kept ns r (NoteLine (Start start)) h = absurd h
 decided_kept ns r (NoteLine (Atom t)) h = absurd h
 decided_kept ns r (NoteLine (Bound b)) h = absurd h
 decided_kept ns r (NoteLine (Form atom)) h = absurd h
@@ -123,6 +145,7 @@ decided_kept ns r (UnitLine (LearnedEntry keep clause)) h = absurd h
 decided_kept ns r (UnitLine (PivotEntry leaves enters)) h = refl
 
 pub learned_kept : (ns : List Node) (r : legal.Search) (line : WorkLine Note) → IsOfTheory line → (after_line r (noted_line ns line)).learned ≡ r.learned
+learned_kept ns r (NoteLine (Start start)) h = absurd h
 learned_kept ns r (NoteLine (Atom t)) h = absurd h
 learned_kept ns r (NoteLine (Bound b)) h = absurd h
 learned_kept ns r (NoteLine (Form atom)) h = absurd h
@@ -133,6 +156,7 @@ learned_kept ns r (UnitLine (PivotEntry leaves enters)) h = refl
 
 -- no form joins
 pub forms_kept : (ns : List Node) (r : legal.Search) (line : WorkLine Note) → IsOfSearch line → (after_line r (noted_line ns line)).forms ≡ r.forms
+forms_kept ns r (NoteLine (Start start)) h = absurd h
 forms_kept ns r (NoteLine (Atom t)) h = absurd h
 forms_kept ns r (NoteLine (Bound b)) h = absurd h
 forms_kept ns r (NoteLine (Form atom)) h = absurd h

@@ -1,5 +1,5 @@
 -- Atoms by their numbers, and the lines that name them.
-use Rattle.std.proofs.Common.{◌≡◌, ◌≢◌, ℕ, zero, suc, ◌+◌, ◌<◌, ◌==◌, Bool, true, false, if◌then◌else◌, List, [], ◌∷◌, ◌++◌, length, get_or, Option, Some, None, inl, inr, refl, sym, ap, ◌∙◌, arith, ne_eqb, true≢false}
+use Rattle.std.proofs.Common.{◌≡◌, ◌≢◌, ℕ, zero, suc, ◌<◌, ◌==◌, Bool, true, false, if◌then◌else◌, List, [], ◌∷◌, ◌++◌, length, get_or, Option, Some, None, inl, inr, refl, sym, ap, ◌∙◌, arith, ne_eqb, true≢false}
 use Rattle.std.specs.Prelude.{Contains, is_some, slice_get, slice_index_or, option_map}
 use Rattle.std.proofs.lemmas.Bool.{cases_eq, eq-eqb}
 use Rattle.std.proofs.lemmas.Bool.Decides.{eqb_tells}
@@ -9,7 +9,7 @@ use Rattle.nz_lists.proofs.Members.{has_found}
 use Rattle.nz_spec.specs.Work.{WorkLine, UnitLine, NoteLine}
 use Rattle.nz_log.specs.declared.atoms.Atom as log
 use Rattle.nz_log.specs.declared.note.Note.{Note}
-use Rattle.nz_log.specs.declared.note.Note.TheVariants.{Atom, Bound, Form, Told}
+use Rattle.nz_log.specs.declared.note.Note.TheVariants.{Start, Atom, Bound, Form, Told}
 use Rattle.nz_sat.specs.Numbers.{IsNumbered, noted_atoms, number_of, number_or}
 use Rattle.nz_sat.specs.Theories.{IsOfSearch}
 
@@ -94,6 +94,7 @@ numbered_push us u old new table here others t =
 pub none_named : (lines : List (WorkLine Note)) → AllByRecursion IsOfSearch lines → noted_atoms lines ≡ []
 none_named [] h = refl
 none_named (UnitLine entry ∷ lines) h = none_named lines h.1
+none_named (NoteLine (Start start) ∷ lines) h = absurd h.0
 none_named (NoteLine (Atom t) ∷ lines) h = absurd h.0
 none_named (NoteLine (Bound b) ∷ lines) h = absurd h.0
 none_named (NoteLine (Form atom) ∷ lines) h = absurd h.0
@@ -102,6 +103,7 @@ none_named (NoteLine (Told atom sign) ∷ lines) h = none_named lines h.1
 pub noted-append : (xs ys : List (WorkLine Note)) → noted_atoms (xs ++ ys) ≡ noted_atoms xs ++ noted_atoms ys
 noted-append [] ys = refl
 noted-append (UnitLine entry ∷ xs) ys = noted-append xs ys
+noted-append (NoteLine (Start start) ∷ xs) ys = noted-append xs ys
 noted-append (NoteLine (Atom t) ∷ xs) ys = ap (λ (us : List log.Atom). log.TheVariants.Term t ∷ us) (noted-append xs ys)
 noted-append (NoteLine (Bound b) ∷ xs) ys = ap (λ (us : List log.Atom). log.TheVariants.AtMost b ∷ us) (noted-append xs ys)
 noted-append (NoteLine (Form atom) ∷ xs) ys = noted-append xs ys

@@ -15,7 +15,7 @@ use Rattle.nz_spec.specs.Work.{NoteLine, UnitLine, WorkLine, WorkList, is_unit, 
 use Rattle.nz_log.specs.declared.lits.Lit.{Lit}
 use Rattle.nz_log.specs.declared.note.Note.{Note}
 use Rattle.nz_log.specs.declared.atoms.Atom as log
-use Rattle.nz_log.specs.declared.note.Note.TheVariants.{Atom, Bound, Form, Told}
+use Rattle.nz_log.specs.declared.note.Note.TheVariants.{Start, Atom, Bound, Form, Told}
 use Rattle.nz_log.specs.declared.stop.Stop.{Stop}
 use Rattle.nz_log.specs.Atoms.{atom_in}
 use Rattle.nz_log.specs.Logs.{LogState, literals_at}
@@ -52,6 +52,7 @@ first_keep f ns keeps [] h r = refl
 first_keep f ns keeps (x ∷ xs) h r = first_keep f ns keeps xs h.1 (after_line r (noted_line ns x)) ∙ keeps r x h.0
 
 decided_first : (ns : List Node) (r : legal.Search) (line : WorkLine Note) → IsBeginning line → (after_line r (noted_line ns line)).decided ≡ r.decided
+decided_first ns r (NoteLine (Start start)) h = refl
 decided_first ns r (NoteLine (Atom t)) h = refl
 decided_first ns r (NoteLine (Bound b)) h = refl
 decided_first ns r (NoteLine (Form atom)) h = refl
@@ -59,6 +60,7 @@ decided_first ns r (NoteLine (Told atom sign)) h = absurd h
 decided_first ns r (UnitLine entry) h = absurd h
 
 learned_first : (ns : List Node) (r : legal.Search) (line : WorkLine Note) → IsBeginning line → (after_line r (noted_line ns line)).learned ≡ r.learned
+learned_first ns r (NoteLine (Start start)) h = refl
 learned_first ns r (NoteLine (Atom t)) h = refl
 learned_first ns r (NoteLine (Bound b)) h = refl
 learned_first ns r (NoteLine (Form atom)) h = refl
@@ -66,6 +68,7 @@ learned_first ns r (NoteLine (Told atom sign)) h = absurd h
 learned_first ns r (UnitLine entry) h = absurd h
 
 told_first : (ns : List Node) (r : legal.Search) (line : WorkLine Note) → IsBeginning line → (after_line r (noted_line ns line)).told ≡ r.told
+told_first ns r (NoteLine (Start start)) h = refl
 told_first ns r (NoteLine (Atom t)) h = refl
 told_first ns r (NoteLine (Bound b)) h = refl
 told_first ns r (NoteLine (Form atom)) h = refl
@@ -78,6 +81,7 @@ named_first : (ns : List Node) (lines : List (WorkLine Note)) → AreBeginnings 
 named_first ns [] h r = sym (append-nil r.atoms)
 named_first ns (UnitLine entry ∷ lines) h r = absurd h.0
 named_first ns (NoteLine (Told atom sign) ∷ lines) h r = absurd h.0
+named_first ns (NoteLine (Start start) ∷ lines) h r = named_first ns lines h.1 (after_line r (noted_line ns (NoteLine (Start start))))
 named_first ns (NoteLine (Form atom) ∷ lines) h r = named_first ns lines h.1 (after_line r (noted_line ns (NoteLine (Form atom))))
 named_first ns (NoteLine (Atom t) ∷ lines) h r =
     named_first ns lines h.1 (after_line r (noted_line ns (NoteLine (Atom t))))

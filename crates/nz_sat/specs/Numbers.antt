@@ -7,12 +7,13 @@ use Rattle.nz_spec.specs.Work.{WorkLine, UnitLine, NoteLine}
 use Rattle.nz_log.specs.declared.atoms.Atom as log
 use Rattle.nz_log.specs.declared.lits.Lit.{Lit}
 use Rattle.nz_log.specs.declared.note.Note.{Note}
-use Rattle.nz_log.specs.declared.note.Note.TheVariants.{Atom, Bound, Form, Told}
+use Rattle.nz_log.specs.declared.note.Note.TheVariants.{Start, Atom, Bound, Form, Told}
 use Rattle.nz_log.specs.Atoms.{IsLitIn, literal_in}
 
 -- the atoms that these lines name, in their order
 abbrev pub noted_atoms : List (WorkLine Note) → List log.Atom
 noted_atoms [] = []
+noted_atoms (NoteLine (Start start) ∷ lines) = noted_atoms lines
 noted_atoms (NoteLine (Atom t) ∷ lines) = log.TheVariants.Term t ∷ noted_atoms lines
 noted_atoms (NoteLine (Bound b) ∷ lines) = log.TheVariants.AtMost b ∷ noted_atoms lines
 noted_atoms (NoteLine (Form atom) ∷ lines) = noted_atoms lines
@@ -23,8 +24,9 @@ noted_atoms (UnitLine entry ∷ lines) = noted_atoms lines
 abbrev pub AreNotedIn : List log.Atom → List (WorkLine Note) → List ℕ → Type 0
 AreNotedIn all lines atoms = map (slice_get all) atoms ≡ map Some (noted_atoms lines)
 
--- a note of an atom, or of a form
+-- a note of what the simplex begins with, of an atom, or of a form
 abbrev pub IsBeginning : WorkLine Note → Type 0
+IsBeginning (NoteLine (Start start)) = ⊤
 IsBeginning (NoteLine (Atom t)) = ⊤
 IsBeginning (NoteLine (Bound b)) = ⊤
 IsBeginning (NoteLine (Form atom)) = ⊤

@@ -108,6 +108,7 @@ work_told work line (Some id) = work
 
 -- a line that comes of a theory: what it was told, or a pivot
 abbrev pub IsOfTheory : WorkLine Note → Type 0
+IsOfTheory (NoteLine (note.TheVariants.Start start)) = ⊥
 IsOfTheory (NoteLine (note.TheVariants.Atom t)) = ⊥
 IsOfTheory (NoteLine (note.TheVariants.Bound b)) = ⊥
 IsOfTheory (NoteLine (note.TheVariants.Form atom)) = ⊥
@@ -118,6 +119,7 @@ IsOfTheory (UnitLine (PivotEntry leaves enters)) = ⊤
 
 -- a line that comes of a search: a unit, or what the theory was told
 abbrev pub IsOfSearch : WorkLine Note → Type 0
+IsOfSearch (NoteLine (note.TheVariants.Start start)) = ⊥
 IsOfSearch (NoteLine (note.TheVariants.Atom t)) = ⊥
 IsOfSearch (NoteLine (note.TheVariants.Bound b)) = ⊥
 IsOfSearch (NoteLine (note.TheVariants.Form atom)) = ⊥

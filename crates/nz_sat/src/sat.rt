@@ -8,6 +8,7 @@ ghost use Rattle.nz_log.specs.declared.stop.Stop.TheVariants as stop;
 ghost use Rattle.nz_log.specs.declared.atoms.Atom.{Atom};
 ghost use Rattle.nz_log.specs.Leveled.{AreToldAtoms};
 ghost use Rattle.nz_log.specs.Logs.{IsLive, literals_at};
+ghost use Rattle.nz_log.specs.Notes.{AreNotedWithin};
 ghost use Rattle.nz_log.specs.Sound.{IsLog};
 ghost use Rattle.nz_log.specs.Standing.{Ends, Stands, search_after};
 ghost use Rattle.nz_log.specs.Theories.{Grows};
@@ -118,7 +119,8 @@ impl<T: Theory> Sat<T> {
         // Where the notes are legal and lead to where the theory stands, so is the whole list, and leads to where it stands at the end.
         ensures ends { (ns : List Node) (levels : List (List ℕ)) (q : Task) → T.is_over self.old.theory ns → IsAsked ns levels log.old atoms.now assumed.now q
             → Stands (T.is_at self.old.theory ns) ns q work.old → Ends (T.is_at self.new.theory ns) ns q work.new result }
-        // No atom is named that wasn't, and no form joins.
+        // What the notes name is in each table that had it before; no atom is named that wasn't, and no form joins.
+        ensures table { (ns : List Node) → AreNotedWithin ns work.old.lines → AreNotedWithin ns work.new.lines }
         ensures notes { noted_atoms work.new.lines ≡ noted_atoms work.old.lines }
         ensures forms { (ns : List Node) → (search_after ns work.new).forms ≡ (search_after ns work.old).forms }
         ensures limit { work.new.limit ≡ work.old.limit }

@@ -14,6 +14,7 @@ term_note t = NoteLine (note.TheVariants.Atom t)
 
 noted_push : (lines : List (WorkLine Note)) (t : ℕ) → noted_atoms (lines ++ term_note t ∷ []) ≡ noted_atoms lines ++ log.TheVariants.Term t ∷ []
 noted_push [] t = refl
+noted_push (NoteLine (note.TheVariants.Start start) ∷ lines) t = noted_push lines t
 noted_push (NoteLine (note.TheVariants.Atom u) ∷ lines) t = ap (λ (us : List log.Atom). log.TheVariants.Term u ∷ us) (noted_push lines t)
 noted_push (NoteLine (note.TheVariants.Bound b) ∷ lines) t = ap (λ (us : List log.Atom). log.TheVariants.AtMost b ∷ us) (noted_push lines t)
 noted_push (NoteLine (note.TheVariants.Form atom) ∷ lines) t = noted_push lines t

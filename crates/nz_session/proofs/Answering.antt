@@ -1,10 +1,12 @@
 -- What the desk holds after a command, and that its answer is right.
-use Rattle.std.proofs.Common.{◌≡◌, inl, ℕ, Bool, true, false, List, ◌∷◌, Option, Some, None, option_map, refl, sym, ap, ◌∙◌, subst}
-use Rattle.std.specs.Prelude.{⊤, if◌then◌else◌}
+use Rattle.std.proofs.Common.{◌≡◌, inl, inr, ℕ, Bool, true, false, List, ◌++◌, Option, Some, None, option_map, refl, sym, ap, ◌∙◌, subst}
+use Rattle.std.specs.Prelude.{⊤, Contains, if◌then◌else◌}
+use Rattle.std.proofs.lemmas.List.Elements.{Contains-append_cases, Contains-append_left, Contains-append_right}
 use Rattle.nz_lists.proofs.Fronts.{front_of_more}
 use Rattle.nz_spec.specs.Tree.{Tree}
 use Rattle.nz_spec.specs.Text.{intact}
 use Rattle.nz_spec.specs.Table.{Node}
+use Rattle.nz_spec.specs.Term.{Term}
 use Rattle.nz_spec.specs.Literal.{Literal}
 use Rattle.nz_spec.specs.Decide.{IsFrontOfTable}
 use Rattle.nz_spec.specs.Live.{LastAnswer, model_found, State, Options}
@@ -12,13 +14,16 @@ use Rattle.nz_spec.specs.Command.{Command, Info, declare_const, define, assert_t
 use Rattle.nz_spec.specs.Script.{outcome_of}
 use Rattle.nz_spec.specs.Sorts.{IsSortedState, StatesStaySorted}
 use Rattle.nz_spec.specs.Reply.{Reply, quiet, success, sat, unsat, unknown, model, values, info, levels as levels_reply, reason, echoed, unsupported, error, Cause, plain}
-use Rattle.nz_spec.specs.Right.{Context, done, IsRightCheck, IsRightCommand, IsRightOutcome, IsRight, IsExit, last_after, effect, effect_of, after}
+use Rattle.nz_spec.specs.Right.{Context, done, asked_of, IsRightCheck, IsRightCommand, IsRightOutcome, IsRight, IsExit, last_after, effect, effect_of, after}
 use Rattle.nz_sort.specs.Live.{Standing, asserted_by, IsLive, IsChange}
 use Rattle.nz_session.specs.Told.{IsTold}
 use Rattle.nz_reply.specs.Replies.{reply_of, cause_of, IsCauseWithin}
-use Rattle.nz_session.specs.Desk.{last_of, BindsConstants, KeepsValues, Holds, IsAnswer, Succeeds}
+use Rattle.nz_session.specs.Desk.{last_of, BeginsOver, BindsConstants, KeepsValues, Holds, IsAnswer, Succeeds, asked_in}
 use Rattle.nz_session.proofs.ValuesKept.{values_stay}
 use Rattle.nz_session.specs.declared.desk.Desk.{Desk}
+use Rattle.nz_session.specs.declared.told.Told.{Told}
+use Rattle.nz_spec.specs.Work.{WorkList}
+use Rattle.nz_log.specs.declared.note.Note.{Note}
 use Rattle.nz_session.specs.declared.desk.Answer.{Answer}
 use Rattle.nz_session.specs.declared.desk.LastAnswer as shown
 use Rattle.nz_reply.specs.declared.reply.Reply as said
@@ -82,28 +87,51 @@ accepted_as s t k d e f = e ∙ ap accepted f
 
 -- ---- What a desk holds
 
--- the context that leaves this state
-abbrev pub next : Context → State → Context
-next c s = record { limit = c.limit; before = c.state ∷ c.before; state = s }
+-- the context that a command leaves, and this state
+abbrev pub next : Context → Tree → State → Context
+next c t s = record (asked_in c t) { state = s }
 
 -- the desk where this stands in this table
 abbrev pub standing : {E : Type 0} → Desk E → List Node → Standing → Desk E
 standing desk ns l = record desk { terms = ns; live = l }
+
+-- What may begin where searches were asked of some terms may where they were asked of more.
+pub begins_more : {E : Type 0} (begins : E → List Term → Type 0) (old new : E) (ts more : List Term) → ((us : List Term) → begins old us → begins new us) → BeginsOver begins old ts
+    → BeginsOver begins new (ts ++ more)
+begins_more begins old new ts more keeps h us has = keeps us (h us (λ t k. has t (Contains-append_left ts more t k)))
+
+-- So it is after a search, among what was asked.
+pub begins_searched : {E : Type 0} (begins : E → List Term → Type 0) (old new : E) (ts listed : List Term)
+    → ((ts us : List Term) → begins old ts → ((t : Term) → Contains (ts ++ listed) t → Contains us t) → begins new us) → BeginsOver begins old ts → BeginsOver begins new (ts ++ listed)
+begins_searched begins old new ts listed searched h us has =
+    searched us us (h us (λ t k. has t (Contains-append_left ts listed t k)))
+    (λ t k. elim (Contains-append_cases us listed t k) [ inl here ↦ here | inr later ↦ has t (Contains-append_right ts listed t later) ])
 
 -- The table of a desk goes on, and what is asserted stays.
 pub record Continues {E : Type 0} (old : Desk E) (ns : List Node) (l : Standing) : Type 0 where
   pub terms : IsFrontOfTable old.terms ns
   pub asserted : asserted_by l ≡ asserted_by old.live
 
-module _ {E : Type 0} (levels : E → List (List ℕ)) (table : E → List Node) where
-  -- nothing that is held is of the states before
-  pub holds_next : (desk : Desk E) (c : Context) → Holds levels table desk c → Holds levels table desk (next c c.state)
-  holds_next desk c h =
-      record { live = h.live; sorted = h.sorted; told = h.told; front = h.front; last = h.last; bound = h.bound; values = h.values; success = h.success; bounded = h.bounded }
+module _ {E : Type 0} (levels : E → List (List ℕ)) (table : E → List Node) (begins : E → List Term → Type 0) where
+  -- so where searches were asked of what a command asks too
+  pub holds_asked : (desk : Desk E) (c : Context) (t : Tree) → Holds levels table begins desk c → Holds levels table begins desk (asked_in c t)
+  holds_asked desk c t h =
+      record {
+        live = h.live;
+        sorted = h.sorted;
+        told = h.told;
+        front = h.front;
+        last = h.last;
+        bound = h.bound;
+        values = h.values;
+        success = h.success;
+        bounded = h.bounded;
+        begun = begins_more begins desk.engine desk.engine c.earlier (asked_of c.state (outcome_of c.state t)) (λ us x. x) h.begun;
+      }
 
   -- the desk holds the context where what stands is another that stands for its state
-  pub holds_kept : (old : Desk E) (c : Context) (ns : List Node) (l : Standing) → Holds levels table old c → Continues old ns l → IsLive ns l c.state
-      → Holds levels table (standing old ns l) c
+  pub holds_kept : (old : Desk E) (c : Context) (ns : List Node) (l : Standing) → Holds levels table begins old c → Continues old ns l → IsLive ns l c.state
+      → Holds levels table begins (standing old ns l) c
   holds_kept old c ns l h on live =
       record {
         live = live;
@@ -115,17 +143,18 @@ module _ {E : Type 0} (levels : E → List (List ℕ)) (table : E → List Node)
         values = values_stay old.terms ns old.last on.terms h.values;
         success = h.success;
         bounded = h.bounded;
+        begun = h.begun;
       }
 
   -- after a command that leaves the levels as they are
-  pub kept_after : (old : Desk E) (c : Context) (ns : List Node) (l : Standing) (k : Command) → IsStill k → Holds levels table old c → Continues old ns l
-      → ((r : Reply) → IsLive ns l (effect c.state k r)) → Holds levels table (standing old ns l) c
+  pub kept_after : (old : Desk E) (c : Context) (ns : List Node) (l : Standing) (k : Command) → IsStill k → Holds levels table begins old c → Continues old ns l
+      → ((r : Reply) → IsLive ns l (effect c.state k r)) → Holds levels table begins (standing old ns l) c
   kept_after old c ns l k none h on live = holds_kept old c ns l h on (stands ns l c.state k none live)
 
   -- where success is told from now on, or not
-  pub holds_set : (old : Desk E) (c : Context) (ns : List Node) (l : Standing) (b : Bool) (r : Reply) → Holds levels table old c → Continues old ns l
-      → IsLive ns l (effect c.state (set_print_success b) r) → Holds levels table (record (standing old ns l) { prints_success = b }) (next c (effect c.state (set_print_success b) r))
-  holds_set old c ns l b r h on live =
+  pub holds_set : (old : Desk E) (c : Context) (t : Tree) (ns : List Node) (l : Standing) (b : Bool) (r : Reply) → Holds levels table begins old c → Continues old ns l
+      → IsLive ns l (effect c.state (set_print_success b) r) → Holds levels table begins (record (standing old ns l) { prints_success = b }) (next c t (effect c.state (set_print_success b) r))
+  holds_set old c t ns l b r h on live =
       record {
         live = live;
         sorted = h.sorted;
@@ -136,6 +165,25 @@ module _ {E : Type 0} (levels : E → List (List ℕ)) (table : E → List Node)
         values = values_stay old.terms ns old.last on.terms h.values;
         success = refl;
         bounded = h.bounded;
+        begun = (holds_asked old c t h).begun;
+      }
+
+  -- After a search, where what it was asked, and those before, is among what searches were asked of then.
+  pub holds_searched : (desk : Desk E) (c : Context) (t : Tree) (engine : E) (told : Told) (work : WorkList Note) (known : List Term) → Holds levels table begins desk c
+      → IsTold (levels engine) told (asserted_by desk.live) → IsFrontOfTable (table engine) desk.terms → BeginsOver begins engine known
+      → ((u : Term) → Contains known u → Contains (asked_in c t).earlier u) → Holds levels table begins (record desk { engine = engine; told = told; work = work }) (asked_in c t)
+  holds_searched desk c t engine told work known h are front begun within =
+      record {
+        live = h.live;
+        sorted = h.sorted;
+        told = are;
+        front = front;
+        last = h.last;
+        bound = h.bound;
+        values = h.values;
+        success = h.success;
+        bounded = h.bounded;
+        begun = λ us has. begun us (λ u k. has u (within u k));
       }
 
 -- ---- Commands that end the last answer
@@ -258,15 +306,15 @@ plainly q = record { reply = q; cause = why.Plain; exits = false }
 pub succeeds_too : {E : Type 0} (d e : Desk E) (answer : Answer) → d ≡ e → Succeeds d.prints_success answer → Succeeds e.prints_success answer
 succeeds_too {E} d e answer same h = subst (λ (x : Desk E). Succeeds x.prints_success answer) same h
 
-module _ {E : Type 0} (levels : E → List (List ℕ)) (table : E → List Node) where
-  pub answers_too : (c : Context) (t : Tree) (answer : Answer) (d e : Desk E) → d ≡ e → IsAnswer levels table c (intact t) answer (record e { prints_success = false })
-      → IsAnswer levels table c (intact t) answer (record d { prints_success = false })
-  answers_too c t answer d e same h = subst (λ (x : Desk E). IsAnswer levels table c (intact t) answer (record x { prints_success = false })) (sym same) h
+module _ {E : Type 0} (levels : E → List (List ℕ)) (table : E → List Node) (begins : E → List Term → Type 0) where
+  pub answers_too : (c : Context) (t : Tree) (answer : Answer) (d e : Desk E) → d ≡ e → IsAnswer levels table begins c (intact t) answer (record e { prints_success = false })
+      → IsAnswer levels table begins c (intact t) answer (record d { prints_success = false })
+  answers_too c t answer d e same h = subst (λ (x : Desk E). IsAnswer levels table begins c (intact t) answer (record x { prints_success = false })) (sym same) h
 
   accepted_answer : (c : Context) (t : Tree) (k : Command) (r : Reply) (w : Cause) (answer : Answer) (desk : Desk E)
       → reply_of (intact t) answer.reply ≡ r → cause_of desk.terms answer.cause ≡ w → IsCauseWithin desk.terms answer.cause → TellsNoError r → outcome_of c.state t ≡ accepted k
-      → IsRightCommand c k r w → Holds levels table desk (next c (effect c.state k r)) → (answer.exits ≡ true → k ≡ exit) → (answer.exits ≡ false → k ≡ exit → ⊥)
-      → IsAnswer levels table c (intact t) answer desk
+      → IsRightCommand c k r w → Holds levels table begins desk (next c t (effect c.state k r)) → (answer.exits ≡ true → k ≡ exit) → (answer.exits ≡ false → k ≡ exit → ⊥)
+      → IsAnswer levels table begins c (intact t) answer desk
   accepted_answer c t k r w answer desk tells cause within n e right holds ends goes =
       let replied : Reply → Type 0 = λ q. IsRight c (intact t) q (cause_of desk.terms answer.cause) in
       let caused : Cause → Type 0 = λ q. IsRight c (intact t) r q in
@@ -274,7 +322,7 @@ module _ {E : Type 0} (levels : E → List (List ℕ)) (table : E → List Node)
       record {
         right = subst replied (sym tells) (subst caused (sym cause) (inl (subst (λ o. IsRightOutcome c o r w) (sym e) right)));
         within = within;
-        holds = subst (λ q. Holds levels table desk (next c (after c.state (intact t) q))) (sym tells) (subst (λ s. Holds levels table desk (next c s)) (sym (after_accepted c.state t k r n e)) holds);
+        holds = subst (λ q. Holds levels table begins desk (next c t (after c.state (intact t) q))) (sym tells) (subst (λ s. Holds levels table begins desk (next c t s)) (sym (after_accepted c.state t k r n e)) holds);
         exits = λ x. subst (IsExit c.state (intact t)) (sym tells) (exit_right x);
         stays = λ x y. goes x (one_command k exit (sym e ∙ y.0));
       }
@@ -282,31 +330,31 @@ module _ {E : Type 0} (levels : E → List (List ℕ)) (table : E → List Node)
   -- to no exit
   pub told_answer : (c : Context) (t : Tree) (k : Command) (q : said.Reply) (r : Reply) (answer : Answer) (desk : Desk E)
       → answer ≡ plainly q → reply_of (intact t) q ≡ r → TellsNoError r → outcome_of c.state t ≡ accepted k
-      → IsRightCommand c k r plain → Holds levels table desk (next c (effect c.state k r)) → (k ≡ exit → ⊥) → IsAnswer levels table c (intact t) answer desk
+      → IsRightCommand c k r plain → Holds levels table begins desk (next c t (effect c.state k r)) → (k ≡ exit → ⊥) → IsAnswer levels table begins c (intact t) answer desk
   told_answer c t k q r answer desk is tells n e right holds goes =
-      subst (λ (a : Answer). IsAnswer levels table c (intact t) a desk) (sym is)
+      subst (λ (a : Answer). IsAnswer levels table begins c (intact t) a desk) (sym is)
       (accepted_answer c t k r plain (plainly q) desk tells refl tt n e right holds (λ x. cc) (λ x. goes))
 
   -- one that tells success or nothing, to no exit
   pub done_answer : (c : Context) (t : Tree) (k : Command) (b : Bool) (answer : Answer) (desk : Desk E) → Succeeds b answer → outcome_of c.state t ≡ accepted k
-      → IsRightCommand c k (done (record { prints_success = b })) plain → Holds levels table desk (next c (effect c.state k (done (record { prints_success = b })))) → (k ≡ exit → ⊥)
-      → IsAnswer levels table c (intact t) answer desk
+      → IsRightCommand c k (done (record { prints_success = b })) plain → Holds levels table begins desk (next c t (effect c.state k (done (record { prints_success = b })))) → (k ≡ exit → ⊥)
+      → IsAnswer levels table begins c (intact t) answer desk
   done_answer c t k b answer desk s e right holds goes =
       told_answer c t k answer.reply (done (record { prints_success = b })) answer desk s.plain (s.tells (intact t)) (done_tells b) e right holds goes
 
   -- one that ends the session
   pub exit_answer : (c : Context) (t : Tree) (q : said.Reply) (desk : Desk E) → reply_of (intact t) q ≡ done c.state.options → outcome_of c.state t ≡ accepted exit
-      → Holds levels table desk c → IsAnswer levels table c (intact t) (record { reply = q; cause = why.Plain; exits = true }) desk
+      → Holds levels table begins desk (asked_in c t) → IsAnswer levels table begins c (intact t) (record { reply = q; cause = why.Plain; exits = true }) desk
   exit_answer c t q desk tells e h =
       accepted_answer c t exit (done c.state.options) plain (record { reply = q; cause = why.Plain; exits = true }) desk tells refl tt (done_tells c.state.options.prints_success) e
-      (refl, refl) (holds_next levels table desk c h) (λ x. refl) (λ x. cc)
+      (refl, refl) h (λ x. refl) (λ x. cc)
 
   -- one to a command that ends the last answer
   pub ended_answer : StatesStaySorted → (c : Context) (t : Tree) (k : Command) (answer : Answer) (desk : Desk E) → IsSortedState c.state → outcome_of c.state t ≡ accepted k → EndsAnswer k
       → Succeeds desk.prints_success answer → ((r : Reply) → IsLive desk.terms desk.live (effect c.state k r)) → IsTold (levels desk.engine) desk.told (asserted_by desk.live)
-      → IsFrontOfTable (table desk.engine) desk.terms → desk.last ≡ None → ((r : Reply) → desk.prints_success ≡ (effect c.state k r).options.prints_success) → desk.limit ≡ c.limit
-      → IsAnswer levels table c (intact t) answer desk
-  ended_answer stay c t k answer desk sorted e ends s live told front none same bounded =
+      → IsFrontOfTable (table desk.engine) desk.terms → BeginsOver begins desk.engine c.earlier → desk.last ≡ None → ((r : Reply) → desk.prints_success ≡ (effect c.state k r).options.prints_success) → desk.limit ≡ c.limit
+      → IsAnswer levels table begins c (intact t) answer desk
+  ended_answer stay c t k answer desk sorted e ends s live told front begun none same bounded =
       let b = desk.prints_success in
       let r : Reply = done (record { prints_success = b }) in
       let after : State = effect c.state k r in
@@ -323,20 +371,21 @@ module _ {E : Type 0} (levels : E → List (List ℕ)) (table : E → List Node)
         values = subst (KeepsValues desk.terms) (sym none) tt;
         success = same r;
         bounded = bounded;
+        begun = begins_more begins desk.engine desk.engine c.earlier (asked_of c.state (outcome_of c.state t)) (λ us x. x) begun;
       })
       (λ x. subst EndsAnswer x ends)
 
   -- ---- Checks
 
   -- the desk holds what it held before the check, but for what the last answer was
-  pub checked_answer : (c : Context) (t : Tree) (ls : List Literal) (answer : Answer) (desk : Desk E) (last : Option shown.LastAnswer) → Holds levels table (record desk { last = last }) c
+  pub checked_answer : (c : Context) (t : Tree) (ls : List Literal) (answer : Answer) (desk : Desk E) (last : Option shown.LastAnswer) → Holds levels table begins (record desk { last = last }) (asked_in c t)
       → answer.exits ≡ false → outcome_of c.state t ≡ accepted (check_sat ls) → option_map last_of desk.last ≡ last_after (reply_of (intact t) answer.reply)
       → IsRightCheck c ls (reply_of (intact t) answer.reply) (cause_of desk.terms answer.cause) → IsCauseWithin desk.terms answer.cause → KeepsValues desk.terms desk.last
-      → IsAnswer levels table c (intact t) answer desk
+      → IsAnswer levels table begins c (intact t) answer desk
   checked_answer c t ls answer desk last h stays e told right within keeps =
       let r = reply_of (intact t) answer.reply in
       let w = cause_of desk.terms answer.cause in
-      let kept : Holds levels table desk (next c (effect c.state (check_sat ls) r)) =
+      let kept : Holds levels table begins desk (next c t (effect c.state (check_sat ls) r)) =
       record {
         live = live_still desk.terms desk.live c.state c.state.last (last_after r) c.state.options c.state.options h.live;
         sorted = h.sorted;
@@ -347,12 +396,13 @@ module _ {E : Type 0} (levels : E → List (List ℕ)) (table : E → List Node)
         values = keeps;
         success = h.success;
         bounded = h.bounded;
+        begun = h.begun;
       } in
       accepted_answer c t (check_sat ls) r w answer desk refl refl within (check_tells c ls r w right) e right kept
       (λ x. let y = sym x ∙ stays in cc) (λ x. λ y. cc)
 
   pub checked : (c : Context) (t : Tree) (ls : List Literal) (q : said.Reply) (answer : Answer) (desk : Desk E) (last : Option shown.LastAnswer) → answer ≡ plainly q
-      → Holds levels table (record desk { last = last }) c → outcome_of c.state t ≡ accepted (check_sat ls) → option_map last_of desk.last ≡ last_after (reply_of (intact t) q)
-      → IsRightCheck c ls (reply_of (intact t) q) plain → KeepsValues desk.terms desk.last → IsAnswer levels table c (intact t) answer desk
+      → Holds levels table begins (record desk { last = last }) (asked_in c t) → outcome_of c.state t ≡ accepted (check_sat ls) → option_map last_of desk.last ≡ last_after (reply_of (intact t) q)
+      → IsRightCheck c ls (reply_of (intact t) q) plain → KeepsValues desk.terms desk.last → IsAnswer levels table begins c (intact t) answer desk
   checked c t ls q answer desk last is h e told right keeps =
-      subst (λ (a : Answer). IsAnswer levels table c (intact t) a desk) (sym is) (checked_answer c t ls (plainly q) desk last h refl e told right tt keeps)
+      subst (λ (a : Answer). IsAnswer levels table begins c (intact t) a desk) (sym is) (checked_answer c t ls (plainly q) desk last h refl e told right tt keeps)

@@ -267,7 +267,7 @@ values_in ns ps (i ∷ is) h =
 
 -- a dead end of a search before any decision is one of the live state, under what is assumed
 pub no_live_model : NormalKeepsValue → (ns : List Node) (l : Standing) (s : State) (ls : List TermLit) (ms : List Literal) → IsLive ns l s → ((a : Assignment) → AreTrueLiterals a ms → AreTrueLiterals a (map (literal_of ns) ls))
-    → IsDeadEnd (task_in ns (asserted_by l) ls) at_first → IsUnsatisfiable (assertions_of s) ms
+    → IsDeadEnd (task_in ns (asserted_by l) ls []) at_first → IsUnsatisfiable (assertions_of s) ms
 no_live_model keeps ns l s ls ms h told dead a m =
     dead a (subst (λ ts. IsModel ts [] a) (sym h.terms) (normals_of_model keeps a (assertions_of s) [] (record { sorts = m.sorts; asserted_hold = m.asserted_hold; assumed_hold = tt })))
     (told a m.assumed_hold) tt

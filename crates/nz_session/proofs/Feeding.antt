@@ -9,6 +9,7 @@ use Rattle.nz_spec.specs.Text.{Limits, Heard, script_limits, OneReading}
 use Rattle.nz_spec.specs.Told.{IsTold, IsToldFirst, ReadingTellsFirst}
 use Rattle.nz_spec.specs.Outside.{AddsFrontOf}
 use Rattle.nz_spec.specs.Table.{Node}
+use Rattle.nz_spec.specs.Term.{Term}
 use Rattle.nz_spec.specs.Live.{start}
 use Rattle.nz_spec.specs.Error.{out_of_memory}
 use Rattle.nz_spec.specs.Reply.{reply_text, error}
@@ -92,16 +93,16 @@ module _ (limit : ℕ) (ended : Bool) (bytes : List ℕ) (ks : List Kept) (thing
 -- ---- A piece
 
 -- Of the piece a front was read, and this is the rest; what is complete in it was answered.
-pub record IsFeeding {E : Type 0} (levels : E → List (List ℕ)) (table : E → List Node) (first now : Session E) (piece rest : List ℕ) (old new : Option (List ℕ)) : Type 0 where
+pub record IsFeeding {E : Type 0} (levels : E → List (List ℕ)) (table : E → List Node) (begins : E → List Term → Type 0) (first now : Session E) (piece rest : List ℕ) (old new : Option (List ℕ)) : Type 0 where
   pub done : List ℕ
   pub all : piece ≡ done ++ rest
-  pub reads : (limit : ℕ) (bytes : List ℕ) → Serves levels table limit first bytes → IsShort (bytes ++ piece) → Fits script_limits now.reader (bytes ++ done) (things_of (kept_by now))
-  pub going : (limit : ℕ) (bytes : List ℕ) → Serves levels table limit first bytes → IsGoing levels table limit now.desk now.kept.items
+  pub reads : (limit : ℕ) (bytes : List ℕ) → Serves levels table begins limit first bytes → IsShort (bytes ++ piece) → Fits script_limits now.reader (bytes ++ done) (things_of (kept_by now))
+  pub going : (limit : ℕ) (bytes : List ℕ) → Serves levels table begins limit first bytes → IsGoing levels table begins limit now.desk now.kept.items
   pub writes : Writes (kept_by first) (kept_by now) old new
 
-pub feeding_start : {E : Type 0} (levels : E → List (List ℕ)) (table : E → List Node) (session : Session E) (piece : List ℕ) (held : Option (List ℕ))
-    → IsFeeding levels table session session piece piece held held
-feeding_start levels table session piece held =
+pub feeding_start : {E : Type 0} (levels : E → List (List ℕ)) (table : E → List Node) (begins : E → List Term → Type 0) (session : Session E) (piece : List ℕ) (held : Option (List ℕ))
+    → IsFeeding levels table begins session session piece piece held held
+feeding_start levels table begins session piece held =
     record {
       done = [];
       all = refl;
@@ -122,11 +123,11 @@ ReadsOn old new rest used h =
 pub none_is : (h : Option code.Heard) → h ≡ None → IsNone h
 none_is h e = subst IsNone (sym e) refl
 
-module _ {E : Type 0} (levels : E → List (List ℕ)) (table : E → List Node) (first : Session E) (piece rest : List ℕ) (old held : Option (List ℕ))
+module _ {E : Type 0} (levels : E → List (List ℕ)) (table : E → List Node) (begins : E → List Term → Type 0) (first : Session E) (piece rest : List ℕ) (old held : Option (List ℕ))
     (reader next : Reader) (desk : Desk E) (ks : Vec kept.Kept Global) (used : ℕ) (h : Option code.Heard)
-    (feeding : IsFeeding levels table first (record { reader = reader; desk = desk; kept = ks }) piece rest old held) (reads_on : ReadsOn reader next rest used h) where
+    (feeding : IsFeeding levels table begins first (record { reader = reader; desk = desk; kept = ks }) piece rest old held) (reads_on : ReadsOn reader next rest used h) where
   -- the reader has read the bytes used too, and told what it told
-  reads_more : (limit : ℕ) (bytes : List ℕ) → Serves levels table limit first bytes → IsShort (bytes ++ piece)
+  reads_more : (limit : ℕ) (bytes : List ℕ) → Serves levels table begins limit first bytes → IsShort (bytes ++ piece)
       → Fits script_limits next (bytes ++ (feeding.done ++ take used rest)) (things_of (kept_at desk ks.items) ++ told h)
   reads_more limit bytes serves short =
       let all : length piece ≡ length feeding.done + length rest = ap length feeding.all ∙ length-append feeding.done rest in
@@ -141,8 +142,8 @@ module _ {E : Type 0} (levels : E → List (List ℕ)) (table : E → List Node)
 
   -- at the end of the piece
   pub fed_all : h ≡ None → used ≡ length rest → owes next ≡ false
-      → ((all : List ℕ) (things : List Heard) → Fits script_limits next all things → IsToldFirst script_limits all things) → (limit : ℕ) (bytes : List ℕ) → Serves levels table limit first bytes
-      → Serves levels table limit (record { reader = next; desk = desk; kept = ks }) (bytes ++ piece)
+      → ((all : List ℕ) (things : List Heard) → Fits script_limits next all things → IsToldFirst script_limits all things) → (limit : ℕ) (bytes : List ℕ) → Serves levels table begins limit first bytes
+      → Serves levels table begins limit (record { reader = next; desk = desk; kept = ks }) (bytes ++ piece)
   fed_all none all settled complete limit bytes serves =
       let things : List Heard = things_of (kept_at desk ks.items) in
       let taken : take used rest ≡ rest = ap (λ n. take n rest) all ∙ take_all (length rest) rest (omega arith) in
@@ -158,7 +159,7 @@ module _ {E : Type 0} (levels : E → List (List ℕ)) (table : E → List Node)
 
   module _ (heard : code.Heard) (some : h ≡ Some heard) where
     -- what was kept, and then this thing, is told of what is heard first
-    heard_fed : ReadingTellsFirst → (limit : ℕ) (bytes : List ℕ) → Serves levels table limit first bytes → IsShort (bytes ++ piece)
+    heard_fed : ReadingTellsFirst → (limit : ℕ) (bytes : List ℕ) → Serves levels table begins limit first bytes → IsShort (bytes ++ piece)
         → IsHeardOf false (bytes ++ piece) (things_of (kept_at desk ks.items) ++ heard_view heard ∷ [])
     heard_fed tells limit bytes serves short =
         let read = feeding.done ++ take used rest in
@@ -168,15 +169,15 @@ module _ {E : Type 0} (levels : E → List (List ℕ)) (table : E → List Node)
         (heard_by_reader tells next (bytes ++ read) (drop used rest) (things_of (kept_at desk ks.items) ++ heard_view heard ∷ []) fit)
 
     -- the session was cut short
-    pub cut_fed : ReadingTellsFirst → (limit : ℕ) (bytes : List ℕ) → Serves levels table limit first bytes → IsCut limit false (bytes ++ piece) (kept_at desk ks.items)
+    pub cut_fed : ReadingTellsFirst → (limit : ℕ) (bytes : List ℕ) → Serves levels table begins limit first bytes → IsCut limit false (bytes ++ piece) (kept_at desk ks.items)
     cut_fed tells limit bytes serves =
         let going = feeding.going limit bytes serves in
         is_cut limit false (bytes ++ piece) (kept_at desk ks.items) (heard_view heard) going.right going.goes_on (heard_fed tells limit bytes serves)
 
     -- the sink failed
     pub broken_fed : (new : List Kept) (c : Option (List ℕ)) → AnswersInPart (heard_view heard) (kept_at desk ks.items) new held c
-        → ((limit : ℕ) → IsGoing levels table limit desk ks.items → AreRight (beginning limit) new) → ReadingTellsFirst
-        → (limit : ℕ) (bytes : List ℕ) → Serves levels table limit first bytes → BreaksOff limit false (bytes ++ piece) (kept_by first) new old c
+        → ((limit : ℕ) → IsGoing levels table begins limit desk ks.items → AreRight (beginning limit) new) → ReadingTellsFirst
+        → (limit : ℕ) (bytes : List ℕ) → Serves levels table begins limit first bytes → BreaksOff limit false (bytes ++ piece) (kept_by first) new old c
     broken_fed new c part right tells limit bytes serves =
         let going = feeding.going limit bytes serves in
         breaks_off limit false (bytes ++ piece) (kept_at desk ks.items) (heard_view heard) going.right going.goes_on (heard_fed tells limit bytes serves)
@@ -188,8 +189,8 @@ module _ {E : Type 0} (levels : E → List (List ℕ)) (table : E → List Node)
       things_fed = sym (things-answered (heard_view heard) (kept_at desk ks.items) (kept_at desk' ks'.items) held held' answers)
 
       -- the session goes on
-      pub feeding_more : ((limit : ℕ) → IsGoing levels table limit desk ks.items → IsGoing levels table limit desk' ks'.items)
-          → IsFeeding levels table first (record { reader = next; desk = desk'; kept = ks' }) piece (drop used rest) old held'
+      pub feeding_more : ((limit : ℕ) → IsGoing levels table begins limit desk ks.items → IsGoing levels table begins limit desk' ks'.items)
+          → IsFeeding levels table begins first (record { reader = next; desk = desk'; kept = ks' }) piece (drop used rest) old held'
       feeding_more going =
           record {
             done = feeding.done ++ take used rest;
@@ -202,8 +203,8 @@ module _ {E : Type 0} (levels : E → List (List ℕ)) (table : E → List Node)
 
       -- the session has exited
       pub exited_fed : OneReading → ReadingTellsFirst
-          → ((limit : ℕ) → IsGoing levels table limit desk ks.items → AreRight (beginning limit) (kept_at desk' ks'.items) × EndsByExit start (kept_at desk' ks'.items))
-          → (limit : ℕ) (bytes : List ℕ) → Serves levels table limit first bytes → HasExited limit (bytes ++ piece) (kept_at desk' ks'.items)
+          → ((limit : ℕ) → IsGoing levels table begins limit desk ks.items → AreRight (beginning limit) (kept_at desk' ks'.items) × EndsByExit start (kept_at desk' ks'.items))
+          → (limit : ℕ) (bytes : List ℕ) → Serves levels table begins limit first bytes → HasExited limit (bytes ++ piece) (kept_at desk' ks'.items)
       exited_fed one tells exits limit bytes serves =
           let ends = exits limit (feeding.going limit bytes serves) in
           record {
@@ -215,7 +216,7 @@ module _ {E : Type 0} (levels : E → List (List ℕ)) (table : E → List Node)
 
 -- ---- The end of the text
 
-module _ {E : Type 0} (levels : E → List (List ℕ)) (table : E → List Node) (limit : ℕ) (bytes : List ℕ) (session : Session E) (serves : Serves levels table limit session bytes)
+module _ {E : Type 0} (levels : E → List (List ℕ)) (table : E → List Node) (begins : E → List Term → Type 0) (limit : ℕ) (bytes : List ℕ) (session : Session E) (serves : Serves levels table begins limit session bytes)
     (h : Option code.Heard)
     (told_all : (limits : Limits) (all : List ℕ) (things : List Heard) → Fits limits session.reader all things → owes session.reader ≡ false → length all < 2 ^ 64
     → IsTold limits all (things ++ told h)) where

@@ -12,13 +12,16 @@ use Rattle.nz_spec.specs.Table.{Node, term_in}
 use Rattle.nz_spec.specs.Order.{listing_order}
 use Rattle.nz_spec.specs.Literal.{Literal, term_literal, is_at_most, is_below, are_same_sign, is_literal_true, AreTrueLiterals}
 use Rattle.nz_spec.specs.Model.{IsModel}
-use Rattle.nz_spec.specs.Live.{Reason, units_spent, State, Item, declared, defined, asserted, sought, wished, cost_of, items_of, item_terms, assertions_in, assertions_of}
+use Rattle.nz_spec.specs.Live.{Reason, units_spent, Item, declared, defined, asserted, sought, wished, cost_of, items_of, item_terms, assertions_in, assertions_of}
 use Rattle.nz_spec.specs.Work.{DecisionEntry, LearnedEntry, PivotEntry, WorkLine, UnitLine, NoteLine, WorkList, is_unit, unit_count, IsSpent}
-use Rattle.nz_spec.specs.Notes.{Note, atom_note, form_note, told_note, Site, term_site, joining_site, exchange_site, value_site, sum_site, limit_site, model_site, Place}
-use Rattle.nz_spec.specs.Legal.{Task, Search, at_first, no_point, IsTabled, IsAtom, MayName, MayTell, MayLearn, MayFollow, Lead, after_line, after_lines, AreLegal, IsSpentLegally}
+use Rattle.nz_spec.specs.Notes.{Note, start_note, atom_note, form_note, told_note, Site, term_site, joining_site, exchange_site, value_site, sum_site, limit_site, model_site, Place}
+use Rattle.nz_spec.specs.Legal.{Task, Search, at_first, no_point, point_at, terms_known, IsTabled, IsAtom, MayName, MayStart, MayTell, MayLearn, MayFollow, MoreTermsMayBegin, Lead, after_line, after_lines, AreLegal, IsSpentLegally}
 use Rattle.nz_spec.specs.Places.{IsOperationAt, IsStoppedLegally}
 use Rattle.nz_spec.specs.Reply.{unknown, Cause}
-use Rattle.nz_spec.specs.Right.{Context, normals_in, task_of, IsRightCheck}
+use Rattle.nz_spec.specs.Tree.{Tree}
+use Rattle.nz_spec.specs.Command.{check_sat, accepted}
+use Rattle.nz_spec.specs.Script.{outcome_of}
+use Rattle.nz_spec.specs.Right.{Context, normals_in, listed_under, task_of, asked_of, IsRightCheck}
 use Rattle.nz_sort.specs.Live.{Standing, asserted_by, IsLive}
 use Rattle.nz_log.specs.declared.note.Note as own
 use Rattle.nz_log.specs.declared.place.Place as own_place
@@ -33,20 +36,29 @@ use Rattle.nz_log.specs.Verdicts.{OnSpent, task_in}
 use Rattle.nz_reply.specs.Replies.{work_of}
 use Rattle.nz_reply.specs.declared.reply.WorkDone.{WorkDone}
 use Rattle.nz_session.specs.Assumed.{IsLitOf, AreLitsOf}
+use Rattle.nz_session.specs.Desk.{asked_in}
 use Rattle.nz_session.specs.Undecided.{IfUndecided, IsUndecided, reason_by, cause_by}
 use Rattle.nz_session.proofs.Assigning.{normals_of_model}
 
 -- ---- Questions of which one asks what the other does
 
 -- The models of the second question's assertions are models of the first's, what the second assumes is true only where what the first does is, and
--- the second lists what the first does.
+-- the second lists what the first does, now and earlier.
 record AsksThat (q r : Task) : Type 0 where
   pub models : (a : Assignment) → IsModel r.asserted [] a → IsModel q.asserted [] a
   pub assumed : (a : Assignment) → AreTrueLiterals a r.assumed → AreTrueLiterals a q.assumed
   pub listed : (t : Term) → Contains q.listed t → Contains r.listed t
+  pub earlier : (t : Term) → Contains q.earlier t → Contains r.earlier t
 
-module _ (q r : Task) (h : AsksThat q r) where
-  tabled_too : (l : Literal) → IsTabled q l → IsTabled r l
+module _ (more : MoreTermsMayBegin) (q r : Task) (h : AsksThat q r) where
+  known_too : (t : Term) → Contains (terms_known q) t → Contains (terms_known r) t
+  known_too t k =
+      elim (Contains-append_cases q.earlier q.listed t k) [
+        | inl before ↦ Contains-append_left r.earlier r.listed t (h.earlier t before)
+        | inr here ↦ Contains-append_right r.earlier r.listed t (h.listed t here)
+      ]
+
+  tabled_too : (l : Literal) → IsTabled q.listed l → IsTabled r.listed l
   tabled_too l m = record { number = m.number; term = m.term; listed = h.listed m.term m.listed; row = m.row; tabled = m.tabled; has = m.has }
 
   atom_too : (l : Literal) → IsAtom q l → IsAtom r l
@@ -55,6 +67,9 @@ module _ (q r : Task) (h : AsksThat q r) where
   atom_too (is_below ps b) m = tabled_too (is_below ps b) m
 
   may_follow_too : (s : Search) (x : Point) (line : WorkLine Note) (y : Point) → MayFollow q s x line y → MayFollow r s x line y
+  may_follow_too s x (NoteLine (start_note fs places)) y m =
+      let begun : MayStart r s fs places = record { first = m.0.first; may_begin = more (terms_known q) (terms_known r) fs (point_at places) known_too m.0.may_begin } in
+      (begun, m.1)
   may_follow_too s x (NoteLine (atom_note l)) y m =
       let named : MayName r s l = record { atom = atom_too l m.0.atom; fresh = m.0.fresh; negation_fresh = m.0.negation_fresh } in
       (named, m.1)
@@ -164,16 +179,34 @@ lit_terms ns [] (m ∷ ms) h = absurd h
 lit_terms ns (l ∷ ls) [] h = absurd h
 lit_terms ns (l ∷ ls) (m ∷ ms) h = ap (λ ts. ts ++ map (λ (k : TermLit). term_in ns k.term) ls) (lit_term ns l m h.0) ∙ ap (λ ts. normals_in m ++ ts) (lit_terms ns ls ms h.1)
 
-asks_that : NormalKeepsValue → (ns : List Node) (l : Standing) (s : State) (ls : List TermLit) (ms : List Literal) → IsLive ns l s → AreLitsOf ns ls ms
-    → AsksThat (task_in ns (asserted_by l) ls) (task_of s ms)
-asks_that keeps ns l s ls ms h k =
+-- what the search lists is listed by the check
+search_listed : (ns : List Node) (l : Standing) (c : Context) (ls : List TermLit) (ms : List Literal) → IsLive ns l c.state → AreLitsOf ns ls ms
+    → (t : Term) → Contains (task_in ns (asserted_by l) ls c.earlier).listed t → Contains (listed_under c.state ms) t
+search_listed ns l c ls ms h k t has =
+    let s = c.state in
+    subst (λ us. Contains (flat_map listing_order (flat_map item_terms (items_of s.levels) ++ us)) t) (lit_terms ns ls ms k)
+    (all_listed (items_of s.levels) (map (λ (i : TermLit). term_in ns i.term) ls) t
+    (subst (λ ts. Contains (flat_map listing_order (ts ++ map (λ (i : TermLit). term_in ns i.term) ls)) t) h.terms has))
+
+-- so what searches were asked of is, once the search was asked, what they were asked of once the check is told
+pub search_known : (ns : List Node) (l : Standing) (c : Context) (t : Tree) (ls : List TermLit) (ms : List Literal) → IsLive ns l c.state → AreLitsOf ns ls ms
+    → outcome_of c.state t ≡ accepted (check_sat ms) → (u : Term) → Contains (terms_known (task_in ns (asserted_by l) ls c.earlier)) u → Contains (asked_in c t).earlier u
+search_known ns l c t ls ms h k e u has =
+    let listed = listed_under c.state ms in
+    subst (λ o. Contains (c.earlier ++ asked_of c.state o) u) (sym e)
+    (elim (Contains-append_cases c.earlier (task_in ns (asserted_by l) ls c.earlier).listed u has) [
+      | inl before ↦ Contains-append_left c.earlier listed u before
+      | inr here ↦ Contains-append_right c.earlier listed u (search_listed ns l c ls ms h k u here)
+    ])
+
+asks_that : NormalKeepsValue → (ns : List Node) (l : Standing) (c : Context) (ls : List TermLit) (ms : List Literal) → IsLive ns l c.state → AreLitsOf ns ls ms
+    → AsksThat (task_in ns (asserted_by l) ls c.earlier) (task_of c ms)
+asks_that keeps ns l c ls ms h k =
     record {
-      models = λ a m. subst (λ ts. IsModel ts [] a) (sym h.terms) (normals_of_model keeps a (assertions_of s) [] m);
+      models = λ a m. subst (λ ts. IsModel ts [] a) (sym h.terms) (normals_of_model keeps a (assertions_of c.state) [] m);
       assumed = λ a true_ms. lits_true keeps ns a ls ms k true_ms;
-      listed = λ t c.
-          subst (λ us. Contains (flat_map listing_order (flat_map item_terms (items_of s.levels) ++ us)) t) (lit_terms ns ls ms k)
-          (all_listed (items_of s.levels) (map (λ (i : TermLit). term_in ns i.term) ls) t
-          (subst (λ ts. Contains (flat_map listing_order (ts ++ map (λ (i : TermLit). term_in ns i.term) ls)) t) h.terms c));
+      listed = search_listed ns l c ls ms h k;
+      earlier = λ t before. before;
     }
 
 -- ---- Lists with their notes by terms
@@ -190,42 +223,46 @@ same_units ns (NoteLine note ∷ lines) =
 
 -- ---- A search that wasn't decided
 
--- of what the engine was told
-pub undecided_in_levels : (ns : List Node) (levels told : List (List ℕ)) (ls : List TermLit) (limit : ℕ) (work : WorkList own.Note) (r : Result Verdict Stop) → levels ≡ told
-    → work.limit ≡ limit → AreLegal (task_in ns levels ls) (noted_list ns work).lines → AreNotedWithin ns work.lines → IfErr r (λ s. OnSpent s (IsSpent work))
-    → IfErr r (λ s. OnWide s (λ p. IsStoppedLegally (task_in ns levels ls) (noted_list ns work) (place_of ns p))) → IfErr r (λ s. OnWide s (λ p. IsSiteWithin ns p.site))
-    → IfErr r (λ s. IfUndecided s (IsUndecided ns told ls limit work))
-undecided_in_levels ns levels told ls limit work (Ok v) e limited legal noted spent stopped sited = tt
-undecided_in_levels ns levels told ls limit work (Err Memory) e limited legal noted spent stopped sited = tt
-undecided_in_levels ns levels told ls limit work (Err Spent) e limited legal noted spent stopped sited =
+-- of what the engine was told, where it may begin as it did
+pub undecided_in_levels : (ns : List Node) (levels told : List (List ℕ)) (ls : List TermLit) (earlier : List Term) (begins : List Term → Type 0) (limit : ℕ) (work : WorkList own.Note)
+    (r : Result Verdict Stop) → levels ≡ told → begins earlier → work.limit ≡ limit → ((ts : List Term) → begins ts → AreLegal (task_in ns levels ls ts) (noted_list ns work).lines)
+    → AreNotedWithin ns work.lines → IfErr r (λ s. OnSpent s (IsSpent work))
+    → IfErr r (λ s. OnWide s (λ p. (ts : List Term) → begins ts → IsStoppedLegally (task_in ns levels ls ts) (noted_list ns work) (place_of ns p)))
+    → IfErr r (λ s. OnWide s (λ p. IsSiteWithin ns p.site)) → IfErr r (λ s. IfUndecided s (IsUndecided ns told ls earlier limit work))
+undecided_in_levels ns levels told ls earlier begins limit work (Ok v) e may limited legal noted spent stopped sited = tt
+undecided_in_levels ns levels told ls earlier begins limit work (Err Memory) e may limited legal noted spent stopped sited = tt
+undecided_in_levels ns levels told ls earlier begins limit work (Err Spent) e may limited legal noted spent stopped sited =
     record {
       limited = limited;
-      ends = record { spent = same_units ns work.lines ∙ spent; legal = subst (λ ks. AreLegal (task_in ns ks ls) (noted_list ns work).lines) e legal };
+      ends = record {
+        spent = same_units ns work.lines ∙ spent;
+        legal = subst (λ ks. AreLegal (task_in ns ks ls earlier) (noted_list ns work).lines) e (legal earlier may);
+      };
       noted = noted;
       sited = tt;
     }
-undecided_in_levels ns levels told ls limit work (Err (Wide place)) e limited legal noted spent stopped sited =
+undecided_in_levels ns levels told ls earlier begins limit work (Err (Wide place)) e may limited legal noted spent stopped sited =
     record {
       limited = limited;
-      ends = subst (λ ks. IsStoppedLegally (task_in ns ks ls) (noted_list ns work) (place_of ns place)) e stopped;
+      ends = subst (λ ks. IsStoppedLegally (task_in ns ks ls earlier) (noted_list ns work) (place_of ns place)) e (stopped earlier may);
       noted = noted;
       sited = sited;
     }
 
-module _ (keeps : NormalKeepsValue) (ns : List Node) (l : Standing) (c : Context) (live : IsLive ns l c.state) (ls : List TermLit) (ms : List Literal) (are : AreLitsOf ns ls ms)
+module _ (keeps : NormalKeepsValue) (more : MoreTermsMayBegin) (ns : List Node) (l : Standing) (c : Context) (live : IsLive ns l c.state) (ls : List TermLit) (ms : List Literal) (are : AreLitsOf ns ls ms)
     (limit : ℕ) (bounded : limit ≡ c.limit) (work : WorkList own.Note) (done : WorkDone) (lines : done.work ≡ work.lines) (limited : done.limit ≡ limit) where
   -- the work that is told is that of the search
   same_work : work.limit ≡ limit → noted_list ns work ≡ work_of ns done
   same_work e = λ i. let w : WorkList Note = record { lines = map (noted_line ns) (sym lines i); limit = (e ∙ sym limited) i } in w
 
   -- so the answer that a check of the live state wasn't decided is right
-  pub right_undecided : (place : Option own_place.Place) (r : Reason) (cause : Cause) → IsUndecided ns (asserted_by l) ls limit work place → r ≡ reason_by limit place
+  pub right_undecided : (place : Option own_place.Place) (r : Reason) (cause : Cause) → IsUndecided ns (asserted_by l) ls c.earlier limit work place → r ≡ reason_by limit place
       → cause ≡ cause_by ns done place → IsRightCheck c ms (unknown r) cause
   right_undecided None r cause u e f =
-      let legal = spent_too (task_in ns (asserted_by l) ls) (task_of c.state ms) (asks_that keeps ns l c.state ls ms live are) (noted_list ns work) u.ends in
+      let legal = spent_too more (task_in ns (asserted_by l) ls c.earlier) (task_of c ms) (asks_that keeps ns l c ls ms live are) (noted_list ns work) u.ends in
       subst (IsRightCheck c ms (unknown r)) (sym f)
-      (e ∙ ap units_spent bounded, limited ∙ bounded, subst (IsSpentLegally (task_of c.state ms)) (same_work u.limited) legal)
+      (e ∙ ap units_spent bounded, limited ∙ bounded, subst (IsSpentLegally (task_of c ms)) (same_work u.limited) legal)
   right_undecided (Some place) r cause u e f =
-      let legal = stopped_too (task_in ns (asserted_by l) ls) (task_of c.state ms) (asks_that keeps ns l c.state ls ms live are) (noted_list ns work) (place_of ns place) u.ends in
+      let legal = stopped_too more (task_in ns (asserted_by l) ls c.earlier) (task_of c ms) (asks_that keeps ns l c ls ms live are) (noted_list ns work) (place_of ns place) u.ends in
       subst (IsRightCheck c ms (unknown r)) (sym f)
-      (e, limited ∙ bounded, subst (λ w. IsStoppedLegally (task_of c.state ms) w (place_of ns place)) (same_work u.limited) legal)
+      (e, limited ∙ bounded, subst (λ w. IsStoppedLegally (task_of c ms) w (place_of ns place)) (same_work u.limited) legal)

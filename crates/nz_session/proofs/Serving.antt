@@ -6,6 +6,7 @@ use Rattle.nz_sexpr.specs.declared.packed.PackedHeard.{PackedHeard}
 use Rattle.nz_sexpr.specs.Packed.{packed_heard_view}
 use Rattle.nz_spec.specs.Text as spec
 use Rattle.nz_spec.specs.Table.{Node}
+use Rattle.nz_spec.specs.Term.{Term}
 use Rattle.nz_spec.specs.Decide.{IsFrontOfTable}
 use Rattle.nz_spec.specs.Outside.{AddsFrontOf}
 use Rattle.nz_spec.specs.Error.{out_of_memory}
@@ -84,11 +85,11 @@ cut_in_part thing ks b c f = record { later = thing ∷ []; heard = refl; text =
 
 -- ---- Right replies, with one more
 
-module _ {E : Type 0} (levels : E → List (List ℕ)) (table : E → List Node) (stay : KeptStay) (grows : TranscriptGrows) (limit : ℕ) (old new : Desk E)
-    (front : IsFrontOfTable (table_of old) (table_of new)) (ks : List code.Kept) (h : PackedHeard) (a : Answer) (going : IsGoing levels table limit old ks)
-    (thing : spec.Heard) (same : packed_heard_view h ≡ thing) (told : IsAnswer levels table (context_of (beginning limit) (kept_at old ks)) thing.what a new) where
-  answer : IsAnswer levels table (context_of (beginning limit) (kept_at old ks)) (packed_heard_view h).what a new
-  answer = subst (λ (t : spec.Heard). IsAnswer levels table (context_of (beginning limit) (kept_at old ks)) t.what a new) (sym same) told
+module _ {E : Type 0} (levels : E → List (List ℕ)) (table : E → List Node) (begins : E → List Term → Type 0) (stay : KeptStay) (grows : TranscriptGrows) (limit : ℕ) (old new : Desk E)
+    (front : IsFrontOfTable (table_of old) (table_of new)) (ks : List code.Kept) (h : PackedHeard) (a : Answer) (going : IsGoing levels table begins limit old ks)
+    (thing : spec.Heard) (same : packed_heard_view h ≡ thing) (told : IsAnswer levels table begins (context_of (beginning limit) (kept_at old ks)) thing.what a new) where
+  answer : IsAnswer levels table begins (context_of (beginning limit) (kept_at old ks)) (packed_heard_view h).what a new
+  answer = subst (λ (t : spec.Heard). IsAnswer levels table begins (context_of (beginning limit) (kept_at old ks)) t.what a new) (sym same) told
 
   abbrev one : Kept
   one = kept_of (table_of new) (kept_answer h a)
@@ -105,11 +106,11 @@ module _ {E : Type 0} (levels : E → List (List ℕ)) (table : E → List Node)
   pub exits_on : a.exits ≡ true → AreRight (beginning limit) (kept_at new (ks ++ kept_answer h a ∷ [])) × EndsByExit start (kept_at new (ks ++ kept_answer h a ∷ []))
   exits_on exits = (right_on, subst (EndsByExit start) after (grown.ends (answer.exits exits)))
 
-  pub going_on : a.exits ≡ false → IsGoing levels table limit new (ks ++ kept_answer h a ∷ [])
+  pub going_on : a.exits ≡ false → IsGoing levels table begins limit new (ks ++ kept_answer h a ∷ [])
   going_on stays =
       record {
         right = right_on;
         goes_on = subst (GoesOn start) after (grown.goes_on (answer.stays stays));
-        holds = subst (λ (l : List Kept). Holds levels table new (context_of (beginning limit) l)) after (subst (Holds levels table new) (sym grown.context) answer.holds);
+        holds = subst (λ (l : List Kept). Holds levels table begins new (context_of (beginning limit) l)) after (subst (Holds levels table begins new) (sym grown.context) answer.holds);
         within = within_after stay (table_of old) (table_of new) front ks going.within h a answer.within;
       }

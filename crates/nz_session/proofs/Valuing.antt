@@ -30,13 +30,13 @@ use Rattle.nz_term.specs.Values as own
 use Rattle.nz_truth.specs.declared.walk.Outcome.{Outcome}
 use Rattle.nz_truth.specs.declared.walk.Outcome.TheVariants as outcome
 use Rattle.nz_truth.specs.Outcomes.{IsOutcome, AreOutcomes}
-use Rattle.nz_session.specs.Desk.{last_of, AreValuesOf, KeepsValues, Holds, IsAnswer}
+use Rattle.nz_session.specs.Desk.{last_of, AreValuesOf, KeepsValues, Holds, IsAnswer, asked_in}
 use Rattle.nz_session.specs.Valued.{AreShown, numbers_typed, outcome_shown, outcomes_shown, terms_shown}
 use Rattle.nz_session.specs.declared.desk.Desk.{Desk}
 use Rattle.nz_session.specs.declared.desk.Answer.{Answer}
 use Rattle.nz_session.specs.declared.models.FoundModel.{FoundModel}
 use Rattle.nz_session.specs.declared.desk.LastAnswer.TheVariants.{Model}
-use Rattle.nz_session.proofs.Answering.{plainly, holds_next, told_answer}
+use Rattle.nz_session.proofs.Answering.{plainly, told_answer}
 
 -- ---- Outcomes, as they are told
 
@@ -91,11 +91,11 @@ echo_told tells t r text e f = subst (Tells (argument_of t)) (e ∙ ap Some f) (
 
 -- ---- The answer to get-value
 
-pub values_answer : {E : Type 0} (levels : E → List (List ℕ)) (table : E → List Node) (tells : ArgumentTells) (c : Context) (t : Tree) (r : Request) (k : Command) (xs : List Typed) (shows : List Shown) (m : FoundModel) (answer : Answer) (desk : Desk E)
-    → answer ≡ plainly (code.Values shows) → Holds levels table desk c → desk.last ≡ Some (Model m)
+pub values_answer : {E : Type 0} (levels : E → List (List ℕ)) (table : E → List Node) (begins : E → List Term → Type 0) (tells : ArgumentTells) (c : Context) (t : Tree) (r : Request) (k : Command) (xs : List Typed) (shows : List Shown) (m : FoundModel) (answer : Answer) (desk : Desk E)
+    → answer ≡ plainly (code.Values shows) → Holds levels table begins desk (asked_in c t) → desk.last ≡ Some (Model m)
     → request_of t ≡ Some r → outcome_of c.state t ≡ accepted k → AsksValues desk.terms xs r k → AreShown desk.terms m.values xs shows
-    → IsAnswer levels table c (intact t) answer desk
-values_answer levels table tells c t r k xs shows m answer desk is h kept parsed e q shown =
+    → IsAnswer levels table begins c (intact t) answer desk
+values_answer levels table begins tells c t r k xs shows m answer desk is h kept parsed e q shown =
     let ns = desk.terms in
     let last : c.state.last ≡ Some (model_found m.bindings.value) = sym h.last ∙ ap (option_map last_of) kept in
     let values : AreValuesOf ns m.bindings.value m.values = subst (KeepsValues ns) kept h.values in
@@ -105,5 +105,5 @@ values_answer levels table tells c t r k xs shows m answer desk is h kept parsed
     let tells : reply_of (intact t) (code.Values shows) ≡ values_reply told =
     ap values_reply (ap (λ ts. with_shown ts shows) (values_told tells t r q.questions parsed q.request) ∙ ap (with_shown (trees_from (question_trees q.questions))) list ∙ told_trees (assignment_of m.bindings.value) q.questions q.terms) in
     let right : AreRightValues c.state.last asks (values_reply told) = subst (λ (o : Option LastAnswer). AreRightValues o asks (values_reply told)) (sym last) refl in
-    told_answer levels table c t (get_value asks) (code.Values shows) (values_reply told) answer desk is tells tt (e ∙ ap accepted q.is) (right, refl)
-    (holds_next levels table desk c h) (λ x. cc)
+    told_answer levels table begins c t (get_value asks) (code.Values shows) (values_reply told) answer desk is tells tt (e ∙ ap accepted q.is) (right, refl)
+    h (λ x. cc)

@@ -1,7 +1,8 @@
 -- What a desk holds, and what its answers are.
-use Rattle.std.specs.Prelude.{◌≡◌, ℕ, ◌<◌, Bool, true, false, List, length, map, option_map, Option, Some, ⊤}
+use Rattle.std.specs.Prelude.{◌≡◌, ℕ, ◌<◌, Bool, true, false, List, length, map, Contains, option_map, Option, Some, ⊤}
 use Rattle.std.specs.List.{AllByRecursion}
-use Rattle.nz_spec.specs.Text.{What}
+use Rattle.nz_spec.specs.Text.{What, intact}
+use Rattle.nz_spec.specs.Tree.{Tree}
 use Rattle.nz_spec.specs.Term.{Term, Value}
 use Rattle.nz_spec.specs.Table.{Node, assignment_by}
 use Rattle.nz_spec.specs.Decide.{IsFrontOfTable, asserted_terms}
@@ -9,7 +10,7 @@ use Rattle.nz_spec.specs.Model.{Binding, assignment_of}
 use Rattle.nz_spec.specs.Live as live_state
 use Rattle.nz_spec.specs.Live.{State, constants_of}
 use Rattle.nz_spec.specs.Sorts.{IsSortedState}
-use Rattle.nz_spec.specs.Right.{Context, IsRight, IsExit, context_after, done}
+use Rattle.nz_spec.specs.Right.{Context, IsRight, IsExit, earlier_after, context_after, done}
 use Rattle.nz_sort.specs.Live.{IsLive, asserted_by}
 use Rattle.nz_reply.specs.Reasons.{reason_of}
 use Rattle.nz_reply.specs.Replies.{reply_of, cause_of, IsCauseWithin}
@@ -49,8 +50,16 @@ abbrev pub KeepsValues : List Node → Option LastAnswer → Type 0
 KeepsValues ns (Some (Model m)) = AreValuesOf ns m.bindings.value m.values
 KeepsValues ns last = ⊤
 
--- The desk holds what a context says; what its engine was told stands in its table.
-pub record Holds {E : Type 0} (levels : E → List (List ℕ)) (table : E → List Node) (desk : Desk E) (c : Context) : Type 0 where
+-- A search may begin with what an engine keeps where those before were asked of these terms, and of any more.
+abbrev pub BeginsOver : {E : Type 0} → (E → List Term → Type 0) → E → List Term → Type 0
+BeginsOver begins engine ts = (us : List Term) → ((t : Term) → Contains ts t → Contains us t) → begins engine us
+
+-- the context where searches were asked of what a command asks too
+abbrev pub asked_in : Context → Tree → Context
+asked_in c t = record c { earlier = earlier_after c (intact t) }
+
+-- The desk holds what a context says; what its engine was told stands in its table, and what it keeps a search may begin with.
+pub record Holds {E : Type 0} (levels : E → List (List ℕ)) (table : E → List Node) (begins : E → List Term → Type 0) (desk : Desk E) (c : Context) : Type 0 where
   pub live : IsLive desk.terms desk.live c.state
   pub sorted : IsSortedState c.state
   pub told : IsTold (levels desk.engine) desk.told (asserted_by desk.live)
@@ -60,12 +69,13 @@ pub record Holds {E : Type 0} (levels : E → List (List ℕ)) (table : E → Li
   pub values : KeepsValues desk.terms desk.last
   pub success : desk.prints_success ≡ c.state.options.prints_success
   pub bounded : desk.limit ≡ c.limit
+  pub begun : BeginsOver begins desk.engine c.earlier
 
 -- The answer is right for what was heard, its cause names terms of the table, and the desk holds what it leaves.
-pub record IsAnswer {E : Type 0} (levels : E → List (List ℕ)) (table : E → List Node) (c : Context) (what : What) (answer : Answer) (desk : Desk E) : Type 0 where
+pub record IsAnswer {E : Type 0} (levels : E → List (List ℕ)) (table : E → List Node) (begins : E → List Term → Type 0) (c : Context) (what : What) (answer : Answer) (desk : Desk E) : Type 0 where
   pub right : IsRight c what (reply_of what answer.reply) (cause_of (table_of desk) answer.cause)
   pub within : IsCauseWithin (table_of desk) answer.cause
-  pub holds : Holds levels table desk (context_after c what (reply_of what answer.reply))
+  pub holds : Holds levels table begins desk (context_after c what (reply_of what answer.reply))
   pub exits : answer.exits ≡ true → IsExit c.state what (reply_of what answer.reply)
   pub stays : answer.exits ≡ false → IsExit c.state what (reply_of what answer.reply) → ⊥
 

@@ -11,6 +11,7 @@ use Rattle.nz_spec.specs.Told.{IsToldFirst}
 use Rattle.nz_spec.specs.Outside.{AddsFrontOf}
 use Rattle.nz_sexpr.specs.Fits.{Fits, owes}
 use Rattle.nz_spec.specs.Table.{Node}
+use Rattle.nz_spec.specs.Term.{Term}
 use Rattle.nz_session.specs.Desk.{Holds, table_of}
 use Rattle.nz_reply.specs.declared.reply.Kept as code
 use Rattle.nz_reply.specs.Replies.{all_kept, AreKeptWithin}
@@ -29,10 +30,10 @@ abbrev pub kept_at : {E : Type 0} → Desk E → List code.Kept → List Kept
 kept_at desk ks = all_kept (table_of desk) ks
 
 -- Each reply so far is right, none was to an exit, and the desk holds what they left.
-pub record IsGoing {E : Type 0} (levels : E → List (List ℕ)) (table : E → List Node) (limit : ℕ) (desk : Desk E) (ks : List code.Kept) : Type 0 where
+pub record IsGoing {E : Type 0} (levels : E → List (List ℕ)) (table : E → List Node) (begins : E → List Term → Type 0) (limit : ℕ) (desk : Desk E) (ks : List code.Kept) : Type 0 where
   pub right : AreRight (beginning limit) (kept_at desk ks)
   pub goes_on : GoesOn start (kept_at desk ks)
-  pub holds : Holds levels table desk (context_of (beginning limit) (kept_at desk ks))
+  pub holds : Holds levels table begins desk (context_of (beginning limit) (kept_at desk ks))
   pub within : AreKeptWithin (table_of desk) ks
 
 -- what a session has kept
@@ -55,8 +56,8 @@ IsShort bytes = length bytes < 2 ^ 64
 
 -- The session has read these bytes; its replies are right, and while the bytes aren't too many, they are those to what is
 -- complete in them.
-pub record Serves {E : Type 0} (levels : E → List (List ℕ)) (table : E → List Node) (limit : ℕ) (session : Session E) (bytes : List ℕ) : Type 0 where
-  pub going : IsGoing levels table limit session.desk session.kept.items
+pub record Serves {E : Type 0} (levels : E → List (List ℕ)) (table : E → List Node) (begins : E → List Term → Type 0) (limit : ℕ) (session : Session E) (bytes : List ℕ) : Type 0 where
+  pub going : IsGoing levels table begins limit session.desk session.kept.items
   pub read : IsShort bytes → HasRead session bytes
 
 -- more was kept, and its replies were written

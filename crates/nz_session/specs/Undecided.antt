@@ -1,6 +1,7 @@
 -- Checks that weren't decided: the work of their search, and why it ended.
 use Rattle.std.specs.Prelude.{◌≡◌, ℕ, List, Option, None, Some, IfSome, ⊤}
 use Rattle.nz_spec.specs.Table.{Node}
+use Rattle.nz_spec.specs.Term.{Term}
 use Rattle.nz_spec.specs.Live as live_state
 use Rattle.nz_spec.specs.Legal.{Task, IsSpentLegally}
 use Rattle.nz_spec.specs.Places.{IsStoppedLegally}
@@ -29,11 +30,12 @@ abbrev pub EndsLegally : List Node → Task → WorkList Note → Option Place �
 EndsLegally ns q work None = IsSpentLegally q (noted_list ns work)
 EndsLegally ns q work (Some place) = IsStoppedLegally q (noted_list ns work) (place_of ns place)
 
--- A search of the assertions of these numbers by level, under these literals, ended so, within this limit. What it noted, and the place, are of
--- the table.
-pub record IsUndecided (ns : List Node) (levels : List (List ℕ)) (assumed : List TermLit) (limit : ℕ) (work : WorkList Note) (place : Option Place) : Type 0 where
+-- A search of the assertions of these numbers by level, under these literals, where those before were asked of the earlier terms, ended so, within
+-- this limit. What it noted, and the place, are of the table.
+pub record IsUndecided (ns : List Node) (levels : List (List ℕ)) (assumed : List TermLit) (earlier : List Term) (limit : ℕ) (work : WorkList Note) (place : Option Place)
+    : Type 0 where
   pub limited : work.limit ≡ limit
-  pub ends : EndsLegally ns (task_in ns levels assumed) work place
+  pub ends : EndsLegally ns (task_in ns levels assumed earlier) work place
   pub noted : AreNotedWithin ns work.lines
   pub sited : IfSome place (λ (p : Place). IsSiteWithin ns p.site)
 

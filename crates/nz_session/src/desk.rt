@@ -6,7 +6,7 @@ ghost use Rattle.nz_spec.specs.Text.{intact};
 ghost use Rattle.nz_spec.specs.Term as term;
 ghost use Rattle.nz_spec.specs.Literal.{Literal, AreTrueLiterals};
 ghost use Rattle.nz_spec.specs.Decide.{IsFrontOfTable, AreModelValues, asserted_numbers, asserted_terms};
-ghost use Rattle.nz_spec.specs.Legal.{IsDeadEnd, at_first};
+ghost use Rattle.nz_spec.specs.Legal.{IsDeadEnd, at_first, terms_known};
 ghost use Rattle.nz_spec.specs.Model.{IsUnsatisfiable};
 ghost use Rattle.nz_spec.specs.Live.{assertions_of, items_of, items_hold_integers};
 ghost use Rattle.nz_spec.specs.Request.{Request};
@@ -28,6 +28,7 @@ ghost use Rattle.nz_sort.specs.Assuming.{AreAssumed};
 ghost use Rattle.nz_sort.specs.Live.{AsksValues, asserted_by};
 ghost use Rattle.nz_elaborate.specs.Typed.{AreTyped};
 ghost use Rattle.nz_session.specs.Assumed.{AreLitsOf, IsTakenAt};
+ghost use Rattle.nz_session.specs.Desk.{BeginsOver};
 ghost use Rattle.nz_session.specs.Told.{IsTold};
 ghost use Rattle.nz_session.specs.Undecided.{IfUndecided, IsUndecided, cause_by, reason_by};
 
@@ -49,6 +50,7 @@ use nz_spec::term::{
     numerals_are_whole,
 };
 use nz_spec::transcript::{assertions_are_over, assumptions_are_taken, states_stay_sorted};
+use nz_spec::work::more_terms_may_begin;
 use nz_term::{Assign, Terms, known_table};
 use std::alloc::{AllocError, Global};
 use std::rc::Rc;
@@ -89,14 +91,16 @@ impl<E: Decide> Desk<E> {
     ghost use Rattle.nz_spec.specs.Right.{beginning};
     ghost use Rattle.nz_spec.specs.Command.{accepted, check_sat, get_model, get_reason};
     ghost use Rattle.nz_spec.specs.Script.{outcome_of};
-    ghost use Rattle.nz_session.specs.Desk.{Holds, IsAnswer, Succeeds, asserted_in, table_of};
+    ghost use Rattle.nz_session.specs.Desk.{Holds, IsAnswer, Succeeds, asked_in, asserted_in, table_of};
     ghost use Rattle.nz_session.specs.Told.{IsToldNothing};
 
-    /// The desk of the start, over an engine that was told nothing yet, with this limit of units for each check.
+    /// The desk of the start, over an engine that was told nothing yet, with this limit of units for each check. Any search may begin with what the
+    /// engine keeps.
     pub fn new(alloc: Global, engine: E, limit: u64) -> Result<Desk<E>, Memory>
         requires levels { E.levels engine ≡ [] }
         requires table { E.table engine ≡ [] }
-        ensures start { IfOk result (λ desk. Holds E.levels E.table desk (beginning limit)) }
+        requires begins { (ts : List term.Term) → E.begins engine ts }
+        ensures start { IfOk result (λ desk. Holds E.levels E.table E.begins desk (beginning limit)) }
     {
         Ok(Desk {
             alloc,
@@ -113,8 +117,8 @@ impl<E: Decide> Desk<E> {
 
     /// The answer to a thing heard.
     pub fn answer(&mut self, what: &What) -> Answer
-        requires { (c : Context) × Holds E.levels E.table self.old c }
-        ensures right { (c : Context) → Holds E.levels E.table self.old c → IsAnswer E.levels E.table c (what_view what.now) result self.new }
+        requires { (c : Context) × Holds E.levels E.table E.begins self.old c }
+        ensures right { (c : Context) → Holds E.levels E.table E.begins self.old c → IsAnswer E.levels E.table E.begins c (what_view what.now) result self.new }
         ensures front { IsFrontOfTable (table_of self.old) (table_of self.new) }
     {
         match what {
@@ -127,8 +131,8 @@ impl<E: Decide> Desk<E> {
 
     /// The answer to a command.
     fn command(&mut self, tree: &Tree) -> Answer
-        requires { (c : Context) × Holds E.levels E.table self.old c }
-        ensures right { (c : Context) → Holds E.levels E.table self.old c → IsAnswer E.levels E.table c (intact (view tree.now)) result self.new }
+        requires { (c : Context) × Holds E.levels E.table E.begins self.old c }
+        ensures right { (c : Context) → Holds E.levels E.table E.begins self.old c → IsAnswer E.levels E.table E.begins c (intact (view tree.now)) result self.new }
         ensures front { IsFrontOfTable (table_of self.old) (table_of self.new) }
     {
         argument_tells();
@@ -192,6 +196,7 @@ impl<E: Decide> Desk<E> {
         requires told { self.old.told.levels ≡ length (E.levels self.old.engine) }
         ensures told { IsToldNothing (E.levels self.new.engine) self.new.told }
         ensures table { E.table self.new.engine ≡ E.table self.old.engine }
+        ensures begins { (ts : List term.Term) → E.begins self.old.engine ts → E.begins self.new.engine ts }
         ensures rest { self.new ≡ record self.old { engine = self.new.engine; told = self.new.told; last = None } }
     {
         self.engine.pop(self.told.levels);
@@ -203,9 +208,9 @@ impl<E: Decide> Desk<E> {
 
     /// The answer to a check under what is assumed. Where one assumption denies another nothing is searched.
     fn check_under(&mut self, assumed: &[Assumed]) -> Answer
-        requires holds { (c : Context) × Holds E.levels E.table self.old c × (items_hold_integers (items_of c.state.levels) ≡ false) }
+        requires holds { (c : Context) × Holds E.levels E.table E.begins self.old c × (items_hold_integers (items_of c.state.levels) ≡ false) }
         requires taken { All (λ x. IsTakenAt self.old.terms x.term) assumed.now }
-        ensures right { (c : Context) (tree : script.Tree) (ls : List Literal) → Holds E.levels E.table self.old c → outcome_of c.state tree ≡ accepted (check_sat ls) → AreAssumed self.old.terms assumed.now ls → IsAnswer E.levels E.table c (intact tree) result self.new }
+        ensures right { (c : Context) (tree : script.Tree) (ls : List Literal) → Holds E.levels E.table E.begins self.old c → outcome_of c.state tree ≡ accepted (check_sat ls) → AreAssumed self.old.terms assumed.now ls → IsAnswer E.levels E.table E.begins c (intact tree) result self.new }
         ensures terms { table_of self.new ≡ table_of self.old }
     {
         normal_keeps_value();
@@ -221,10 +226,10 @@ impl<E: Decide> Desk<E> {
 
     /// The answer to a check under literals, none of which is the negation of another.
     fn check(&mut self, assumed: &[TermLit]) -> Answer
-        requires holds { (c : Context) × Holds E.levels E.table self.old c × (items_hold_integers (items_of c.state.levels) ≡ false) }
+        requires holds { (c : Context) × Holds E.levels E.table E.begins self.old c × (items_hold_integers (items_of c.state.levels) ≡ false) }
         requires taken { All (λ l. IsTakenAt self.old.terms l.term) assumed.now }
         requires consistent { AreConsistent assumed.now }
-        ensures right { (c : Context) (tree : script.Tree) (ls : List Literal) → Holds E.levels E.table self.old c → outcome_of c.state tree ≡ accepted (check_sat ls) → AreLitsOf self.old.terms assumed.now ls → IsAnswer E.levels E.table c (intact tree) result self.new }
+        ensures right { (c : Context) (tree : script.Tree) (ls : List Literal) → Holds E.levels E.table E.begins self.old c → outcome_of c.state tree ≡ accepted (check_sat ls) → AreLitsOf self.old.terms assumed.now ls → IsAnswer E.levels E.table E.begins c (intact tree) result self.new }
         ensures terms { table_of self.new ≡ table_of self.old }
     {
         normal_keeps_value();
@@ -250,7 +255,7 @@ impl<E: Decide> Desk<E> {
 
     /// The answer where there is no model.
     fn refuted(&mut self) -> Answer
-        ensures right { (c : Context) (tree : script.Tree) (ls : List Literal) → Holds E.levels E.table self.old c → outcome_of c.state tree ≡ accepted (check_sat ls) → IsUnsatisfiable (assertions_of c.state) ls → IsAnswer E.levels E.table c (intact tree) result self.new }
+        ensures right { (c : Context) (tree : script.Tree) (ls : List Literal) → Holds E.levels E.table E.begins self.old (asked_in c tree) → outcome_of c.state tree ≡ accepted (check_sat ls) → IsUnsatisfiable (assertions_of c.state) ls → IsAnswer E.levels E.table E.begins c (intact tree) result self.new }
         ensures terms { table_of self.new ≡ table_of self.old }
     {
         self.last = Some(LastAnswer::Refutation);
@@ -259,9 +264,10 @@ impl<E: Decide> Desk<E> {
 
     /// The answer where a check wasn't decided, which is kept for `get-info`.
     fn undecided(&mut self, place: Option<Place>) -> Answer
-        ensures right { (c : Context) (tree : script.Tree) (assumed : List TermLit) (ls : List Literal) → Holds E.levels E.table self.old c → outcome_of c.state tree ≡ accepted (check_sat ls) → AreLitsOf self.old.terms assumed ls → IsUndecided self.old.terms (asserted_by self.old.live) assumed self.old.limit self.old.work place → IsAnswer E.levels E.table c (intact tree) result self.new }
+        ensures right { (c : Context) (tree : script.Tree) (assumed : List TermLit) (ls : List Literal) → Holds E.levels E.table E.begins self.old (asked_in c tree) → outcome_of c.state tree ≡ accepted (check_sat ls) → AreLitsOf self.old.terms assumed ls → IsUndecided self.old.terms (asserted_by self.old.live) assumed c.earlier self.old.limit self.old.work place → IsAnswer E.levels E.table E.begins c (intact tree) result self.new }
         ensures terms { table_of self.new ≡ table_of self.old }
     {
+        more_terms_may_begin();
         normal_keeps_value();
         let Ok((reason, shown)) = reasons_at(self.alloc, self.limit, &place) else {
             return said(Reply::Error(Error::OutOfMemory));
@@ -283,7 +289,7 @@ impl<E: Decide> Desk<E> {
 
     /// The answer where a model was found, which is kept for `get-model`.
     fn found(&mut self, assign: Assign) -> Answer
-        ensures right { (c : Context) (tree : script.Tree) (ls : List Literal) → Holds E.levels E.table self.old c → outcome_of c.state tree ≡ accepted (check_sat ls) → AreModelValues self.old.terms (asserted_in self.old) [] assign → AreTrueLiterals (assignment_by self.old.terms assign) ls → IsAnswer E.levels E.table c (intact tree) result self.new }
+        ensures right { (c : Context) (tree : script.Tree) (ls : List Literal) → Holds E.levels E.table E.begins self.old (asked_in c tree) → outcome_of c.state tree ≡ accepted (check_sat ls) → AreModelValues self.old.terms (asserted_in self.old) [] assign → AreTrueLiterals (assignment_by self.old.terms assign) ls → IsAnswer E.levels E.table E.begins c (intact tree) result self.new }
         ensures terms { table_of self.new ≡ table_of self.old }
     {
         assertions_are_over();
@@ -307,7 +313,7 @@ impl<E: Decide> Desk<E> {
 
     /// The answer to `get-model`.
     fn show_model(&self) -> Answer
-        ensures right { (c : Context) (tree : script.Tree) → Holds E.levels E.table self.now c → outcome_of c.state tree ≡ accepted get_model → IsAnswer E.levels E.table c (intact tree) result self.now }
+        ensures right { (c : Context) (tree : script.Tree) → Holds E.levels E.table E.begins self.now (asked_in c tree) → outcome_of c.state tree ≡ accepted get_model → IsAnswer E.levels E.table E.begins c (intact tree) result self.now }
     {
         match &self.last {
             Some(LastAnswer::Model(model)) => match model.bindings.clone() {
@@ -321,7 +327,7 @@ impl<E: Decide> Desk<E> {
     /// The answer to `get-value` of these terms.
     fn show_values(&self, asked: &[Typed]) -> Answer
         requires typed { (terms : term.Terms) × AreTyped self.now.terms asked.now terms }
-        ensures right { (c : Context) (tree : script.Tree) (r : Request) (k : Command) → Holds E.levels E.table self.now c → request_of tree ≡ Some r → outcome_of c.state tree ≡ accepted k → AsksValues self.now.terms asked.now r k → IsAnswer E.levels E.table c (intact tree) result self.now }
+        ensures right { (c : Context) (tree : script.Tree) (r : Request) (k : Command) → Holds E.levels E.table E.begins self.now (asked_in c tree) → request_of tree ≡ Some r → outcome_of c.state tree ≡ accepted k → AsksValues self.now.terms asked.now r k → IsAnswer E.levels E.table E.begins c (intact tree) result self.now }
     {
         argument_tells();
         match &self.last {
@@ -337,7 +343,7 @@ impl<E: Decide> Desk<E> {
 
     /// The answer to `get-info` of the reason of the last answer.
     fn show_reason(&self) -> Answer
-        ensures right { (c : Context) (tree : script.Tree) → Holds E.levels E.table self.now c → outcome_of c.state tree ≡ accepted get_reason → IsAnswer E.levels E.table c (intact tree) result self.now }
+        ensures right { (c : Context) (tree : script.Tree) → Holds E.levels E.table E.begins self.now (asked_in c tree) → outcome_of c.state tree ≡ accepted get_reason → IsAnswer E.levels E.table E.begins c (intact tree) result self.now }
     {
         match &self.last {
             Some(LastAnswer::Undecided(reason)) => match reason.share() {
@@ -452,9 +458,10 @@ fn decide<E: Decide>(
     ensures told { IsTold (E.levels engine.new) told.new (asserted_by live.now) }
     ensures sat { IfOk result (λ v. IfSat v (AreModelValues terms.now (asserted_terms terms.now (asserted_by live.now)) [])) }
     ensures sat_assumed { IfOk result (λ v. IfSat v (λ ps. AreTrueLiterals (assignment_by terms.now ps) (map (literal_of terms.now) assumed.now))) }
-    ensures unsat { IfOk result (λ v. OnUnsat v (IsDeadEnd (task_in terms.now (asserted_by live.now) assumed.now) at_first)) }
-    ensures undecided { IfErr result (λ s. IfUndecided s (IsUndecided terms.now (asserted_by live.now) assumed.now limit work.new)) }
+    ensures unsat { IfOk result (λ v. OnUnsat v (IsDeadEnd (task_in terms.now (asserted_by live.now) assumed.now []) at_first)) }
+    ensures undecided { (ts : List term.Term) → E.begins engine.old ts → IfErr result (λ s. IfUndecided s (IsUndecided terms.now (asserted_by live.now) assumed.now ts limit work.new)) }
     ensures front { IsFrontOfTable (E.table engine.new) terms.now }
+    ensures begins { (ts : List term.Term) → BeginsOver E.begins engine.old ts → BeginsOver E.begins engine.new (terms_known (task_in terms.now (asserted_by live.now) assumed.now ts)) }
 {
     tell(engine, told, live)?;
     work.reserve(limit)?;

@@ -7,6 +7,7 @@ ghost use Rattle.nz_spec.specs.Outside.{AddsFrontOf, counted};
 ghost use Rattle.nz_spec.specs.Error.{out_of_memory};
 ghost use Rattle.nz_spec.specs.Reply.{error, reply_text};
 ghost use Rattle.nz_spec.specs.Live.{start};
+ghost use Rattle.nz_spec.specs.Term.{Term};
 ghost use Rattle.nz_spec.specs.Right.{beginning};
 ghost use Rattle.nz_spec.specs.Transcript.{AreRight, EndsByExit, GoesOn};
 ghost use Rattle.nz_reply.specs.Replies.{reply_of};
@@ -101,14 +102,14 @@ fn serve<E: Decide, K: Sink>(
     heard: Heard,
     sink: &mut K,
 ) -> Fed
-    requires { (limit : ℕ) × IsGoing E.levels E.table limit desk.old kept.old.items }
-    ensures going { result ≡ Fed.Going → (limit : ℕ) → IsGoing E.levels E.table limit desk.old kept.old.items → IsGoing E.levels E.table limit desk.new kept.new.items }
-    ensures exited { result ≡ Fed.Exited → (limit : ℕ) → IsGoing E.levels E.table limit desk.old kept.old.items → AreRight (beginning limit) (kept_at desk.new kept.new.items) × EndsByExit start (kept_at desk.new kept.new.items) }
+    requires { (limit : ℕ) × IsGoing E.levels E.table E.begins limit desk.old kept.old.items }
+    ensures going { result ≡ Fed.Going → (limit : ℕ) → IsGoing E.levels E.table E.begins limit desk.old kept.old.items → IsGoing E.levels E.table E.begins limit desk.new kept.new.items }
+    ensures exited { result ≡ Fed.Exited → (limit : ℕ) → IsGoing E.levels E.table E.begins limit desk.old kept.old.items → AreRight (beginning limit) (kept_at desk.new kept.new.items) × EndsByExit start (kept_at desk.new kept.new.items) }
     ensures answered { (result ≡ Fed.Going) ⊎ (result ≡ Fed.Exited) → Answers (heard_view heard) (kept_at desk.old kept.old.items) (kept_at desk.new kept.new.items) (K.held sink.old) (K.held sink.new) }
     ensures cut { result ≡ Fed.Cut → kept.new.items ≡ kept.old.items }
     ensures cut_desk { result ≡ Fed.Cut → desk.new ≡ desk.old }
     ensures cut_written { result ≡ Fed.Cut → Appends (K.held sink.old) (K.held sink.new) (reply_text (error out_of_memory)) }
-    ensures broken_off { result ≡ Fed.SinkFault → (limit : ℕ) → IsGoing E.levels E.table limit desk.old kept.old.items → AreRight (beginning limit) (kept_at desk.new kept.new.items) }
+    ensures broken_off { result ≡ Fed.SinkFault → (limit : ℕ) → IsGoing E.levels E.table E.begins limit desk.old kept.old.items → AreRight (beginning limit) (kept_at desk.new kept.new.items) }
     ensures broken_off_written { result ≡ Fed.SinkFault → AnswersInPart (heard_view heard) (kept_at desk.old kept.old.items) (kept_at desk.new kept.new.items) (K.held sink.old) (K.held sink.new) }
     ensures faults { K.faults sink.new ≡ counted K.last (is_sink_fault result) (K.faults sink.old) }
     ensures handed { (result ≡ Fed.SinkFault → ⊥) → K.handed sink.new ≡ K.held sink.new }
@@ -143,12 +144,13 @@ impl<E: Decide> Session<E> {
     ghost use Rattle.nz_reply.specs.Journals.{journal_of};
     ghost use Rattle.nz_session.specs.Serve.{BreaksOff, HasEnded, HasExited, IsCut, Serves, Writes, WritesCut, kept_by, table_by};
 
-    /// A session at the beginning of a script, over an engine that was told nothing yet, with this limit of units for each
-    /// check.
+    /// A session at the beginning of a script, over an engine that was told nothing yet, with this limit of units for each check. Any search may
+    /// begin with what the engine keeps.
     pub fn new(alloc: Global, engine: E, limit: u64) -> Result<Session<E>, Memory>
         requires levels { E.levels engine ≡ [] }
         requires table { E.table engine ≡ [] }
-        ensures serves { IfOk result (λ session. Serves E.levels E.table limit session []) }
+        requires begins { (ts : List Term) → E.begins engine ts }
+        ensures serves { IfOk result (λ session. Serves E.levels E.table E.begins limit session []) }
         ensures nothing { IfOk result (λ session. kept_by session ≡ []) }
     {
         reading_tells_first();
@@ -165,13 +167,13 @@ impl<E: Decide> Session<E> {
 
     /// Feeds a piece of the script: every command that is complete by then is answered, and its reply written and flushed.
     pub fn feed<K: Sink>(&mut self, piece: &[u8], sink: &mut K) -> Fed
-        requires { (limit : ℕ) × (bytes : List ℕ) × Serves E.levels E.table limit self.old bytes }
-        ensures going { result ≡ Fed.Going → (limit : ℕ) (bytes : List ℕ) → Serves E.levels E.table limit self.old bytes → Serves E.levels E.table limit self.new (bytes ++ piece.now) }
-        ensures exited { result ≡ Fed.Exited → (limit : ℕ) (bytes : List ℕ) → Serves E.levels E.table limit self.old bytes → HasExited limit (bytes ++ piece.now) (kept_by self.new) }
-        ensures written { (result ≡ Fed.Going) ⊎ (result ≡ Fed.Exited) → (limit : ℕ) (bytes : List ℕ) → Serves E.levels E.table limit self.old bytes → Writes (kept_by self.old) (kept_by self.new) (K.held sink.old) (K.held sink.new) }
-        ensures cut { result ≡ Fed.Cut → (limit : ℕ) (bytes : List ℕ) → Serves E.levels E.table limit self.old bytes → IsCut limit false (bytes ++ piece.now) (kept_by self.new) }
-        ensures cut_written { result ≡ Fed.Cut → (limit : ℕ) (bytes : List ℕ) → Serves E.levels E.table limit self.old bytes → WritesCut (kept_by self.old) (kept_by self.new) (K.held sink.old) (K.held sink.new) }
-        ensures broken_off { result ≡ Fed.SinkFault → (limit : ℕ) (bytes : List ℕ) → Serves E.levels E.table limit self.old bytes → BreaksOff limit false (bytes ++ piece.now) (kept_by self.old) (kept_by self.new) (K.held sink.old) (K.held sink.new) }
+        requires { (limit : ℕ) × (bytes : List ℕ) × Serves E.levels E.table E.begins limit self.old bytes }
+        ensures going { result ≡ Fed.Going → (limit : ℕ) (bytes : List ℕ) → Serves E.levels E.table E.begins limit self.old bytes → Serves E.levels E.table E.begins limit self.new (bytes ++ piece.now) }
+        ensures exited { result ≡ Fed.Exited → (limit : ℕ) (bytes : List ℕ) → Serves E.levels E.table E.begins limit self.old bytes → HasExited limit (bytes ++ piece.now) (kept_by self.new) }
+        ensures written { (result ≡ Fed.Going) ⊎ (result ≡ Fed.Exited) → (limit : ℕ) (bytes : List ℕ) → Serves E.levels E.table E.begins limit self.old bytes → Writes (kept_by self.old) (kept_by self.new) (K.held sink.old) (K.held sink.new) }
+        ensures cut { result ≡ Fed.Cut → (limit : ℕ) (bytes : List ℕ) → Serves E.levels E.table E.begins limit self.old bytes → IsCut limit false (bytes ++ piece.now) (kept_by self.new) }
+        ensures cut_written { result ≡ Fed.Cut → (limit : ℕ) (bytes : List ℕ) → Serves E.levels E.table E.begins limit self.old bytes → WritesCut (kept_by self.old) (kept_by self.new) (K.held sink.old) (K.held sink.new) }
+        ensures broken_off { result ≡ Fed.SinkFault → (limit : ℕ) (bytes : List ℕ) → Serves E.levels E.table E.begins limit self.old bytes → BreaksOff limit false (bytes ++ piece.now) (kept_by self.old) (kept_by self.new) (K.held sink.old) (K.held sink.new) }
         ensures faults { K.faults sink.new ≡ counted K.last (is_sink_fault result) (K.faults sink.old) }
         ensures handed { (result ≡ Fed.SinkFault → ⊥) → K.handed sink.old ≡ K.held sink.old → K.handed sink.new ≡ K.held sink.new }
     {
@@ -196,14 +198,14 @@ impl<E: Decide> Session<E> {
 
     /// Ends the script: what was open is refused.
     pub fn finish<K: Sink>(&mut self, sink: &mut K) -> Fed
-        requires { (limit : ℕ) × (bytes : List ℕ) × Serves E.levels E.table limit self.old bytes }
-        ensures ended { (result ≡ Fed.Going) ⊎ (result ≡ Fed.Exited) → (limit : ℕ) (bytes : List ℕ) → Serves E.levels E.table limit self.old bytes → HasEnded limit bytes (kept_by self.new) }
-        ensures goes_on { result ≡ Fed.Going → (limit : ℕ) (bytes : List ℕ) → Serves E.levels E.table limit self.old bytes → GoesOn start (kept_by self.new) }
-        ensures exits { result ≡ Fed.Exited → (limit : ℕ) (bytes : List ℕ) → Serves E.levels E.table limit self.old bytes → EndsByExit start (kept_by self.new) }
-        ensures written { (result ≡ Fed.Going) ⊎ (result ≡ Fed.Exited) → (limit : ℕ) (bytes : List ℕ) → Serves E.levels E.table limit self.old bytes → Writes (kept_by self.old) (kept_by self.new) (K.held sink.old) (K.held sink.new) }
-        ensures cut { result ≡ Fed.Cut → (limit : ℕ) (bytes : List ℕ) → Serves E.levels E.table limit self.old bytes → IsCut limit true bytes (kept_by self.new) }
-        ensures cut_written { result ≡ Fed.Cut → (limit : ℕ) (bytes : List ℕ) → Serves E.levels E.table limit self.old bytes → WritesCut (kept_by self.old) (kept_by self.new) (K.held sink.old) (K.held sink.new) }
-        ensures broken_off { result ≡ Fed.SinkFault → (limit : ℕ) (bytes : List ℕ) → Serves E.levels E.table limit self.old bytes → BreaksOff limit true bytes (kept_by self.old) (kept_by self.new) (K.held sink.old) (K.held sink.new) }
+        requires { (limit : ℕ) × (bytes : List ℕ) × Serves E.levels E.table E.begins limit self.old bytes }
+        ensures ended { (result ≡ Fed.Going) ⊎ (result ≡ Fed.Exited) → (limit : ℕ) (bytes : List ℕ) → Serves E.levels E.table E.begins limit self.old bytes → HasEnded limit bytes (kept_by self.new) }
+        ensures goes_on { result ≡ Fed.Going → (limit : ℕ) (bytes : List ℕ) → Serves E.levels E.table E.begins limit self.old bytes → GoesOn start (kept_by self.new) }
+        ensures exits { result ≡ Fed.Exited → (limit : ℕ) (bytes : List ℕ) → Serves E.levels E.table E.begins limit self.old bytes → EndsByExit start (kept_by self.new) }
+        ensures written { (result ≡ Fed.Going) ⊎ (result ≡ Fed.Exited) → (limit : ℕ) (bytes : List ℕ) → Serves E.levels E.table E.begins limit self.old bytes → Writes (kept_by self.old) (kept_by self.new) (K.held sink.old) (K.held sink.new) }
+        ensures cut { result ≡ Fed.Cut → (limit : ℕ) (bytes : List ℕ) → Serves E.levels E.table E.begins limit self.old bytes → IsCut limit true bytes (kept_by self.new) }
+        ensures cut_written { result ≡ Fed.Cut → (limit : ℕ) (bytes : List ℕ) → Serves E.levels E.table E.begins limit self.old bytes → WritesCut (kept_by self.old) (kept_by self.new) (K.held sink.old) (K.held sink.new) }
+        ensures broken_off { result ≡ Fed.SinkFault → (limit : ℕ) (bytes : List ℕ) → Serves E.levels E.table E.begins limit self.old bytes → BreaksOff limit true bytes (kept_by self.old) (kept_by self.new) (K.held sink.old) (K.held sink.new) }
         ensures faults { K.faults sink.new ≡ counted K.last (is_sink_fault result) (K.faults sink.old) }
         ensures handed { (result ≡ Fed.SinkFault → ⊥) → K.handed sink.old ≡ K.held sink.old → K.handed sink.new ≡ K.held sink.new }
     {

@@ -1,5 +1,6 @@
 //! What the engine is told of the live assertions.
 ghost use Rattle.std.specs.Prelude.{◌≡◌, ◌<◌, ◌≤◌, ◌+◌, ◌^◌, ℕ, List, [], ◌∷◌, ◌++◌, length, take, OnOk, OnErr};
+ghost use Rattle.nz_spec.specs.Term.{Term};
 ghost use Rattle.nz_sort.specs.Items.{table_numbers};
 ghost use Rattle.nz_sort.specs.Live.{IsCutBack, asserted_by};
 ghost use Rattle.nz_session.specs.Told.{IsBegun, IsTold};
@@ -24,6 +25,7 @@ pub(crate) fn pop_told<E: Decide>(engine: &mut E, told: &mut Told, live: &Live)
     requires told { (before : List (List ℕ)) × IsTold (E.levels engine.old) told.old before × IsCutBack before (asserted_by live.now) }
     ensures told { IsTold (E.levels engine.new) told.new (asserted_by live.now) }
     ensures table { E.table engine.new ≡ E.table engine.old }
+    ensures begins { (ts : List Term) → E.begins engine.old ts → E.begins engine.new ts }
 {
     let count = live.below().len() + 1;
     if told.levels <= count {
@@ -42,6 +44,7 @@ pub(crate) fn tell<E: Decide>(engine: &mut E, told: &mut Told, live: &Live) -> R
     ensures told { IsTold (E.levels engine.new) told.new (asserted_by live.now) }
     ensures all { OnOk result (E.levels engine.new ≡ asserted_by live.now) }
     ensures table { E.table engine.new ≡ E.table engine.old }
+    ensures begins { (ts : List Term) → E.begins engine.old ts → E.begins engine.new ts }
 {
     begin_first(engine, told)?;
     let below = live.below();
@@ -57,6 +60,7 @@ fn begin_first<E: Decide>(engine: &mut E, told: &mut Told) -> Result<(), Memory>
     ensures told { (asserted : List (List ℕ)) → 0 < length asserted → IsTold (E.levels engine.old) told.old asserted → IsTold (E.levels engine.new) told.new asserted }
     ensures some { OnOk result (0 < told.new.levels) }
     ensures table { E.table engine.new ≡ E.table engine.old }
+    ensures begins { (ts : List Term) → E.begins engine.old ts → E.begins engine.new ts }
 {
     if told.levels > 0 {
         return Ok(());
@@ -70,6 +74,7 @@ fn begin_level<E: Decide>(engine: &mut E, told: &mut Told) -> Result<(), Memory>
     ensures begun { OnOk result (IsBegun (E.levels engine.old) told.old (E.levels engine.new) told.new) }
     ensures unchanged { OnErr result ((E.levels engine.new ≡ E.levels engine.old) × (told.new ≡ told.old)) }
     ensures table { E.table engine.new ≡ E.table engine.old }
+    ensures begins { (ts : List Term) → E.begins engine.old ts → E.begins engine.new ts }
 {
     engine.push()?;
     *told = Told {
@@ -91,6 +96,7 @@ fn tell_last<E: Decide>(
     ensures count { told.new.levels ≡ told.old.levels }
     ensures all { OnOk result (told.new.last ≡ length assertions.now) }
     ensures table { E.table engine.new ≡ E.table engine.old }
+    ensures begins { (ts : List Term) → E.begins engine.old ts → E.begins engine.new ts }
 {
     while told.last < assertions.len() {
         engine.add(assertions[told.last].term)?;

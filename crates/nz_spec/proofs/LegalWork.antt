@@ -5,7 +5,7 @@ use Rattle.std.proofs.lemmas.List.{take-map, map-append, length-map}
 use Rattle.nz_lists.proofs.Places.{slice_get-push_cases, slice_index_or-map}
 use Rattle.nz_spec.specs.Literal.{AreSameSet, StandOnce}
 use Rattle.nz_spec.specs.Work.{DecisionEntry, LearnedEntry, PivotEntry, WorkLine, UnitLine, NoteLine}
-use Rattle.nz_spec.specs.Notes.{Note, atom_note, form_note, told_note}
+use Rattle.nz_spec.specs.Notes.{Note, start_note, atom_note, form_note, told_note}
 use Rattle.nz_spec.specs.Bland.{Point, Position, IsCheckStep}
 use Rattle.nz_spec.specs.Pivots as pivots
 use Rattle.nz_spec.specs.Pivots.{Pivot}
@@ -129,6 +129,7 @@ untold_numbers ts atom all (k, within, at) =
     all k none inside (sym same ∙ at)
 
 kept : (q : Task) (s : Search) (x y : Point) (line : WorkLine Note) → MayFollow q s x line y → IsWithoutRepeats s → IsWithoutRepeats (after_line s line)
+kept q s x y (NoteLine (start_note fs places)) may h = record { atoms = h.atoms; decided = h.decided; told = h.told; learned = h.learned }
 kept q s x y (NoteLine (atom_note l)) may h = record { atoms = stand_more s.atoms l h.atoms may.0.fresh; decided = h.decided; told = h.told; learned = h.learned }
 kept q s x y (NoteLine (form_note atom)) may h = record { atoms = h.atoms; decided = h.decided; told = h.told; learned = h.learned }
 kept q s x y (NoteLine (told_note atom sign)) may h =

@@ -65,6 +65,7 @@ pub mod Sorted
 pub mod SortedArithmetic
 pub mod SortedStates
 pub mod SortedTerms
+pub mod Starts
 pub mod SumUnits
 pub mod SumsLonger
 pub mod Tables

@@ -41,7 +41,7 @@ same_parts (p ∷ ps) (q ∷ qs) e =
     let head = and_parts (are_same_fraction p.coefficient q.coefficient) (are_same_term p.unit q.unit) both.0 in
     ap₂ (λ (r : Part) (rs : List Part). r ∷ rs) (same_part p q head.0 head.1) (same_parts ps qs both.1)
 
-one_parts : (ps : List Part) → are_same_parts ps ps ≡ true
+pub one_parts : (ps : List Part) → are_same_parts ps ps ≡ true
 one_parts [] = refl
 one_parts (p ∷ ps) =
     and_from (are_same_fraction p.coefficient p.coefficient && are_same_term p.unit p.unit) (are_same_parts ps ps)

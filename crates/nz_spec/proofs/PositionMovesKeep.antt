@@ -33,14 +33,14 @@ low-unlike e = other-unlike lower_side e
 
 -- ---- A unit
 
-module _ (s : Position) (u : Term) (ready : IsReadyToCheck s) where
-  unit-tests : with_nonbasic (is_nonbasic s.point) (length s.forms) ≡ is_nonbasic (with_unit s u).point
-  unit-tests e k = by_test (k == length s.forms) e
-    where
-      by_test : (b : Bool) → (if b then true else is_some (s.point k)) ≡ is_some (if b then Some zero_infinitesimal else s.point k)
-      by_test true = refl
-      by_test false = refl
+pub unit-tests : (s : Position) (u : Term) → with_nonbasic (is_nonbasic s.point) (length s.forms) ≡ is_nonbasic (with_unit s u).point
+unit-tests s u e k = by_test (k == length s.forms) e
+  where
+    by_test : (b : Bool) → (if b then true else is_some (s.point k)) ≡ is_some (if b then Some zero_infinitesimal else s.point k)
+    by_test true = refl
+    by_test false = refl
 
+module _ (s : Position) (u : Term) (ready : IsReadyToCheck s) where
   unit-bound : (side : Side) (k : ℕ) → bound_on side (with_unit s u) k ≡ bound_on side s k
   unit-bound lower_side k = refl
   unit-bound upper_side k = refl
@@ -55,7 +55,7 @@ module _ (s : Position) (u : Term) (ready : IsReadyToCheck s) where
   unit-ready : (Contains s.forms (unit_form u).parts → ⊥) → IsReadyToCheck (with_unit s u)
   unit-ready new = record {
     basis =
-        subst (λ (test : ℕ → Bool). IsBasis (s.forms ++ (unit_form u).parts ∷ []) test) unit-tests
+        subst (λ (test : ℕ → Bool). IsBasis (s.forms ++ (unit_form u).parts ∷ []) test) (unit-tests s u)
         (joins_keep_basis.unit s.forms (is_nonbasic s.point) u ready.basis new);
     listed = λ side k bound e. more s (unit_form u).parts k (ready.listed side k bound (sym (unit-bound side k) ∙ e));
     fit = unit-fit;
@@ -82,20 +82,20 @@ pub outside-test : (side : Side) (bound x : Infinitesimal) → IsOutside side bo
 outside-test lower_side bound x h = ap is_lt h
 outside-test upper_side bound x h = ap is_lt h
 
+pub bound-tests : (s : Position) (side : Side) (i : ℕ) (bound : Infinitesimal) → is_nonbasic s.point ≡ is_nonbasic (with_bound s side i bound).point
+bound-tests s side i bound e k = by_test (k == i) e
+  where
+    mapped : (o : Option Infinitesimal) → is_some o ≡ is_some (option_map (moved_within side bound) o)
+    mapped None = refl
+    mapped (Some x) = refl
+
+    by_test : (b : Bool) → is_some (s.point k) ≡ is_some (if b then option_map (moved_within side bound) (s.point k) else s.point k)
+    by_test true = mapped (s.point k)
+    by_test false = refl
+
 module _ (s : Position) (side : Side) (i : ℕ) (bound : Infinitesimal) (ready : IsReadyToCheck s) (inside : i < length s.forms) (apart : (other : Infinitesimal) → bound_on (other_side side) s i ≡ Some other → IsOutside (other_side side) other bound → ⊥) where
   abbrev t : Position
   t = with_bound s side i bound
-
-  bound-tests : is_nonbasic s.point ≡ is_nonbasic t.point
-  bound-tests e k = by_test (k == i) e
-    where
-      mapped : (o : Option Infinitesimal) → is_some o ≡ is_some (option_map (moved_within side bound) o)
-      mapped None = refl
-      mapped (Some x) = refl
-
-      by_test : (b : Bool) → is_some (s.point k) ≡ is_some (if b then option_map (moved_within side bound) (s.point k) else s.point k)
-      by_test true = mapped (s.point k)
-      by_test false = refl
 
   -- the bounds of each side
   bounds-are : (half : Side) (k : ℕ) → bound_on half t k ≡ bounds_with half side s i bound k
@@ -222,7 +222,7 @@ module _ (s : Position) (side : Side) (i : ℕ) (bound : Infinitesimal) (ready :
 
   bound-ready : IsReadyToCheck t
   bound-ready = record {
-    basis = subst (λ (test : ℕ → Bool). IsBasis s.forms test) bound-tests ready.basis;
+    basis = subst (λ (test : ℕ → Bool). IsBasis s.forms test) (bound-tests s side i bound) ready.basis;
     listed = bound-listed;
     fit = bound-fit;
     consistent = bound-consistent;

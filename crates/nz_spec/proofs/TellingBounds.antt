@@ -94,7 +94,7 @@ at_each b P here there side k = by_test ((b.form == k) && are_same_side b.side s
     by_test false e = there side k
 
 -- where the point is, by what is said
-abbrev moved_where : Point → Option FormBound → Point
+abbrev pub moved_where : Point → Option FormBound → Point
 moved_where x o =
     elim o [
       | Some b ↦ λ k. if k == b.form then option_map (moved_within b.side b.bound) (x k) else x k

@@ -1,13 +1,17 @@
 -- What stands in a work list beside its units, and the places at which an operation can leave the numbers.
-use Rattle.std.specs.Prelude.{ℕ, Bool, List}
+use Rattle.std.specs.Prelude.{ℕ, Bool, List, Option}
 use Rattle.nz_fractions.specs.Fraction.{Operation}
+use Rattle.nz_spec.specs.Infinitesimal.{Infinitesimal}
 use Rattle.nz_spec.specs.Term.{Term}
+use Rattle.nz_spec.specs.Form.{Part}
 use Rattle.nz_spec.specs.Literal.{Literal}
 use Rattle.nz_spec.specs.Farkas.{Multiple}
 use Rattle.nz_spec.specs.Bland.{Side}
 
 -- A line of a work list that is no unit. Atoms are named by their numbers.
 pub data Note : Type 0 where
+  -- the simplex begins with these forms: each nonbasic one stands at its place, a basic one has none
+  start_note : (forms : List (List Part)) (places : List (Option Infinitesimal)) → Note
   -- the next atom is this literal
   atom_note : Literal → Note
   -- the sum that an atom bounds joins the forms of the simplex

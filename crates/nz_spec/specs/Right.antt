@@ -17,16 +17,16 @@ use Rattle.nz_spec.specs.Legal.{Task, IsSpentLegally}
 use Rattle.nz_spec.specs.Places.{IsStoppedLegally}
 use Rattle.nz_spec.specs.Reply.{Shown, term_shown, Reply, quiet, success, sat, unsat, unknown, model, values, info, levels, reason, echoed, unsupported, error, Cause, plain, spent, stopped}
 
--- What a reply is judged by: the most units of work that a check may use, the states before, the newest first, and the state
--- that the command meets.
+-- What a reply is judged by: the most units of work that a check may use, the terms that the checks before were asked of, and the state that the
+-- command meets.
 pub record Context : Type 0 where
   pub limit : ℕ
-  pub before : List State
+  pub earlier : List Term
   pub state : State
 
 -- the context of the first thing heard
 abbrev pub beginning : ℕ → Context
-beginning limit = record { limit = limit; before = []; state = start }
+beginning limit = record { limit = limit; earlier = []; state = start }
 
 -- the normal terms that a literal is of: its term, or the units of its sum
 abbrev pub normals_in : Literal → List Term
@@ -34,9 +34,13 @@ normals_in (term_literal t sign) = normal_of t ∷ []
 normals_in (is_at_most ps b) = map (λ (p : Part). normal_of p.unit) ps
 normals_in (is_below ps b) = map (λ (p : Part). normal_of p.unit) ps
 
+-- the terms that a check under these assumed literals is asked of
+abbrev pub listed_under : State → List Literal → List Term
+listed_under s assumed = terms_added s (flat_map normals_in assumed)
+
 -- what a check under these assumed literals asks a search
-abbrev pub task_of : State → List Literal → Task
-task_of s assumed = record { asserted = assertions_of s; assumed = assumed; listed = terms_added s (flat_map normals_in assumed) }
+abbrev pub task_of : Context → List Literal → Task
+task_of c assumed = record { asserted = assertions_of c.state; assumed = assumed; listed = listed_under c.state assumed; earlier = c.earlier }
 
 -- An answer to a check under these assumed literals.
 abbrev pub IsRightCheck : Context → List Literal → Reply → Cause → Type 0
@@ -45,10 +49,10 @@ IsRightCheck c assumed unsat cause = IsUnsatisfiable (assertions_of c.state) ass
 -- Each unit of the limit was used, step by step as a search may.
 IsRightCheck c assumed (unknown r) plain = ⊥
 IsRightCheck c assumed (unknown r) (spent list) =
-    (r ≡ units_spent c.limit) × (list.limit ≡ c.limit) × IsSpentLegally (task_of c.state assumed) list
+    (r ≡ units_spent c.limit) × (list.limit ≡ c.limit) × IsSpentLegally (task_of c assumed) list
 -- An operation left the numbers, at its place.
 IsRightCheck c assumed (unknown r) (stopped place list) =
-    (r ≡ number_left place.operation) × (list.limit ≡ c.limit) × IsStoppedLegally (task_of c.state assumed) list place
+    (r ≡ number_left place.operation) × (list.limit ≡ c.limit) × IsStoppedLegally (task_of c assumed) list place
 IsRightCheck c assumed reply cause = ⊥
 
 -- what the last answer shows, where it has something to show
@@ -138,6 +142,16 @@ abbrev pub IsExit : State → What → Reply → Type 0
 IsExit s (intact t) reply = (outcome_of s t ≡ accepted exit) × (reply ≡ done s.options)
 IsExit s what reply = ⊥
 
+-- the terms that a command asks a search of
+abbrev pub asked_of : State → Outcome → List Term
+asked_of s (accepted (check_sat assumed)) = listed_under s assumed
+asked_of s o = []
+
+-- the terms that searches were asked of, when this is told
+abbrev pub earlier_after : Context → What → List Term
+earlier_after c (intact t) = c.earlier ++ asked_of c.state (outcome_of c.state t)
+earlier_after c what = c.earlier
+
 -- the context that a thing told and its reply leave
 abbrev pub context_after : Context → What → Reply → Context
-context_after c what reply = record { limit = c.limit; before = c.state ∷ c.before; state = after c.state what reply }
+context_after c what reply = record { limit = c.limit; earlier = earlier_after c what; state = after c.state what reply }

@@ -1,5 +1,5 @@
 //! Laws of work lists.
-ghost use Rattle.nz_spec.specs.Legal.{LegalWorkDoesNotRepeat, LegalWorkGoesOn, PivotsAreLegal};
+ghost use Rattle.nz_spec.specs.Legal.{LegalWorkDoesNotRepeat, LegalWorkGoesOn, LegalWorkMayBegin, MoreTermsMayBegin, PivotsAreLegal};
 
 /// A legal list goes on by a line that may follow.
 pub fn legal_work_goes_on()
@@ -14,4 +14,14 @@ pub fn legal_work_does_not_repeat()
 /// Pivots of a simplex are lines of a search that stands where it stands.
 pub fn pivots_are_legal()
     ensures legal { PivotsAreLegal }
+{}
+
+/// The forms and the point that a legal list leads to may be those with which a later search begins.
+pub fn legal_work_may_begin()
+    ensures begins { LegalWorkMayBegin }
+{}
+
+/// More terms allow what fewer do.
+pub fn more_terms_may_begin()
+    ensures begins { MoreTermsMayBegin }
 {}

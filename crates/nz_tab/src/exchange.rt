@@ -9,8 +9,9 @@ ghost use Rattle.nz_tab.specs.Each.{behind};
 ghost use Rattle.nz_tab.specs.Exchanges.{solved_part, solved_parts, solved_row, sum_row};
 ghost use Rattle.nz_tab.specs.Rows.{coefficient};
 
-use crate::row::{Row, Var};
+use crate::row::{Row, Var, is_none};
 use nz_frac::{Frac, Wide};
+use nz_fractions::zeros_are_never_wide;
 use std::alloc::Global;
 
 /// A row solved for the form that enters, at which its coefficient isn't 0: the coefficients at these forms, of which
@@ -101,11 +102,17 @@ pub(crate) fn put_sum(
     Ok(())
 }
 
-/// A number and a multiple of another one.
+/// A number and a multiple of another one. Nothing is computed of 0, which most coefficients of a row are.
 #[tactic(auto, unfolding(nz_fractions::specs::Fraction::first_wide))]
 pub(crate) fn with_multiple(number: Frac, factor: Frac, other: Frac) -> Result<Frac, Wide>
     ensures sum { IsOperated (and_then (operated Product factor other) (λ p. operated Sum number p)) result }
 {
+    if is_none(other) {
+        zeros_are_never_wide();
+        // Its numerator is read, so that it is known to be in lowest terms.
+        let _ = number.num();
+        return Ok(number);
+    }
     let product = factor.mul(other)?;
     number.add(product)
 }

@@ -1,5 +1,6 @@
 //! The row of a basic form.
-ghost use Rattle.std.specs.Prelude.{◌≡◌, length, pos, slice_index_or};
+ghost use Rattle.std.specs.Prelude.{◌≡◌, length, pos, slice_index_or, true};
+ghost use Rattle.nz_spec.specs.Term.{is_zero};
 ghost use Rattle.nz_fractions.specs.Fraction.{whole};
 ghost use Rattle.nz_tab.specs.Rows.{coefficient, is_marked};
 
@@ -70,4 +71,15 @@ pub(crate) fn is_marked(marks: &[bool], number: usize) -> bool
     ensures marked { result ≡ is_marked marks.now number }
 {
     marks.get(number).copied().unwrap_or(false)
+}
+
+/// Whether a number is 0.
+pub(crate) fn is_none(number: Frac) -> bool
+    ensures zero { result ≡ is_zero number }
+    ensures none { result ≡ true → number ≡ whole (pos 0) }
+{
+    let none = Frac::whole(0);
+    // The numerators are read, so that both are known to be in lowest terms.
+    let _ = (number.num(), none.num());
+    number.is_zero()
 }

@@ -9,7 +9,7 @@ ghost use Rattle.nz_tab.specs.Exchanges.{IsExchanged, IsReplaced, IsRewritten, c
 ghost use Rattle.nz_tab.specs.Rows.{AreSlotted, HasRoom, coefficients_at, empty_grid, is_nonbasic, row_in, row_of, rows_of};
 
 use crate::exchange::{put_sum, solve};
-use crate::row::{Row, Var, is_marked};
+use crate::row::{Row, Var, is_marked, is_none};
 use nz_frac::{Frac, Wide};
 use std::alloc::Global;
 use std::marker::Model;
@@ -245,17 +245,6 @@ impl Rows {
             block,
         );
     }
-}
-
-/// Whether a number is 0.
-fn is_none(number: Frac) -> bool
-    ensures zero { result ≡ is_zero number }
-    ensures none { result ≡ true → number ≡ whole (pos 0) }
-{
-    let none = Frac::whole(0);
-    // The numerators are read, so that both are known to be in lowest terms.
-    let _ = (number.num(), none.num());
-    number.is_zero()
 }
 
 /// Exchanges the places of two forms.

@@ -166,7 +166,7 @@ impl Tab {
     /// Adds a form, without the number that is added in it, and answers its number. Its units that aren't here join first, as
     /// nonbasic forms, and then the form itself as a basic one. A unit alone is its own form.
     ///
-    /// A unit that is new costs a coefficient more in each row; no row is copied.
+    /// A unit that is new costs a coefficient more in each row, at its end.
     ///
     /// # Errors
     ///

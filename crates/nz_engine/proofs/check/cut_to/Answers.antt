@@ -1,4 +1,5 @@
-use Rattle.std.proofs.Common.{◌≡◌, ◌≤◌, ◌-◌, suc, length, arith}
+use Rattle.std.proofs.Common.{◌≡◌, ◌≤◌, ◌-◌, ◌∙◌, suc, length, arith, subst, sym}
+use Rattle.nz_engine.specs.Engines.{IsAtRest}
 use Rattle.nz_engine.proofs.Answering.{settled}
 use Rattle.nz_engine.proofs.check.cut_to.Goals as goal
 
@@ -12,4 +13,13 @@ returns-then-cut c =
       low = λ ns old front r.
           settled c.covers_stay.ensures.stay c.logs_stay_leveled.ensures.stay ns old c.args.levels.now c.args.prepared c.cut.new.self c.in-Some.last front end c.cut.ensures.cuts
           (c.cut.ensures.keeps c.if-cut.true) r;
+      theory = c.cut.ensures.cuts.theory;
     }
+
+pub returns-else-cut : goal.returns-else-cut
+returns-else-cut c =
+    let same = c.take_theory.ensures.theory ∙ c.cut.ensures.cuts.theory in
+    record { low = λ ns old front r. subst (IsAtRest ns) (sym same) r.rest; theory = same }
+
+pub returns-in-None : goal.returns-in-None
+returns-in-None c = record { low = λ ns old front r. subst (IsAtRest ns) (sym c.take_theory-in-None.ensures.theory) r.rest; theory = c.take_theory-in-None.ensures.theory }

@@ -4,7 +4,11 @@ use Rattle.nz_spec.specs.Decide.{asserted_numbers}
 use Rattle.nz_spec.specs.Taken.{IsTakenBoolean}
 use Rattle.nz_spec.specs.Table.{term_in}
 use Rattle.nz_log.specs.declared.term_lits.TermLit.{TermLit}
+use Rattle.nz_reals.specs.Stands.{IsOver}
+use Rattle.nz_reals.specs.State.{Theory}
 use Rattle.nz_engine.specs.Checking.{IsRootStop, terms_named}
+use Rattle.nz_engine.specs.Engines.{theory_of}
+use Rattle.nz_engine.proofs.Answering.{kept_rest, over_grown}
 use Rattle.nz_engine.proofs.Ending.{root_more}
 use Rattle.nz_engine.proofs.check.posed.Goals as goal
 
@@ -18,9 +22,14 @@ assume-requires-clause-taken c = All-map (λ t. IsTakenBoolean (term_in c.args.t
 
 pub returns-clause-posed : goal.returns-clause-posed
 returns-clause-posed c =
-    let n = length c.args.terms.now in
+    let ns = c.args.terms.now in
+    let n = length ns in
+    let same : c.assume.new.self.sat.theory ≡ theory_of c.args.kept = c.assume.ensures.theory ∙ c.add_assertions.ensures.theory ∙ c.in_ok-prepared.ensures.theory in
     record {
       table = c.known_table.ensures.table;
+      over = subst (λ (t : Theory). IsOver t ns) (sym same)
+          (over_grown c.theories_restart.ensures.restart c.requires.kept.0 ns (theory_of c.args.kept) c.requires.kept.1 c.known_table.ensures.table
+          (kept_rest c.requires.kept.0 c.args.levels.now c.args.kept c.requires.kept.2).over);
       standing = c.in_ok-assume.ensures.stands;
       all_given = c.in_ok-add_assertions.ensures.all_given ∙ sym c.in_ok-assume.ensures.given;
       assumed_covered = c.in_ok-assume.ensures.covered;
@@ -28,6 +37,9 @@ returns-clause-posed c =
       assumed_taken = All-map (λ t. IsTakenBoolean (term_in c.args.terms.now t)) (λ (l : TermLit). l.term) c.args.assumed.now c.requires.assumed_taken;
       assumed_within = All-map (λ t. t < n) (λ (l : TermLit). l.term) c.args.assumed.now (All-from_recursion (λ (l : TermLit). l.term < n) c.args.assumed.now c.requires.within);
     }
+
+pub returns-clause-theory : goal.returns-clause-theory
+returns-clause-theory c = c.assume.ensures.theory ∙ c.add_assertions.ensures.theory ∙ c.in_ok-prepared.ensures.theory
 
 pub returns-in_err-add_assertions-clause-stop : goal.returns-in_err-add_assertions-clause-stop
 returns-in_err-add_assertions-clause-stop c =

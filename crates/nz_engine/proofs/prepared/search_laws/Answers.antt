@@ -7,5 +7,6 @@ returns c = record {
     rows = record { sums = c.forms_are_sums.ensures.sums; operands = c.operands_are_sorted.ensures.sorted };
     atoms = c.atoms_of_terms.ensures.atoms;
     covers = c.covers_stay.ensures.stay;
+    restart = c.theories_restart.ensures.restart;
   };
 }

@@ -1,8 +1,6 @@
-use Rattle.std.proofs.Common.{rules, ◌≡◌, ◌<◌, Bool, List, Vec, Global, length, true, get_or, ap, subst, sym, ◌∙◌}
-use Rattle.std.specs.Prelude.{set}
+use Rattle.std.proofs.Common.{rules, ◌<◌, length, true, get_or, ap, subst, sym, ◌∙◌}
 use Rattle.std.proofs.lemmas.List.{length-set}
 use Rattle.std.proofs.lemmas.List.Elements.{Contains-get_or}
-use Rattle.nz_log.specs.declared.lits.Lit.{Lit}
 use Rattle.nz_log.specs.Logs.{literals_at}
 use Rattle.nz_reals.specs.Exclusions.{AreJoined, Joins}
 use Rattle.nz_reals.proofs.Excluding.{joined_too}

@@ -5,12 +5,12 @@ use Rattle.nz_reply.specs.Journals.{journal_of}
 use Rattle.nz_session.specs.Serve.{kept_by}
 use Rattle.nz_run.specs.Ending.{is_cut, status_by}
 use Rattle.nz_run.proofs.Endings.{answered, broken_off, interrupted, read_status, reads_told, write_status}
-use Rattle.nz_run.proofs.Turning.{begins}
+use Rattle.nz_run.proofs.Turning.{reading_begins}
 use Rattle.nz_run.proofs.program.run.Goals as goal
 
 pub returns-clause-answered : goal.returns-clause-answered
 returns-clause-answered g c =
-    λ e. (let started = begins _ _ c.in-Ok.units c.in-Ok-new-2.session (g.S.Source.left c.args.input.now) (g.K.Sink.held c.args.out.now) c.in-Ok-new-2.ensures.serves c.in-Ok-new-2.ensures.nothing in
+    λ e. (let started = reading_begins _ _ _ c.in-Ok.units c.in-Ok-new-2.session (g.S.Source.left c.args.input.now) (g.K.Sink.held c.args.out.now) c.in-Ok-new-2.ensures.serves c.in-Ok-new-2.ensures.nothing in
     let ks = kept_by c.serve-end.new.session in
     let kept : journal_of c.into_kept-journal.result.1 c.into_kept-journal.result.0 ≡ ks = c.into_kept-journal.ensures.kept in
     let cut = c.is_cut-cut.ensures.cut in
@@ -21,7 +21,7 @@ returns-clause-answered g c =
 
 pub returns-clause-interrupted : goal.returns-clause-interrupted
 returns-clause-interrupted g c =
-    λ e. (let started = begins _ _ c.in-Ok.units c.in-Ok-new-2.session (g.S.Source.left c.args.input.now) (g.K.Sink.held c.args.out.now) c.in-Ok-new-2.ensures.serves c.in-Ok-new-2.ensures.nothing in
+    λ e. (let started = reading_begins _ _ _ c.in-Ok.units c.in-Ok-new-2.session (g.S.Source.left c.args.input.now) (g.K.Sink.held c.args.out.now) c.in-Ok-new-2.ensures.serves c.in-Ok-new-2.ensures.nothing in
     let ks = kept_by c.serve-end.new.session in
     let kept : journal_of c.into_kept-journal.result.1 c.into_kept-journal.result.0 ≡ ks = c.into_kept-journal.ensures.kept in
     let status : c.status_at-status.result ≡ status_by c.serve-end.result ks = c.status_at-status.ensures.status c.into_kept-journal.result.1 ∙ ap (status_by c.serve-end.result) kept in
@@ -30,7 +30,7 @@ returns-clause-interrupted g c =
 
 pub returns-clause-broken_off : goal.returns-clause-broken_off
 returns-clause-broken_off g c =
-    λ e. (let started = begins _ _ c.in-Ok.units c.in-Ok-new-2.session (g.S.Source.left c.args.input.now) (g.K.Sink.held c.args.out.now) c.in-Ok-new-2.ensures.serves c.in-Ok-new-2.ensures.nothing in
+    λ e. (let started = reading_begins _ _ _ c.in-Ok.units c.in-Ok-new-2.session (g.S.Source.left c.args.input.now) (g.K.Sink.held c.args.out.now) c.in-Ok-new-2.ensures.serves c.in-Ok-new-2.ensures.nothing in
     let ks = kept_by c.serve-end.new.session in
     let kept : journal_of c.into_kept-journal.result.1 c.into_kept-journal.result.0 ≡ ks = c.into_kept-journal.ensures.kept in
     let status : c.status_at-status.result ≡ status_by c.serve-end.result ks = c.status_at-status.ensures.status c.into_kept-journal.result.1 ∙ ap (status_by c.serve-end.result) kept in

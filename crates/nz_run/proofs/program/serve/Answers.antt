@@ -6,11 +6,11 @@ use Rattle.nz_run.proofs.program.serve.Goals as goal
 pub returns-clause-reads : goal.returns-clause-reads
 returns-clause-reads g c =
     λ _. (let reading = c.loop-read.invariant.reading c.requires.start.0 c.requires.start.1 in
-    took_many g.E.Decide.levels g.E.Decide.table c.requires.start.0 _ _ _ _ _ c.loop-read.read reading (2 ^ 32) (let last = c.loop-read-test.false in omega arith))
+    took_many g.E.Decide.levels g.E.Decide.table g.E.Decide.begins c.requires.start.0 _ _ _ _ _ c.loop-read.read reading (2 ^ 32) (let last = c.loop-read-test.false in omega arith))
 
 pub returns-clause-ended : goal.returns-clause-ended
 returns-clause-ended g c =
-    λ limit begun. interrupted_run g.E.Decide.levels g.E.Decide.table limit _ _ _ _ _ c.loop-read.read (c.loop-read.invariant.reading limit begun) (let last = c.loop-read.auto.read-end in omega arith) _ (Keeps-refl _)
+    λ limit begun. interrupted_run g.E.Decide.levels g.E.Decide.table g.E.Decide.begins limit _ _ _ _ _ c.loop-read.read (c.loop-read.invariant.reading limit begun) (let last = c.loop-read.auto.read-end in omega arith) _ (Keeps-refl _)
 
 pub read_once-requires : goal.read_once-requires
 read_once-requires g c =

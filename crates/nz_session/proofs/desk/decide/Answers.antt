@@ -1,8 +1,10 @@
 use Rattle.std.proofs.Common.{ℕ, ◌<◌, List, [], length, ap, ◌∙◌, sym, subst, All, IfOk}
+use Rattle.std.specs.Prelude.{Contains}
 use Rattle.std.proofs.lemmas.List.Elements.{All-weaker, recursion_from_All}
 use Rattle.nz_spec.specs.Decide.{AreInTable, AreModelValues, asserted_numbers, asserted_terms}
-use Rattle.nz_spec.specs.Legal.{IsDeadEnd, at_first}
+use Rattle.nz_spec.specs.Legal.{IsDeadEnd, Task, at_first, terms_known}
 use Rattle.nz_spec.specs.Table.{term_in}
+use Rattle.nz_spec.specs.Term.{Term}
 use Rattle.nz_spec.specs.Taken.{IsTakenBoolean}
 use Rattle.nz_spec.specs.Work.{WorkList}
 use Rattle.nz_log.specs.declared.note.Note.{Note}
@@ -11,6 +13,7 @@ use Rattle.nz_log.specs.Verdicts.{IfSat, OnUnsat, task_in}
 use Rattle.nz_sort.specs.Live.{asserted_by}
 use Rattle.nz_session.specs.Assumed.{IsTakenAt}
 use Rattle.nz_session.specs.Told.{IsTold}
+use Rattle.nz_session.proofs.Answering.{begins_more, begins_searched}
 use Rattle.nz_session.proofs.LegalWork.{undecided_in_levels}
 use Rattle.nz_session.proofs.desk.decide.Goals as goal
 
@@ -48,10 +51,23 @@ returns-clause-sat g c =
 pub returns-clause-unsat : goal.returns-clause-unsat
 returns-clause-unsat g c =
     let ns = c.args.terms.now in
-    subst (λ (ls : List (List ℕ)). IfOk c.check.result (λ v. OnUnsat v (IsDeadEnd (task_in ns ls c.args.assumed.now) at_first))) c.in_ok-tell.ensures.all c.check.ensures.unsat
+    subst (λ (ls : List (List ℕ)). IfOk c.check.result (λ v. OnUnsat v (IsDeadEnd (task_in ns ls c.args.assumed.now []) at_first))) c.in_ok-tell.ensures.all c.check.ensures.unsat
 
 pub returns-clause-undecided : goal.returns-clause-undecided
-returns-clause-undecided g c =
-    undecided_in_levels c.args.terms.now (g.E.Decide.levels c.tell.new.engine) (asserted_by c.args.live.now) c.args.assumed.now c.args.limit c.check.new.work c.check.result
-    c.in_ok-tell.ensures.all (c.check.ensures.limit ∙ ap (λ (w : WorkList Note). w.limit) c.in_ok-reserve.ensures.ok) c.check.ensures.legal c.check.ensures.named c.check.ensures.spent c.check.ensures.stopped
-    c.check.ensures.place_within
+returns-clause-undecided g c ts begun =
+    undecided_in_levels c.args.terms.now (g.E.Decide.levels c.tell.new.engine) (asserted_by c.args.live.now) c.args.assumed.now ts (g.E.Decide.begins c.tell.new.engine) c.args.limit c.check.new.work
+    c.check.result c.in_ok-tell.ensures.all (c.tell.ensures.begins ts begun) (c.check.ensures.limit ∙ ap (λ (w : WorkList Note). w.limit) c.in_ok-reserve.ensures.ok) c.check.ensures.legal
+    c.check.ensures.named c.check.ensures.spent c.check.ensures.stopped c.check.ensures.place_within
+
+pub returns-in_err-tell-clause-begins : goal.returns-in_err-tell-clause-begins
+returns-in_err-tell-clause-begins g c ts h = begins_more g.E.Decide.begins c.args.engine.now c.tell.new.engine ts _ c.tell.ensures.begins h
+
+pub returns-in_err-reserve-clause-begins : goal.returns-in_err-reserve-clause-begins
+returns-in_err-reserve-clause-begins g c ts h = begins_more g.E.Decide.begins c.args.engine.now c.tell.new.engine ts _ c.tell.ensures.begins h
+
+pub returns-clause-begins : goal.returns-clause-begins
+returns-clause-begins g c ts h =
+    let task : List (List ℕ) → List Term → Task = λ ls. task_in c.args.terms.now ls c.args.assumed.now in
+    let searched = subst (λ (ls : List (List ℕ)). (ts us : List Term) → g.E.Decide.begins c.tell.new.engine ts → ((t : Term) → Contains (terms_known (task ls ts)) t → Contains us t)
+    → g.E.Decide.begins c.check.new.self us) c.in_ok-tell.ensures.all c.check.ensures.begins in
+    begins_searched g.E.Decide.begins c.tell.new.engine c.check.new.self ts (task (asserted_by c.args.live.now) ts).listed searched (λ us has. c.tell.ensures.begins us (h us has))

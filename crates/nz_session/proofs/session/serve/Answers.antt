@@ -11,21 +11,21 @@ pub returns-in-Ok-clause-exited : goal.returns-in-Ok-clause-exited
 returns-in-Ok-clause-exited g c =
     λ _ limit going.
     rw (c.push.ensures.items, c.unwrap.ensures, c.room_for.ensures.same)
-    (exits_on g.E.Decide.levels g.E.Decide.table c.kept_stay.ensures.stay c.transcript_grows.ensures.grows limit _ _ c.answer-reply.ensures.front
+    (exits_on g.E.Decide.levels g.E.Decide.table g.E.Decide.begins c.kept_stay.ensures.stay c.transcript_grows.ensures.grows limit _ _ c.answer-reply.ensures.front
     c.args.kept.now.items c.in-Some.packed c.answer-reply.result going (heard_view c.args.heard) c.in-Some.ensures.packed (c.answer-reply.ensures.right _ going.holds) c.if-exits.true)
 
 pub returns-clause-going : goal.returns-clause-going
 returns-clause-going g c =
     λ _ limit going.
     rw (c.push.ensures.items, c.unwrap.ensures, c.room_for.ensures.same)
-    (going_on g.E.Decide.levels g.E.Decide.table c.kept_stay.ensures.stay c.transcript_grows.ensures.grows limit _ _ c.answer-reply.ensures.front
+    (going_on g.E.Decide.levels g.E.Decide.table g.E.Decide.begins c.kept_stay.ensures.stay c.transcript_grows.ensures.grows limit _ _ c.answer-reply.ensures.front
     c.args.kept.now.items c.in-Some.packed c.answer-reply.result going (heard_view c.args.heard) c.in-Some.ensures.packed (c.answer-reply.ensures.right _ going.holds) c.if-exits.false)
 
 pub returns-in-Err-clause-broken_off : goal.returns-in-Err-clause-broken_off
 returns-in-Err-clause-broken_off g c =
     λ _ limit going.
     rw (c.push.ensures.items, c.unwrap.ensures, c.room_for.ensures.same)
-    (right_on g.E.Decide.levels g.E.Decide.table c.kept_stay.ensures.stay c.transcript_grows.ensures.grows limit _ _ c.answer-reply.ensures.front
+    (right_on g.E.Decide.levels g.E.Decide.table g.E.Decide.begins c.kept_stay.ensures.stay c.transcript_grows.ensures.grows limit _ _ c.answer-reply.ensures.front
     c.args.kept.now.items c.in-Some.packed c.answer-reply.result going (heard_view c.args.heard) c.in-Some.ensures.packed (c.answer-reply.ensures.right _ going.holds))
 
 pub returns-in-Ok-clause-answered : goal.returns-in-Ok-clause-answered

@@ -39,6 +39,7 @@ loop-place-preserved g c =
           (omega (arith, long)) begun;
       count = begun.count ∙ ap (λ n. n + 1) (c.tell_last.ensures.count ∙ c.loop-place.invariant.count);
       table = c.begin_level.ensures.table ∙ c.tell_last.ensures.table ∙ c.loop-place.invariant.table;
+      begins = λ ts h. c.begin_level.ensures.begins ts (c.tell_last.ensures.begins ts (c.loop-place.invariant.begins ts h));
     }
 
 pub returns-in_err-tell_last-clause-told : goal.returns-in_err-tell_last-clause-told

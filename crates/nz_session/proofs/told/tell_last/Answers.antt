@@ -22,4 +22,5 @@ loop-told-preserved g c =
       within = omega arith;
       count = c.loop-told.invariant.count;
       table = c.in_ok-add.ensures.table ∙ c.loop-told.invariant.table;
+      begins = λ ts h. c.in_ok-add.ensures.begins ts (c.loop-told.invariant.begins ts h);
     }

@@ -1,5 +1,6 @@
 -- So many assertions of the last level were told, and all else stays.
 use Rattle.std.proofs.Common.{◌≡◌, ◌≤◌, ◌-◌, ℕ, List, [], ◌∷◌, ◌++◌, length, take}
+use Rattle.nz_spec.specs.Term.{Term}
 use Rattle.nz_sort.specs.Items.{table_numbers}
 use Rattle.nz_session.proofs.told.tell_last.Given as goal
 
@@ -11,6 +12,7 @@ invariant-loop-told g l =
       within : l.told.last ≤ length l.assertions;
       count : l.told.levels ≡ l.fn.told.levels;
       table : g.E.Decide.table l.engine ≡ g.E.Decide.table l.fn.engine;
+      begins : (ts : List Term) → g.E.Decide.begins l.fn.engine ts → g.E.Decide.begins l.engine ts;
     }
 
 abbrev pub decreases-loop-told : goal.decreases-loop-told

@@ -1,5 +1,7 @@
-use Rattle.std.proofs.Common.{◌≡◌, ◌-◌, length, take, sym, subst}
-use Rattle.nz_engine.specs.Engines.{IsKept, table_of}
+use Rattle.std.proofs.Common.{◌≡◌, ◌-◌, ◌∙◌, length, take, ap, sym, subst}
+use Rattle.nz_reals.specs.Starts.{MayRestart}
+use Rattle.nz_reals.specs.State.{Theory}
+use Rattle.nz_engine.specs.Engines.{Begins, EngineState, IsKept, table_of, theory_of}
 use Rattle.nz_engine.proofs.Answering.{kept_low, take_again}
 use Rattle.nz_engine.proofs.engine.EngineDecide.pop.Goals as goal
 
@@ -9,4 +11,8 @@ invariant_of-self c =
     let levels = c.self.inside.levels in
     let new = c.pop.new.self in
     let front : take (length new) levels ≡ new = take_again (length levels - c.args.count) levels new c.pop.ensures.rest in
-    kept_low ns new c.cut_kept.result (c.cut_kept.ensures.low ns levels front (subst (IsKept ns levels) (sym c.take.ensures.value) c.self.invariant))
+    kept_low ns new c.cut_kept.result (c.cut_kept.ensures.low ns levels front (subst (IsKept ns levels) (sym c.take_kept-kept.ensures.taken) c.self.invariant))
+
+pub returns-clause-begins : goal.returns-clause-begins
+returns-clause-begins c = λ ts may.
+    subst (λ (t : Theory). MayRestart t (table_of c.self.inside.seen) ts) (sym (c.cut_kept.ensures.theory ∙ ap theory_of c.take_kept-kept.ensures.taken)) (subst (λ (e : EngineState). Begins e ts) (sym c.self.view_is) may)

@@ -4,7 +4,8 @@ use Rattle.nz_spec.specs.Steps.{Derives}
 use Rattle.nz_log.specs.declared.term_lits.TermLit.{TermLit}
 use Rattle.nz_log.specs.Spelling.{steps_of}
 use Rattle.nz_log.specs.TermLits.{clause_of_terms}
-use Rattle.nz_engine.specs.Engines.{EngineState, IsKept, IsReadied, clause_at, log_of, table_of}
+use Rattle.nz_engine.specs.declared.check.Kept.TheVariants as kept
+use Rattle.nz_engine.specs.Engines.{EngineState, IsKept, IsReadied, clause_at, log_of, table_of, theory_of}
 use Rattle.nz_engine.proofs.Refuting.{derived}
 use Rattle.nz_engine.proofs.engine.EngineDecide.steps.Goals as goal
 
@@ -12,12 +13,12 @@ pub returns : goal.returns
 returns c =
     let levels = c.self.inside.levels in
     let table = table_of c.self.inside.seen in
-    let prepared = c.in-Some.prepared in
-    let kept : c.self.inside.prepared ≡ Some prepared = search rules in
-    let ready : IsReadied table levels prepared = subst (IsKept table levels) kept c.self.invariant in
+    let prepared = c.in-Prepared.prepared in
+    let is : c.self.inside.kept ≡ kept.Prepared prepared = search rules in
+    let ready : IsReadied table levels prepared = subst (IsKept table levels) is c.self.invariant in
     let all = derived c.derivations_grow.ensures.grow table levels prepared.log c.args.id c.steps.result ready.table ready.standing.raised.order c.steps.ensures.derives in
-    let own : EngineState = record { levels = levels; table = table; log = prepared.log } in
-    let same : own ≡ c.args.self.now = ap (λ o. let e : EngineState = record { levels = levels; table = table; log = log_of o } in e) (sym kept) ∙ c.self.view_is in
+    let own : EngineState = record { levels = levels; table = table; log = prepared.log; theory = prepared.sat.theory } in
+    let same : own ≡ c.args.self.now = ap (λ k. let e : EngineState = record { levels = levels; table = table; log = log_of k; theory = theory_of k } in e) (sym is) ∙ c.self.view_is in
     record {
       derives = subst (λ (e : EngineState). IfOk c.steps.result (λ steps. (d : List TermLit) → clause_at e c.args.id ≡ Some d → Derives (asserted_terms e.table e.levels) (steps_of e.table steps.items) (clause_of_terms e.table d))) same all;
     }

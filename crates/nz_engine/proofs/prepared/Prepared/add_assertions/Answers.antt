@@ -1,5 +1,5 @@
 -- The next assertion is one that has no clause yet.
-use Rattle.std.proofs.Common.{rules, Err, IfErr, ◌≡◌, suc, ◌-◌, ◌<◌, length, subst, arith}
+use Rattle.std.proofs.Common.{rules, Err, IfErr, ◌≡◌, ◌∙◌, suc, ◌-◌, ◌<◌, length, subst, arith}
 use Rattle.std.specs.Prelude.{Contains}
 use Rattle.std.proofs.lemmas.List.Elements.{All-contains}
 use Rattle.std.proofs.lemmas.Option.{slice_get_within}
@@ -37,7 +37,7 @@ add_assertion-requires-clause-told c =
     let levels = c.args.levels.now in
     let placed : IsPlaced levels c.loop-next.self.given c.in-Some.next.term c.in-Some.next.level =
     subst (λ (s : PreparedState). IsPlaced levels s.given c.in-Some.next.term c.in-Some.next.level) c.self.view_is c.in-Some.ensures.placed in
-    told_before c.args.terms.now levels levels c.loop-next.self c.in-Some.next.term c.in-Some.next.level c.loop-next.invariant placed
+    told_before c.args.terms.now levels levels c.loop-next.self c.in-Some.next.term c.in-Some.next.level c.loop-next.invariant.prepared placed
 
 pub loop-next-smaller : goal.loop-next-smaller
 loop-next-smaller c =
@@ -56,7 +56,10 @@ loop-next-preserved c =
     let t = c.in-Some.next.term in
     let placed : IsPlaced levels c.loop-next.self.given t c.in-Some.next.level =
     subst (λ (s : PreparedState). IsPlaced levels s.given t c.in-Some.next.level) c.self.view_is c.in-Some.ensures.placed in
-    c.in_ok-add_assertion.ensures.stands levels placed c.loop-next.invariant
+    record {
+      prepared = c.in_ok-add_assertion.ensures.stands levels placed c.loop-next.invariant.prepared;
+      theory = c.add_assertion.ensures.theory ∙ c.loop-next.invariant.theory;
+    }
 
 pub returns-in_err-add_assertion-clause-stop : goal.returns-in_err-add_assertion-clause-stop
 returns-in_err-add_assertion-clause-stop c =

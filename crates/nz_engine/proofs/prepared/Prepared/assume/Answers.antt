@@ -19,6 +19,7 @@ loop-literal-init c =
       standing = standing c.args.terms.now c.args.levels.now (terms_named c.args.assumed.now) c.args.self.now c.requires.stands;
       covered = λ k d below. absurd (omega (arith, below));
       given = refl;
+      theory = refl;
     }
 
 pub assume_term-requires-clause-within : goal.assume_term-requires-clause-within
@@ -53,6 +54,7 @@ loop-literal-preserved c =
           (All-push P (take k assumed) l
           (All-weaker (λ (m : TermLit). IsSome (covered_at c.loop-literal.self.form m.term)) P (λ m some. did.stays m.term some) (take k assumed) before.covered) did.covered);
       given = did.given ∙ before.given;
+      theory = c.assume_term.ensures.theory ∙ before.theory;
     }
 
 pub returns-clause-covered : goal.returns-clause-covered

@@ -10,4 +10,5 @@ invariant-loop-literal l =
       standing : IsStanding l.terms l.levels (terms_named l.assumed) l.self;
       covered : AreCovered l.self (take l.literal-index l.assumed);
       given : l.self.given ≡ l.fn.self.given;
+      theory : l.self.sat.theory ≡ l.fn.self.sat.theory;
     }

@@ -16,6 +16,7 @@ returns-clause-cuts c =
       sound = c.drop_above.ensures.sound;
       form = c.cut.ensures.cuts;
       clauses = c.cut-2.ensures.clauses;
+      theory = c.cut-2.ensures.theory;
       given = c.count_up_to-self-inside.ensures.count;
       above = refl;
     })

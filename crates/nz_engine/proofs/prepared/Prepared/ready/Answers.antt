@@ -1,7 +1,9 @@
 -- Where the atoms are named, a search may begin.
+use Rattle.std.proofs.Common.{ap}
 use Rattle.std.proofs.lemmas.Result.{IfOk-weaker}
 use Rattle.nz_engine.specs.declared.prepared.Named.{Named}
 use Rattle.nz_engine.specs.Checking.{AreHanded, IsReady}
+use Rattle.nz_engine.specs.Preparing.{PreparedState}
 use Rattle.nz_engine.proofs.Solving.{ready_named}
 use Rattle.nz_engine.proofs.prepared.Prepared.ready.Goals as goal
 
@@ -18,4 +20,5 @@ returns c =
           (λ n handed.
           ready_named c.search_laws.ensures.laws c.logs_stay.ensures.stay c.logs_stay_leveled.ensures.stay c.args.self.now c.named.ensures.rest c.named.ensures.joins c.named.ensures.all handed c.requires.posed)
           c.named.ensures.handed;
+      theory = ap (λ (s : PreparedState). s.sat.theory) c.named.ensures.rest;
     }

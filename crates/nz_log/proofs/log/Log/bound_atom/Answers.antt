@@ -1,5 +1,5 @@
 -- An atom more.
-use Rattle.std.proofs.Common.{List, subst}
+use Rattle.std.proofs.Common.{subst}
 use Rattle.nz_log.specs.Logs.{JoinsAtoms, LogState}
 use Rattle.nz_log.specs.Stored.{log_of}
 use Rattle.nz_log.proofs.AtomLiterals.{log_joins}

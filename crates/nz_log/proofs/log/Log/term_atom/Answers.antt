@@ -1,6 +1,5 @@
 -- The atom has one place.
-use Rattle.std.proofs.Common.{List, subst}
-use Rattle.nz_log.specs.declared.atoms.Atom.{Atom}
+use Rattle.std.proofs.Common.{subst}
 use Rattle.nz_log.specs.Logs.{JoinsAtoms, LogState}
 use Rattle.nz_log.specs.Stored.{log_of}
 use Rattle.nz_log.proofs.AtomLiterals.{log_joins, numbered, term_there}

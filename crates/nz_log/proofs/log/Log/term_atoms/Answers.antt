@@ -1,5 +1,5 @@
 -- One atom more.
-use Rattle.std.proofs.Common.{◌≡◌, ℕ, ◌∷◌, [], ◌++◌, List, get_or, rules}
+use Rattle.std.proofs.Common.{◌≡◌, ◌∷◌, [], ◌++◌, get_or, rules}
 use Rattle.nz_log.specs.Atoms.{HasTerm, term_place}
 use Rattle.nz_log.proofs.KeptAtoms.{places_more}
 use Rattle.nz_log.proofs.Joining.{joins_twice}

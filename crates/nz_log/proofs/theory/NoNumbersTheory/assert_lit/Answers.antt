@@ -1,4 +1,4 @@
-use Rattle.std.proofs.Common.{rules, ◌≡◌, ℕ, ◌+◌, arith}
+use Rattle.std.proofs.Common.{rules}
 use Rattle.nz_log.specs.Atoms.{literal_in}
 use Rattle.nz_log.proofs.WithoutForms.{told_more}
 use Rattle.nz_log.proofs.theory.NoNumbersTheory.assert_lit.Goals as goal

@@ -1,5 +1,6 @@
 -- Where it was asked before, nothing is noted.
 use Rattle.std.proofs.Common.{List, map, refl, sym, subst}
+use Rattle.std.proofs.lemmas.List.Elements.{Contains-append_left}
 use Rattle.nz_spec.specs.Legal.{Lead, at_first, no_point}
 use Rattle.nz_spec.specs.Work.{WorkLine}
 use Rattle.nz_log.specs.declared.note.Note.{Note}
@@ -8,7 +9,12 @@ use Rattle.nz_log.specs.Verdicts.{task_in}
 use Rattle.nz_run_tests.proofs.session.OnceOnlyDecide.check.Goals as goal
 
 pub returns-then-self-clause-legal : goal.returns-then-self-clause-legal
-returns-then-self-clause-legal c =
+returns-then-self-clause-legal c ts begun =
     let ns = c.args.terms.now in
-    let q = task_in ns c.args.self.now.engine.levels c.args.assumed.now in
+    let q = task_in ns c.args.self.now.engine.levels c.args.assumed.now ts in
     (no_point, subst (λ (ls : List (WorkLine Note)). Lead q at_first no_point (map (noted_line ns) ls) no_point) (sym c.requires.no_steps) refl)
+
+pub returns-then-self-clause-begins : goal.returns-then-self-clause-begins
+returns-then-self-clause-begins c ts us begun within =
+    let q = task_in c.args.terms.now c.args.self.now.engine.levels c.args.assumed.now ts in
+    c.more_terms_may_begin.ensures.begins ts us _ _ (λ t has. within t (Contains-append_left ts q.listed t has)) begun

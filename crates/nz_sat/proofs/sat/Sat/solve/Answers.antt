@@ -13,7 +13,7 @@ use Rattle.nz_sat.specs.Searching.{Satisfies}
 use Rattle.nz_sat.specs.Theories.{state_of}
 use Rattle.nz_sat.specs.Trails.{AreTruthsOn}
 use Rattle.nz_sat.proofs.Advancing.{advances_same}
-use Rattle.nz_sat.proofs.Listing.{adds_keep, adds_noted, forms_kept}
+use Rattle.nz_sat.proofs.Listing.{adds_keep, adds_noted, adds_within, forms_kept}
 use Rattle.nz_sat.proofs.Solving.{beginnings_units, ends_later, first_noted, run_ends, run_named, run_sound, satisfied, theory_met}
 use Rattle.nz_sat.proofs.sat.Sat.solve.Goals.{then-is_none+in_ok-self-inside, else-is_none}
 use Rattle.nz_sat.proofs.sat.Sat.solve.Goals as goal
@@ -46,6 +46,9 @@ pub returns-in_err-refuted-clause-sound : goal.returns-in_err-refuted-clause-sou
 returns-in_err-refuted-clause-sound g c ns levels known =
     run_sound c.args.assumed.now c.run-refuted.ensures.steps.advances c.args.atoms.now c.in_ok-search.ensures.atoms ns levels (subst (λ (s : SatState g.row.T.Denot). g.T.Theory.is_over s.theory ns) (sym c.self.view_is) known)
 
+pub returns-in_err-refuted-clause-table : goal.returns-in_err-refuted-clause-table
+returns-in_err-refuted-clause-table g c ns h = adds_within ns c.args.work.now c.run-refuted.new.work c.run-refuted.ensures.steps.advances.adds h
+
 pub returns-in_err-refuted-clause-notes : goal.returns-in_err-refuted-clause-notes
 returns-in_err-refuted-clause-notes g c = adds_noted c.args.work.now c.run-refuted.new.work c.run-refuted.ensures.steps.advances.adds
 
@@ -68,6 +71,9 @@ returns-in_err-self-inside-clause-named g c = run_named c.args.assumed.now c.run
 pub returns-in_err-self-inside-clause-sound : goal.returns-in_err-self-inside-clause-sound
 returns-in_err-self-inside-clause-sound g c ns levels known =
     run_sound c.args.assumed.now c.run-refuted.ensures.steps.advances c.args.atoms.now c.in_ok-search.ensures.atoms ns levels (subst (λ (s : SatState g.row.T.Denot). g.T.Theory.is_over s.theory ns) (sym c.self.view_is) known)
+
+pub returns-in_err-self-inside-clause-table : goal.returns-in_err-self-inside-clause-table
+returns-in_err-self-inside-clause-table g c ns h = adds_within ns c.args.work.now c.run-refuted.new.work c.run-refuted.ensures.steps.advances.adds h
 
 pub returns-in_err-self-inside-clause-notes : goal.returns-in_err-self-inside-clause-notes
 returns-in_err-self-inside-clause-notes g c = adds_noted c.args.work.now c.run-refuted.new.work c.run-refuted.ensures.steps.advances.adds
@@ -99,6 +105,9 @@ returns-clause-named g c =
 pub returns-clause-sound : goal.returns-clause-sound
 returns-clause-sound g c ns levels known =
     run_sound c.args.assumed.now c.run-refuted.ensures.steps.advances c.args.atoms.now c.in_ok-search.ensures.atoms ns levels (subst (λ (s : SatState g.row.T.Denot). g.T.Theory.is_over s.theory ns) (sym c.self.view_is) known)
+
+pub returns-clause-table : goal.returns-clause-table
+returns-clause-table g c ns h = adds_within ns c.args.work.now c.run-refuted.new.work c.run-refuted.ensures.steps.advances.adds h
 
 pub returns-clause-notes : goal.returns-clause-notes
 returns-clause-notes g c = adds_noted c.args.work.now c.run-refuted.new.work c.run-refuted.ensures.steps.advances.adds

@@ -23,7 +23,7 @@ pop_told-requires g c =
 pub returns-in-Ok-Popped-clause-right : goal.returns-in-Ok-Popped-clause-right
 returns-in-Ok-Popped-clause-right g c x h =
     let a = acted c.in-Ok-Popped.field-0-is h c.command.ensures.kept c.in-Ok-Popped.ensures.accepted c.in-Ok-Popped.ensures.moves in
-    popped_answered c.pop_told.new.engine c.pop_told.new.told c.states_stay_sorted.ensures.stay a c.pop_told.ensures.told c.pop_told.ensures.table
+    popped_answered c.pop_told.new.engine c.pop_told.new.told c.states_stay_sorted.ensures.stay a c.pop_told.ensures.told c.pop_told.ensures.table c.pop_told.ensures.begins
     c.changed-in-Ok-Popped.ensures.rest c.changed-in-Ok-Popped.ensures.succeeds
 
 pub forget-requires : goal.forget-requires
@@ -32,7 +32,7 @@ forget-requires g c = record { told = told_count (g.E.Decide.levels c.args.self.
 pub returns-in-Ok-Cleared-clause-right : goal.returns-in-Ok-Cleared-clause-right
 returns-in-Ok-Cleared-clause-right g c x h =
     let a = acted c.in-Ok-Cleared.field-0-is h c.command.ensures.kept c.in-Ok-Cleared.ensures.accepted c.in-Ok-Cleared.ensures.moves in
-    cleared_answered c.forget.new.self c.states_stay_sorted.ensures.stay a c.forget.ensures.told c.forget.ensures.table c.forget.ensures.rest c.succeeded.ensures.succeeds
+    cleared_answered c.forget.new.self c.states_stay_sorted.ensures.stay a c.forget.ensures.told c.forget.ensures.table c.forget.ensures.begins c.forget.ensures.rest c.succeeded.ensures.succeeds
 
 pub forget-requires-in-Ok-Reset : goal.forget-requires-in-Ok-Reset
 forget-requires-in-Ok-Reset g c = record { told = told_count (g.E.Decide.levels c.args.self.now.engine) c.args.self.now.told (asserted_by c.args.self.now.live) c.requires.1.told }
@@ -40,7 +40,7 @@ forget-requires-in-Ok-Reset g c = record { told = told_count (g.E.Decide.levels 
 pub returns-in-Ok-Reset-clause-right : goal.returns-in-Ok-Reset-clause-right
 returns-in-Ok-Reset-clause-right g c x h =
     let a = acted c.in-Ok-Reset.field-0-is h c.command.ensures.kept c.in-Ok-Reset.ensures.accepted c.in-Ok-Reset.ensures.moves in
-    reset_answered c.forget-in-Ok-Reset.new.self c.states_stay_sorted.ensures.stay a c.forget-in-Ok-Reset.ensures.told c.forget-in-Ok-Reset.ensures.table
+    reset_answered c.forget-in-Ok-Reset.new.self c.states_stay_sorted.ensures.stay a c.forget-in-Ok-Reset.ensures.told c.forget-in-Ok-Reset.ensures.table c.forget-in-Ok-Reset.ensures.begins
     c.forget-in-Ok-Reset.ensures.rest c.succeeded-in-Ok-Reset.ensures.succeeds
 
 pub check_under-requires : goal.check_under-requires
@@ -48,12 +48,12 @@ check_under-requires g c =
     let x = c.requires.0 in
     let h = c.requires.1 in
     let q = check_asked c.deref.ensures.value (acted c.in-Ok-Check.field-0-is h c.command.ensures.kept c.in-Ok-Check.ensures.accepted c.in-Ok-Check.ensures.moves) in
-    record { holds = (x, q.kept.holds, q.integers); taken = check_taken c.assumptions_are_taken.ensures.taken h.sorted q }
+    record { holds = (x, q.holds, q.integers); taken = check_taken c.assumptions_are_taken.ensures.taken h.sorted q }
 
 pub returns-in-Ok-Check-clause-right : goal.returns-in-Ok-Check-clause-right
 returns-in-Ok-Check-clause-right g c x h =
     let q = check_asked c.deref.ensures.value (acted c.in-Ok-Check.field-0-is h c.command.ensures.kept c.in-Ok-Check.ensures.accepted c.in-Ok-Check.ensures.moves) in
-    c.check_under.ensures.right x (view c.args.tree.now) q.literals q.kept.holds q.kept.is q.assumes
+    c.check_under.ensures.right x (view c.args.tree.now) q.literals q.holds q.is q.assumes
 
 pub returns-in-Ok-ShowModel-clause-right : goal.returns-in-Ok-ShowModel-clause-right
 returns-in-Ok-ShowModel-clause-right g c x h =

@@ -28,5 +28,5 @@ returns-in-Ok-clause-right g c x t ls h e v holds =
       assigns = live_values node ns table desk.live x.state c.args.assign h.live ∙ ap assignment_of (sym kept);
     } in
     let values : AreValuesOf ns model.bindings.value model.values = subst (AreValuesOf ns model.bindings.value) (sym c.in-Ok.ensures.values) assigned in
-    checked g.E.Decide.levels g.E.Decide.table x t ls (code.Sat c.in-Ok.shown) c.said.result _ desk.last c.said.ensures.said h e
+    checked g.E.Decide.levels g.E.Decide.table g.E.Decide.begins x t ls (code.Sat c.in-Ok.shown) c.said.result _ desk.last c.said.ensures.said h e
     (ap (λ (bs : List Binding). Some (model_found bs)) (kept ∙ sym shown)) (right, refl) values

@@ -9,6 +9,6 @@ returns-in-Ok g c =
     let last : desk.last ≡ Some (Model c.in-Some-Model.model) = search rules in
     record {
       right = λ x t r k h parsed e q.
-          values_answer g.E.Decide.levels g.E.Decide.table c.argument_tells.ensures.tells x t r k c.args.asked.now c.in-Ok.shows c.in-Some-Model.model c.said.result desk
+          values_answer g.E.Decide.levels g.E.Decide.table g.E.Decide.begins c.argument_tells.ensures.tells x t r k c.args.asked.now c.in-Ok.shows c.in-Some-Model.model c.said.result desk
           c.said.ensures.said h last parsed e q c.in-Ok.ensures.shown;
     }

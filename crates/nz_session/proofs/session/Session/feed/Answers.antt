@@ -9,7 +9,7 @@ use Rattle.nz_session.proofs.session.Session.feed.Goals as goal
 pub heard-init : goal.heard-init
 heard-init g c =
     record {
-      feeding = feeding_start g.E.Decide.levels g.E.Decide.table c.args.self.now c.args.piece.now (g.K.Sink.held c.args.sink.now);
+      feeding = feeding_start g.E.Decide.levels g.E.Decide.table g.E.Decide.begins c.args.self.now c.args.piece.now (g.K.Sink.held c.args.sink.now);
       faults = refl;
       handed = λ before. before;
     }
@@ -19,7 +19,7 @@ serve-requires g c = let serves = c.requires in (serves.0, c.heard.invariant.fee
 
 pub returns-in-None-clause-going : goal.returns-in-None-clause-going
 returns-in-None-clause-going g c =
-    λ _. fed_all g.E.Decide.levels g.E.Decide.table c.args.self.now c.args.piece.now c.heard.rest.now _ _ _ _ c.heard.self.desk c.heard.self.kept
+    λ _. fed_all g.E.Decide.levels g.E.Decide.table g.E.Decide.begins c.args.self.now c.args.piece.now c.heard.rest.now _ _ _ _ c.heard.self.desk c.heard.self.kept
     c.feed-used.result.0 c.feed-used.result.1 c.heard.invariant.feeding c.feed-used.ensures.heard c.in-None.is
     (c.feed-used.ensures.all_used (none_is _ c.in-None.is)) (c.feed-used.ensures.settled (none_is _ c.in-None.is))
     (λ all things fit. c.feed-used.ensures.complete script_limits all things fit (none_is _ c.in-None.is))
@@ -29,7 +29,7 @@ heard-preserved g c =
     record {
       feeding =
           rw take_rest
-          (feeding_more g.E.Decide.levels g.E.Decide.table c.args.self.now c.args.piece.now c.heard.rest.now _ _ _ _ c.heard.self.desk c.heard.self.kept
+          (feeding_more g.E.Decide.levels g.E.Decide.table g.E.Decide.begins c.args.self.now c.args.piece.now c.heard.rest.now _ _ _ _ c.heard.self.desk c.heard.self.kept
           c.feed-used.result.0 c.feed-used.result.1 c.heard.invariant.feeding c.feed-used.ensures.heard c.in-Some.heard c.in-Some.is
           c.serve.new.desk c.serve.new.kept _ (c.in-Going.ensures.answered (inl refl)) (c.in-Going.ensures.going refl));
       faults = c.in-Going.ensures.faults ∙ c.heard.invariant.faults;
@@ -38,7 +38,7 @@ heard-preserved g c =
 
 pub returns-in-Exited-clause-exited : goal.returns-in-Exited-clause-exited
 returns-in-Exited-clause-exited g c =
-    λ _. exited_fed g.E.Decide.levels g.E.Decide.table c.args.self.now c.args.piece.now c.heard.rest.now _ _ _ _ c.heard.self.desk c.heard.self.kept
+    λ _. exited_fed g.E.Decide.levels g.E.Decide.table g.E.Decide.begins c.args.self.now c.args.piece.now c.heard.rest.now _ _ _ _ c.heard.self.desk c.heard.self.kept
     c.feed-used.result.0 c.feed-used.result.1 c.heard.invariant.feeding c.feed-used.ensures.heard c.in-Some.heard c.in-Some.is
     c.serve.new.desk c.serve.new.kept _ (c.in-Exited.ensures.answered (inr refl))
     c.one_reading.ensures.one c.reading_tells_first.ensures.first (c.in-Exited.ensures.exited refl)
@@ -49,7 +49,7 @@ returns-in-Exited-clause-written g c =
 
 pub returns-in-SinkFault-clause-broken_off : goal.returns-in-SinkFault-clause-broken_off
 returns-in-SinkFault-clause-broken_off g c =
-    λ _. broken_fed g.E.Decide.levels g.E.Decide.table c.args.self.now c.args.piece.now c.heard.rest.now _ _ _ _ c.heard.self.desk c.heard.self.kept
+    λ _. broken_fed g.E.Decide.levels g.E.Decide.table g.E.Decide.begins c.args.self.now c.args.piece.now c.heard.rest.now _ _ _ _ c.heard.self.desk c.heard.self.kept
     c.feed-used.result.0 c.feed-used.result.1 c.heard.invariant.feeding c.feed-used.ensures.heard c.in-Some.heard c.in-Some.is
     _ _ (c.in-SinkFault.ensures.broken_off_written refl) (c.in-SinkFault.ensures.broken_off refl) c.reading_tells_first.ensures.first
 
@@ -57,7 +57,7 @@ pub returns-in-Cut-clause-cut : goal.returns-in-Cut-clause-cut
 returns-in-Cut-clause-cut g c =
     λ _ limit bytes serves.
     subst (IsCut limit _ (bytes ++ c.args.piece.now)) (sym (kept_alike c.heard.self.desk c.serve.new.desk _ _ (c.in-Cut.ensures.cut_desk refl) (c.in-Cut.ensures.cut refl)))
-    (cut_fed g.E.Decide.levels g.E.Decide.table c.args.self.now c.args.piece.now c.heard.rest.now _ _ _ _ c.heard.self.desk c.heard.self.kept
+    (cut_fed g.E.Decide.levels g.E.Decide.table g.E.Decide.begins c.args.self.now c.args.piece.now c.heard.rest.now _ _ _ _ c.heard.self.desk c.heard.self.kept
     c.feed-used.result.0 c.feed-used.result.1 c.heard.invariant.feeding c.feed-used.ensures.heard c.in-Some.heard c.in-Some.is
     c.reading_tells_first.ensures.first limit bytes serves)
 

@@ -7,7 +7,7 @@ use Rattle.nz_session.proofs.session.Session.feed.Given as goal
 abbrev pub invariant-heard : goal.invariant-heard
 invariant-heard g l =
     record {
-      feeding : IsFeeding g.E.Decide.levels g.E.Decide.table l.fn.self l.self l.piece l.rest (g.K.Sink.held l.fn.sink) (g.K.Sink.held l.sink);
+      feeding : IsFeeding g.E.Decide.levels g.E.Decide.table g.E.Decide.begins l.fn.self l.self l.piece l.rest (g.K.Sink.held l.fn.sink) (g.K.Sink.held l.sink);
       faults : g.K.Sink.faults l.sink ≡ g.K.Sink.faults l.fn.sink;
       handed : g.K.Sink.handed l.fn.sink ≡ g.K.Sink.held l.fn.sink → g.K.Sink.handed l.sink ≡ g.K.Sink.held l.sink;
     }

@@ -4,7 +4,7 @@ use Rattle.nz_fractions.specs.Fraction.{Fraction, IsNumber, whole}
 use Rattle.nz_fractions.proofs.Laws.{lowest-same}
 use Rattle.nz_fractions.proofs.Order.{same-fraction_eq}
 use Rattle.nz_spec.specs.Term.{is_zero}
-use Rattle.nz_tab.proofs.rows.is_none.Goals as goal
+use Rattle.nz_tab.proofs.row.is_none.Goals as goal
 
 none_zero : (q : Fraction) → IsNumber q → IsNumber (whole (pos 0)) → is_zero q ≡ true → q ≡ whole (pos 0)
 none_zero q h z e = lowest-same (same-fraction_eq q (whole (pos 0)) e) (record { lowest = h.lowest }) (record { lowest = z.lowest })

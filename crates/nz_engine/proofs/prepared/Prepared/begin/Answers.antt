@@ -1,0 +1,98 @@
+-- The atoms are named and noted, the theory begins anew and learns of them, and neighbouring bounds get their clauses.
+use Rattle.std.proofs.Common.{rules, ◌≡◌, ℕ, List, Ok, Err, IfErr, refl, sym, ap, subst, ◌∙◌}
+use Rattle.nz_spec.specs.Term.{Term}
+use Rattle.nz_log.specs.declared.stop.Stop.{Stop}
+use Rattle.nz_log.specs.declared.stop.Stop.TheVariants.{Memory}
+use Rattle.nz_log.specs.Verdicts.{task_in}
+use Rattle.nz_engine.specs.Checking.{AreLearnable, BeginsAnew, EndsWith, MaySearch}
+use Rattle.nz_engine.specs.Preparing.{Excludes, PreparedState}
+use Rattle.nz_engine.proofs.Ending.{legal_none}
+use Rattle.nz_engine.proofs.Entering.{begun_search, learnable, legal_anew, stops_anew, works_anew}
+use Rattle.nz_engine.proofs.Excluding.{prepared_in}
+use Rattle.nz_engine.proofs.Solving.{ready_as}
+use Rattle.nz_engine.proofs.prepared.Prepared.begin.Goals as goal
+
+pub returns-in_err-named-clause-stopped : goal.returns-in_err-named-clause-stopped
+returns-in_err-named-clause-stopped c =
+    let same : Err Memory ≡ c.from_residual.result = search rules in
+    let ns = c.args.terms.now in
+    let assumed = c.args.assumed.now in
+    let work = c.args.work.now in
+    subst (λ r. IfErr r (λ (e : Stop). (levels : List (List ℕ)) (ts : List Term) → MaySearch ns levels assumed ts c.args.self.now → EndsWith ns (task_in ns levels assumed ts) work e)) same
+    (λ levels ts may. legal_none (task_in ns levels assumed ts) ns work c.requires.no_steps)
+
+pub begin_anew-requires-clause-learnable : goal.begin_anew-requires-clause-learnable
+begin_anew-requires-clause-learnable c =
+    let p = prepared_in c.self.inside in
+    let r = ready_as c.self.view_is refl refl c.in_ok-named.ensures.ready in
+    subst (λ (is : List ℕ). AreLearnable p.sat.theory p.log.atoms is) (sym c.deref.ensures.value) (learnable c.search_laws.ensures.laws p r)
+
+pub returns-in_err-begin_anew-clause-stopped : goal.returns-in_err-begin_anew-clause-stopped
+returns-in_err-begin_anew-clause-stopped c =
+    let e = c.in_err-begin_anew.field-0.0 in
+    let same : Err e ≡ c.from_residual-in_err-begin_anew.result = search rules in
+    let ns = c.args.terms.now in
+    let assumed = c.args.assumed.now in
+    let p = prepared_in c.self.inside in
+    let r = ready_as c.self.view_is refl refl c.in_ok-named.ensures.ready in
+    let theory = ap (λ (s : PreparedState). s.sat.theory) c.self.view_is ∙ c.ready.ensures.theory in
+    let sat = c.begin_anew.new.sat in
+    let after = c.begin_anew.new.work in
+    let begins = subst (λ (is : List ℕ). BeginsAnew p.log.atoms is p.sat.theory sat.theory c.args.work.now after (Err e)) c.deref.ensures.value c.in_err-begin_anew.ensures.begins in
+    subst (λ r. IfErr r (λ (x : Stop). (levels : List (List ℕ)) (ts : List Term) → MaySearch ns levels assumed ts c.args.self.now → EndsWith ns (task_in ns levels assumed ts) after x)) same
+    (stops_anew c.search_laws.ensures.laws p r theory sat c.args.work.now after e begins)
+
+pub returns-in_err-begin_anew-clause-works : goal.returns-in_err-begin_anew-clause-works
+returns-in_err-begin_anew-clause-works c =
+    let p = prepared_in c.self.inside in
+    let r = ready_as c.self.view_is refl refl c.in_ok-named.ensures.ready in
+    let theory = ap (λ (s : PreparedState). s.sat.theory) c.self.view_is ∙ c.ready.ensures.theory in
+    let sat = c.begin_anew.new.sat in
+    let after = c.begin_anew.new.work in
+    let begins = subst (λ (is : List ℕ). BeginsAnew p.log.atoms is p.sat.theory sat.theory c.args.work.now after c.begin_anew.result) c.deref.ensures.value c.begin_anew.ensures.begins in
+    works_anew c.search_laws.ensures.laws p r theory sat c.args.work.now after c.begin_anew.result begins
+
+pub returns-in_err-exclude-clause-stopped : goal.returns-in_err-exclude-clause-stopped
+returns-in_err-exclude-clause-stopped c =
+    let same : Err Memory ≡ c.from_residual-in_err-exclude.result = search (rules, c.from_residual-in_err-exclude.ensures, c.in_err-exclude.is, c.in_err-exclude.was) in
+    let ns = c.args.terms.now in
+    let assumed = c.args.assumed.now in
+    let p = prepared_in c.self.inside in
+    let r = ready_as c.self.view_is refl refl c.in_ok-named.ensures.ready in
+    let theory = ap (λ (s : PreparedState). s.sat.theory) c.self.view_is ∙ c.ready.ensures.theory in
+    let sat = c.begin_anew.new.sat in
+    let after = c.begin_anew.new.work in
+    let begins = subst (λ (is : List ℕ). BeginsAnew p.log.atoms is p.sat.theory sat.theory c.args.work.now after (Ok tt)) c.deref.ensures.value c.in_ok-begin_anew.ensures.begins in
+    subst (λ r. IfErr r (λ (x : Stop). (levels : List (List ℕ)) (ts : List Term) → MaySearch ns levels assumed ts c.args.self.now → EndsWith ns (task_in ns levels assumed ts) after x)) same
+    (legal_anew c.search_laws.ensures.laws p r theory sat c.args.work.now after begins)
+
+pub returns-in_err-exclude-clause-works : goal.returns-in_err-exclude-clause-works
+returns-in_err-exclude-clause-works c =
+    let p = prepared_in c.self.inside in
+    let r = ready_as c.self.view_is refl refl c.in_ok-named.ensures.ready in
+    let theory = ap (λ (s : PreparedState). s.sat.theory) c.self.view_is ∙ c.ready.ensures.theory in
+    let sat = c.begin_anew.new.sat in
+    let after = c.begin_anew.new.work in
+    let begins = subst (λ (is : List ℕ). BeginsAnew p.log.atoms is p.sat.theory sat.theory c.args.work.now after c.begin_anew.result) c.deref.ensures.value c.begin_anew.ensures.begins in
+    works_anew c.search_laws.ensures.laws p r theory sat c.args.work.now after c.begin_anew.result begins
+
+pub returns-clause-begun : goal.returns-clause-begun
+returns-clause-begun c =
+    let p = prepared_in c.self.inside in
+    let r = ready_as c.self.view_is refl refl c.in_ok-named.ensures.ready in
+    let theory = ap (λ (s : PreparedState). s.sat.theory) c.self.view_is ∙ c.ready.ensures.theory in
+    let sat = c.begin_anew.new.sat in
+    let after = c.begin_anew.new.work in
+    let begins = subst (λ (is : List ℕ). BeginsAnew p.log.atoms is p.sat.theory sat.theory c.args.work.now after (Ok tt)) c.deref.ensures.value c.in_ok-begin_anew.ensures.begins in
+    let excludes = subst (λ (is : List ℕ). Excludes p.log sat is c.exclude.new.log c.exclude.new.sat) c.deref-2.ensures.value c.in_ok-exclude.ensures.excludes in
+    begun_search c.search_laws.ensures.laws p r theory sat c.args.work.now after begins c.begin_anew.ensures.clauses c.exclude.new.log c.exclude.new.sat excludes
+
+pub returns-clause-works : goal.returns-clause-works
+returns-clause-works c =
+    let p = prepared_in c.self.inside in
+    let r = ready_as c.self.view_is refl refl c.in_ok-named.ensures.ready in
+    let theory = ap (λ (s : PreparedState). s.sat.theory) c.self.view_is ∙ c.ready.ensures.theory in
+    let sat = c.begin_anew.new.sat in
+    let after = c.begin_anew.new.work in
+    let begins = subst (λ (is : List ℕ). BeginsAnew p.log.atoms is p.sat.theory sat.theory c.args.work.now after c.begin_anew.result) c.deref.ensures.value c.begin_anew.ensures.begins in
+    works_anew c.search_laws.ensures.laws p r theory sat c.args.work.now after c.begin_anew.result begins

@@ -1,0 +1,15 @@
+use Rattle.std.proofs.Common.{inl}
+use Rattle.nz_reals.proofs.Arranged.{arranged_more, may_add_form}
+use Rattle.nz_reals.proofs.reals.Reals.join_sum.Goals as goal
+
+pub add_sum-requires-clause-may : goal.add_sum-requires-clause-may
+add_sum-requires-clause-may c =
+    (may_add_form c.args.log.now.atoms c.args.atoms.now c.requires.may c.in-Some.bound.now c.in-Some.ensures.among c.args.self.now c.requires.arranged c.in_ok-sum.sum c.in_ok-sum.ensures.zeroed).0
+
+pub returns : goal.returns
+returns c =
+    let all = c.args.log.now.atoms in
+    let ids = c.args.atoms.now in
+    let b = c.in-Some.bound.now in
+    let is = (may_add_form all ids c.requires.may b c.in-Some.ensures.among c.args.self.now c.requires.arranged c.in_ok-sum.sum c.in_ok-sum.ensures.zeroed).1 in
+    record { arranged = arranged_more all ids c.requires.may b c.in-Some.ensures.among c.in_ok-sum.sum.sides.parts (inl is) c.args.self.now c.add_sum.new.self c.requires.arranged c.add_sum.ensures.joined }

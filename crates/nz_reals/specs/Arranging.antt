@@ -1,0 +1,74 @@
+-- Units and sums that join before a search, where no form is there yet.
+use Rattle.std.specs.Prelude.{◌≡◌, ◌⊎◌, ℕ, true, List, All, Contains, Some, map, slice_get}
+use Rattle.std.specs.List.{AllByRecursion}
+use Rattle.nz_spec.specs.Bland.{Point, zero_infinitesimal}
+use Rattle.nz_spec.specs.Form as spec
+use Rattle.nz_spec.specs.Infinitesimal.{Infinitesimal}
+use Rattle.nz_spec.specs.Legal.{IsSumOf, IsTabled}
+use Rattle.nz_spec.specs.Table.{IsTable, Node}
+use Rattle.nz_spec.specs.Term.{Term}
+use Rattle.nz_lin.specs.declared.bound.Bound.{Bound}
+use Rattle.nz_lin.specs.declared.form.Part.{Part}
+use Rattle.nz_lin.specs.Forms.{AreUnits, parts_over}
+use Rattle.nz_tab.specs.Units.{unit_of}
+use Rattle.nz_log.specs.declared.atoms.Atom.{Atom}
+use Rattle.nz_log.specs.declared.atoms.Atom.TheVariants.{AtMost}
+use Rattle.nz_log.specs.Atoms.{IsLitIn, literal_in}
+use Rattle.nz_simplex.specs.Moves.{joined_over}
+use Rattle.nz_simplex.specs.State.{point_in, position_over}
+use Rattle.nz_reals.specs.Stands.{IsOver}
+use Rattle.nz_reals.specs.State.{Theory}
+use Rattle.nz_reals.specs.Sums.{AreNonzero, turned_sum}
+
+-- ---- Atoms
+
+-- these atoms are there, over the table
+abbrev pub AreAtomsIn : List Node → List Atom → List ℕ → Type 0
+AreAtomsIn ns all ids = All (λ (id : ℕ). IsLitIn ns all (record { atom = id; sign = true })) ids
+
+-- Some table has what these atoms name, and no coefficient of their bounds is 0.
+pub record MayArrange (all : List Atom) (ids : List ℕ) : Type 0 where
+  pub table : List Node
+  pub is_table : IsTable table
+  pub within : AreAtomsIn table all ids
+  pub nonzero : All (λ (id : ℕ). (b : Bound) → slice_get all id ≡ Some (AtMost b) → AreNonzero b.sides.parts) ids
+
+-- an atom that is a bound is one of the tables of these terms
+abbrev pub IsTabledAtom : List Node → List Term → List Atom → ℕ → Type 0
+IsTabledAtom ns ts all id = (b : Bound) → slice_get all id ≡ Some (AtMost b) → IsTabled ts (literal_in ns all (record { atom = id; sign = true }))
+
+-- the bound is that of one of these atoms
+pub record IsBoundAmong (all : List Atom) (ids : List ℕ) (b : Bound) : Type 0 where
+  pub id : ℕ
+  pub listed : Contains ids id
+  pub at : slice_get all id ≡ Some (AtMost b)
+
+-- ---- Forms
+
+-- the form is the sum of a bound, with a first coefficient above 0, or a unit of it
+abbrev pub IsFormOfBound : Bound → List Part → Type 0
+IsFormOfBound b f = (f ≡ turned_sum b.sides.parts) ⊎ ((p : Part) × Contains b.sides.parts p × (f ≡ unit_of p))
+
+-- Over a table, the form is the sum of a bound among these atoms, or a unit of it.
+pub record IsSumAmong (ns : List Node) (all : List Atom) (ids : List ℕ) (f : List spec.Part) : Type 0 where
+  pub bound : Bound
+  pub among : IsBoundAmong all ids bound
+  pub is : IsSumOf (literal_in ns all (record { atom = among.id; sign = true })) f
+
+abbrev pub IsAtZero : Point → Type 0
+IsAtZero x = (k : ℕ) (v : Infinitesimal) → x k ≡ Some v → v ≡ zero_infinitesimal
+
+-- Over each table that has these atoms, the forms are their sums, or units of these; and each nonbasic form stands at 0.
+pub record IsArranged (all : List Atom) (ids : List ℕ) (t : Theory) : Type 0 where
+  pub over : (ns : List Node) → IsTable ns → AreAtomsIn ns all ids → IsOver t ns
+  pub sums : (ns : List Node) → IsTable ns → AreAtomsIn ns all ids → AllByRecursion (IsSumAmong ns all ids) (map (parts_over ns) t.simplex.forms)
+  pub zero : IsAtZero (point_in t.simplex)
+
+-- a form has joined
+pub record HasJoined (old new : Theory) (f : List Part) : Type 0 where
+  pub over : (ns : List Node) → AreUnits ns f → IsOver old ns → IsOver new ns
+  pub position : (ns : List Node) → IsOver old ns → AreUnits ns f → position_over ns new.simplex ≡ joined_over ns old.simplex f
+
+-- a form has joined, or all is as before
+abbrev pub MayHaveJoined : Theory → Theory → List Part → Type 0
+MayHaveJoined old new f = (new ≡ old) ⊎ HasJoined old new f
