@@ -543,7 +543,12 @@ fn begin_theory(
 }
 
 /// Lets sums join a theory that has none, in a planned order, before it begins anew.
-fn arrange(theory: &mut Reals, log: &Log, atoms: &[AtomId], truths: &[Lit]) -> Result<(), Memory>
+fn arrange(
+    theory: &mut Reals,
+    log: &Log,
+    atoms: &[AtomId],
+    truths: &[Option<bool>],
+) -> Result<(), Memory>
     requires learnable { AreLearnable theory.old log.now.atoms atoms.now }
     ensures over { (ns : List Node) → IsOver theory.old ns → All (IsAtomAt ns log.now.atoms) atoms.now → IsOver theory.new ns }
     ensures rest { (ns : List Node) (q : Task) → MayBegin theory.old ns q log.now.atoms atoms.now → MayBegin theory.new ns q log.now.atoms atoms.now }

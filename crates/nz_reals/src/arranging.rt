@@ -15,17 +15,23 @@ use crate::reals::{Reals, stored};
 use nz_base::Memory;
 use nz_frac::Frac;
 use nz_lin::{Bound, Form, Part};
-use nz_log::{Atom, AtomId, Lit, Log, Stop};
+use nz_log::{Atom, AtomId, Log, Stop};
 use nz_spec::table::one_number;
 
 impl Reals {
     /// Lets units and sums of these atoms join before a search, where the theory has no form yet: in the order in which a plan for its first check
-    /// exchanges them, where these literals are true from the start. Nothing is noted, since a theory that begins anew notes all its forms.
+    /// exchanges them, under the bounds whose truths are known from the start; truths are by the numbers of atoms in the log. Nothing is noted, since a
+    /// theory that begins anew notes all its forms.
     ///
     /// # Errors
     ///
     /// `Memory`.
-    pub fn arrange(&mut self, log: &Log, atoms: &[AtomId], truths: &[Lit]) -> Result<(), Memory>
+    pub fn arrange(
+        &mut self,
+        log: &Log,
+        atoms: &[AtomId],
+        truths: &[Option<bool>],
+    ) -> Result<(), Memory>
         requires may { MayArrange log.now.atoms atoms.now }
         ensures over { (ns : List Node) → AreAtomsIn ns log.now.atoms atoms.now → IsOver self.old ns → IsOver self.new ns }
         // Where each bound is one of the tables of these terms, a search that might begin with the theory may do so still.

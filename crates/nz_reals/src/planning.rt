@@ -6,13 +6,14 @@
 //! stay short. Any plan is right.
 ghost use Rattle.std.specs.Prelude.{◌<◌, All, length};
 
-use crate::forms::{Bounded, Said, is_turned};
+use crate::forms::{Bounded, Said, zeroed};
 use crate::sparse_row::{Cell, SparseRow};
+use indexmap::IndexMap;
 use nz_base::Memory;
 use nz_delta::{Delta, Scalar};
 use nz_frac::{Frac, Wide};
 use nz_lin::{Bound, LinStop, Part};
-use nz_log::{Atom, AtomId, Lit, Log};
+use nz_log::{Atom, AtomId, Log};
 use nz_term::TermId;
 use nz_trail::Side;
 use std::alloc::Global;
@@ -78,7 +79,7 @@ struct Exchange {
 
 /// What speaks against an exchange: how many more forms are broken after it, and then how many coefficients it may change.
 #[derive(Clone, Copy, Debug, PartialEq, Eq, PartialOrd, Ord)]
-struct Harm {
+struct Cost {
     broken: i64,
     changed: usize,
 }
@@ -87,8 +88,10 @@ struct Harm {
 #[derive(Debug, Drop)]
 struct Tableau {
     alloc: Global,
-    numbers: HashMap<TermId, usize>,
-    // Where each unit is found, and the place of each sum's atom.
+    // Of the units, and of the sums by the atoms that they are at most 0.
+    unit_numbers: HashMap<TermId, usize>,
+    sum_numbers: IndexMap<Atom, usize>,
+    // Where each unit is found, and the place of an atom that bounds each sum.
     units: Vec<UnitAt>,
     sums: Vec<usize>,
     variables: Vec<Variable>,
@@ -97,12 +100,12 @@ struct Tableau {
     looks: usize,
 }
 
-/// Which units and sums are exchanged until the bounds of these literals are met, as far as that goes: the literals are among those of the atoms.
+/// Which units and sums are exchanged until the bounds that these atoms say are met, as far as that goes; truths are by the numbers of atoms.
 pub(crate) fn plan_exchanges(
     alloc: Global,
     log: &Log,
     atoms: &[AtomId],
-    truths: &[Lit],
+    truths: &[Option<bool>],
 ) -> Result<Plan, Memory>
     requires within { All (λ i. i < length log.now.atoms) atoms.now }
 {
@@ -110,8 +113,7 @@ pub(crate) fn plan_exchanges(
         units: Vec::new(alloc),
         sums: Vec::new(alloc),
     };
-    let signs = signs_of(alloc, truths)?;
-    match Tableau::new(alloc, log, atoms, &signs) {
+    match Tableau::new(alloc, log, atoms, truths) {
         Ok(mut tableau) => tableau.plan(&mut plan)?,
         Err(LinStop::Wide(_)) => {}
         Err(LinStop::Memory) => return Err(Memory),
@@ -119,41 +121,19 @@ pub(crate) fn plan_exchanges(
     Ok(plan)
 }
 
-/// By the numbers of atoms, the signs of these literals.
-fn signs_of(alloc: Global, truths: &[Lit]) -> Result<Vec<Option<bool>>, Memory> {
-    let mut signs = Vec::new(alloc);
-    for literal in truths {
-        put_sign(&mut signs, *literal)?;
-    }
-    Ok(signs)
-}
-
-fn put_sign(signs: &mut Vec<Option<bool>>, literal: Lit) -> Result<(), Memory> {
-    let Some(count) = literal.atom.checked_add(1) else {
-        return Err(Memory);
-    };
-    if signs.len() < count {
-        signs.resize(count, None)?;
-    }
-    if let Some(sign) = signs.get_mut(literal.atom) {
-        *sign = Some(literal.sign);
-    }
-    Ok(())
-}
-
-/// The bound of the atom of a place, and what it says, where its sign is known.
+/// The bound of the atom of a place, and what it says, where its truth is known.
 fn said_at<'a>(
     log: &'a Log,
     atoms: &[AtomId],
-    signs: &[Option<bool>],
+    truths: &[Option<bool>],
     place: usize,
 ) -> Option<(&'a Bound, Said)>
     requires within { All (λ i. i < length log.now.atoms) atoms.now }
 {
     let atom = atoms.get(place)?;
-    let sign = signs.get(*atom).copied()??;
+    let truth = truths.get(*atom).copied()??;
     match log.atom(*atom) {
-        Atom::AtMost(bound) => Some((bound, Bounded::new(0, bound).said(sign))),
+        Atom::AtMost(bound) => Some((bound, Bounded::new(0, bound).said(truth))),
         Atom::Term(_) => None,
     }
 }
@@ -245,18 +225,18 @@ fn is_below(one: &Delta, other: &Delta) -> bool {
 }
 
 impl Tableau {
-    /// The units and sums of the bounds whose signs are known: each unit within its bounds, as near to 0 as it can be, and each sum basic.
+    /// The units and sums of the bounds whose truths are known: each unit within its bounds, as near to 0 as it can be, and each sum basic.
     fn new(
         alloc: Global,
         log: &Log,
         atoms: &[AtomId],
-        signs: &[Option<bool>],
+        truths: &[Option<bool>],
     ) -> Result<Tableau, LinStop>
         requires within { All (λ i. i < length log.now.atoms) atoms.now }
     {
         let mut tableau = Tableau::empty(alloc);
         for place in 0..atoms.len() {
-            if let Some((bound, said)) = said_at(log, atoms, signs, place) {
+            if let Some((bound, said)) = said_at(log, atoms, truths, place) {
                 tableau.add_units(bound.parts(), place)?;
                 tableau.limit_unit(bound.parts(), &said);
             }
@@ -265,8 +245,8 @@ impl Tableau {
             variable.settle();
         }
         for place in 0..atoms.len() {
-            if let Some((bound, said)) = said_at(log, atoms, signs, place) {
-                tableau.add_sum(bound.parts(), &said, place)?;
+            if let Some((bound, said)) = said_at(log, atoms, truths, place) {
+                tableau.add_sum(bound, &said, place)?;
             }
         }
         Ok(tableau)
@@ -275,7 +255,8 @@ impl Tableau {
     fn empty(alloc: Global) -> Tableau {
         Tableau {
             alloc,
-            numbers: HashMap::new(alloc),
+            unit_numbers: HashMap::new(alloc),
+            sum_numbers: IndexMap::new(alloc),
             units: Vec::new(alloc),
             sums: Vec::new(alloc),
             variables: Vec::new(alloc),
@@ -294,10 +275,10 @@ impl Tableau {
 
     /// Numbers a unit, where it isn't there yet.
     fn add_unit(&mut self, unit: TermId, at: UnitAt) -> Result<(), Memory> {
-        if self.numbers.contains_key(&unit) {
+        if self.unit_numbers.contains_key(&unit) {
             return Ok(());
         }
-        self.numbers.insert(unit, self.units.len())?;
+        self.unit_numbers.insert(unit, self.units.len())?;
         self.units.push(at)?;
         self.add_variable(&Variable::free())
     }
@@ -317,44 +298,69 @@ impl Tableau {
         let Some(unit) = alone(parts) else {
             return;
         };
-        let Some(number) = self.numbers.get(&unit) else {
-            return;
-        };
-        if let Some(variable) = self.variables.get_mut(*number) {
+        if let Some(number) = self.unit_numbers.get(&unit).copied() {
+            self.limit(number, said);
+        }
+    }
+
+    /// Bounds a variable.
+    fn limit(&mut self, number: usize, said: &Said) {
+        if let Some(variable) = self.variables.get_mut(number) {
             variable.limit(said);
         }
     }
 
-    /// Adds a sum with a bound, where it is no unit alone.
-    fn add_sum(&mut self, parts: &[Part], said: &Said, place: usize) -> Result<(), LinStop> {
-        if alone(parts).is_some() {
+    /// Bounds a sum, which is added where it isn't there yet, unless it is a unit alone.
+    fn add_sum(&mut self, bound: &Bound, said: &Said, place: usize) -> Result<(), LinStop> {
+        if alone(bound.parts()).is_some() {
             return Ok(());
         }
+        let number = self.sum_number(zeroed(self.alloc, bound)?, place)?;
+        self.limit(number, said);
+        Ok(())
+    }
+
+    /// The number of a sum, which is added where it isn't there yet; it is that of the atom of this place.
+    fn sum_number(&mut self, sum: Bound, place: usize) -> Result<usize, LinStop> {
+        let row = self.row(sum.parts())?;
+        let number = row.basic;
+        let key = Atom::AtMost(sum);
+        if let Some(there) = self.sum_numbers.get(&key) {
+            return Ok(*there);
+        }
         let mut variable = Variable::free();
-        variable.limit(said);
-        let mut there = SparseRow {
+        variable.value = self.row_value(&row)?;
+        self.add_variable(&variable)?;
+        self.sum_numbers.insert(key, number)?;
+        self.sums.push(place)?;
+        self.rows.push(row)?;
+        Ok(number)
+    }
+
+    /// A row over units that are numbered, for a variable that comes next.
+    fn row(&self, parts: &[Part]) -> Result<SparseRow, LinStop> {
+        let mut row = SparseRow {
             basic: self.variables.len(),
-            cells: Vec::new(self.alloc),
+            cells: Vec::with_capacity(self.alloc, parts.len())?,
         };
         for part in parts {
-            let Some(column) = self.numbers.get(&part.unit).copied() else {
-                return Ok(());
-            };
-            let coefficient = if is_turned(parts) {
-                part.coefficient.neg()
-            } else {
-                part.coefficient
-            };
-            there.add(Cell {
-                column,
-                coefficient,
-            })?;
-            variable.value = variable.value.add(self.value(column).scale(coefficient)?)?;
+            if let Some(column) = self.unit_numbers.get(&part.unit).copied() {
+                row.add(Cell {
+                    column,
+                    coefficient: part.coefficient,
+                })?;
+            }
         }
-        self.add_variable(&variable)?;
-        self.sums.push(place)?;
-        self.rows.push(there)?;
-        Ok(())
+        Ok(row)
+    }
+
+    /// The value of the variable of a row.
+    fn row_value(&self, row: &SparseRow) -> Result<Delta, Wide> {
+        let mut value = Delta::zero();
+        for cell in &row.cells {
+            value = value.add(self.value(cell.column).scale(cell.coefficient)?)?;
+        }
+        Ok(value)
     }
 
     /// The value of a unit or sum.
@@ -401,8 +407,8 @@ impl Tableau {
 
     /// Plans the sum that leaves and the unit that enters, unless they are planned already.
     fn note(&mut self, exchange: &Exchange, plan: &mut Plan) -> Result<(), Memory> {
-        if let Some(there) = self.rows.get(exchange.row) {
-            let leaving = there.basic;
+        if let Some(row) = self.rows.get(exchange.row) {
+            let leaving = row.basic;
             self.note_sum(leaving, plan)?;
         }
         self.note_unit(exchange.column, plan)
@@ -448,33 +454,33 @@ impl Tableau {
         if !self.can_afford(&worst) {
             return Ok(None);
         }
-        let mut best: Option<(Harm, Exchange)> = None;
+        let mut best: Option<(Cost, Exchange)> = None;
         for broken in &worst {
-            if let Some(there) = self.rows.get(broken.row) {
-                self.choose_at(there, broken, &mut best);
+            if let Some(row) = self.rows.get(broken.row) {
+                self.choose_at(row, broken, &mut best);
             }
         }
         Ok(best.map(|(_, exchange)| exchange))
     }
 
     /// Keeps the best exchange of a broken row with what may enter: the variables of least rank that can help.
-    fn choose_at(&self, there: &SparseRow, broken: &Broken, best: &mut Option<(Harm, Exchange)>) {
-        let Some(rank) = self.least_helping(there, broken) else {
+    fn choose_at(&self, row: &SparseRow, broken: &Broken, best: &mut Option<(Cost, Exchange)>) {
+        let Some(rank) = self.least_helping(row, broken) else {
             return;
         };
-        for cell in &there.cells {
+        for cell in &row.cells {
             if self.rank(cell.column) == rank && self.can_help(broken, cell) {
                 if let Some(exchange) = exchange_at(broken, cell) {
-                    self.keep_better(there, exchange, best);
+                    self.keep_better(row, exchange, best);
                 }
             }
         }
     }
 
     /// The least rank of what can help a broken row.
-    fn least_helping(&self, there: &SparseRow, broken: &Broken) -> Option<Rank> {
+    fn least_helping(&self, row: &SparseRow, broken: &Broken) -> Option<Rank> {
         let mut least: Option<Rank> = None;
-        for cell in &there.cells {
+        for cell in &row.cells {
             if self.can_help(broken, cell) {
                 let rank = self.rank(cell.column);
                 if least.is_none_or(|least| rank < least) {
@@ -498,13 +504,13 @@ impl Tableau {
     /// Keeps an exchange of the variable of this row, where less speaks against it than against the best.
     fn keep_better(
         &self,
-        there: &SparseRow,
+        row: &SparseRow,
         exchange: Exchange,
-        best: &mut Option<(Harm, Exchange)>,
+        best: &mut Option<(Cost, Exchange)>,
     ) {
-        if let Some(harm) = self.harm(there, &exchange) {
-            if best.is_none_or(|(least, _)| harm < least) {
-                *best = Some((harm, exchange));
+        if let Some(cost) = self.cost(row, &exchange) {
+            if best.is_none_or(|(least, _)| cost < least) {
+                *best = Some((cost, exchange));
             }
         }
     }
@@ -513,8 +519,8 @@ impl Tableau {
     fn can_afford(&mut self, worst: &[Broken]) -> bool {
         let mut cells = 0usize;
         for broken in worst {
-            if let Some(there) = self.rows.get(broken.row) {
-                cells = cells.saturating_add(there.cells.len());
+            if let Some(row) = self.rows.get(broken.row) {
+                cells = cells.saturating_add(row.cells.len());
             }
         }
         match self
@@ -584,20 +590,20 @@ impl Tableau {
     }
 
     /// What speaks against an exchange of the variable of this row; `None` where a number leaves the fractions.
-    fn harm(&self, there: &SparseRow, exchange: &Exchange) -> Option<Harm> {
-        let way = self.way(there.basic, exchange).ok()?;
-        let mut harm = Harm {
+    fn cost(&self, row: &SparseRow, exchange: &Exchange) -> Option<Cost> {
+        let way = self.way(row.basic, exchange).ok()?;
+        let mut cost = Cost {
             broken: self.broken_more(exchange.column, &way, Frac::whole(1))?,
             changed: 0,
         };
         for other in &self.rows {
             if let Some(coefficient) = other.at(exchange.column) {
                 let more = self.broken_more(other.basic, &way, coefficient)?;
-                harm.broken = harm.broken.saturating_add(more);
-                harm.changed = harm.changed.saturating_add(there.cells.len());
+                cost.broken = cost.broken.saturating_add(more);
+                cost.changed = cost.changed.saturating_add(row.cells.len());
             }
         }
-        Some(harm)
+        Some(cost)
     }
 
     /// Whether a variable is broken where it goes so many times this way, less whether it is now.
@@ -616,12 +622,12 @@ impl Tableau {
 
     /// Carries an exchange out.
     fn exchange(&mut self, exchange: &Exchange) -> Result<(), LinStop> {
-        let Some(there) = self.rows.get(exchange.row) else {
+        let Some(row) = self.rows.get(exchange.row) else {
             return Ok(());
         };
-        let leaving = there.basic;
+        let leaving = row.basic;
         let way = self.way(leaving, exchange)?;
-        let solved = there.solved(self.alloc, exchange.column, exchange.inverse)?;
+        let solved = row.solved(self.alloc, exchange.column, exchange.inverse)?;
         self.replace_all(exchange.row, &solved, &way)?;
         self.go(exchange.column, &way)?;
         self.put(leaving, &exchange.bound);
@@ -640,15 +646,15 @@ impl Tableau {
     }
 
     /// Puts what a variable that enters is equal to in its place in a row, whose value goes along.
-    fn replace(&mut self, row: usize, solved: &SparseRow, way: &Delta) -> Result<(), LinStop> {
-        let Some(there) = self.rows.get_mut(row) else {
+    fn replace(&mut self, number: usize, solved: &SparseRow, way: &Delta) -> Result<(), LinStop> {
+        let Some(row) = self.rows.get_mut(number) else {
             return Ok(());
         };
-        let Some(factor) = there.take(solved.basic) else {
+        let Some(factor) = row.take(solved.basic) else {
             return Ok(());
         };
-        there.add_multiple(factor, solved)?;
-        let basic = there.basic;
+        row.add_multiple(factor, solved)?;
+        let basic = row.basic;
         self.go(basic, &way.scale(factor)?)?;
         Ok(())
     }
@@ -659,9 +665,9 @@ impl Tableau {
         }
     }
 
-    fn put_row(&mut self, row: usize, there: SparseRow) {
-        if row < self.rows.len() {
-            self.rows[row] = there;
+    fn put_row(&mut self, number: usize, row: SparseRow) {
+        if number < self.rows.len() {
+            self.rows[number] = row;
         }
     }
 

@@ -51,14 +51,14 @@ impl SparseRow {
 
     /// Adds to the coefficient at a place of the list. Where it becomes 0, it goes.
     fn meet(&mut self, place: usize, coefficient: Frac) -> Result<(), LinStop> {
-        let Some(there) = self.cells.get_mut(place) else {
+        let Some(cell) = self.cells.get_mut(place) else {
             return Ok(());
         };
-        let sum = there.coefficient.add(coefficient)?;
+        let sum = cell.coefficient.add(coefficient)?;
         if sum.is_zero() {
             self.cells.remove(place);
         } else {
-            there.coefficient = sum;
+            cell.coefficient = sum;
         }
         Ok(())
     }

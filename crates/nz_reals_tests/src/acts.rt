@@ -108,9 +108,22 @@ fn clashes(alloc: Global, system: &mut System, numbers: &[Number]) -> Result<boo
 
 /// Lets a theory begin anew over forms that are arranged where the literals of these numbers are true from the start.
 fn arrange(alloc: Global, system: &mut System, numbers: &[Number]) -> Result<bool, Fail> {
-    let truths = literals(alloc, system, numbers)?;
+    let truths = truths_of(alloc, &literals(alloc, system, numbers)?)?;
     system.arrange(&truths)?;
     Ok(true)
+}
+
+/// By the numbers of atoms, the truths under which these literals are true.
+fn truths_of(alloc: Global, literals: &[Lit]) -> Result<Vec<Option<bool>>, Memory> {
+    let mut truths = Vec::new(alloc);
+    for literal in literals {
+        let count = literal.atom.saturating_add(1).max(truths.len());
+        truths.resize(count, None)?;
+        if let Some(truth) = truths.get_mut(literal.atom) {
+            *truth = Some(literal.sign);
+        }
+    }
+    Ok(truths)
 }
 
 /// Whether the clauses for neighbouring bounds that are added, where the first so many are held, are just that these aren't true together, in this order.

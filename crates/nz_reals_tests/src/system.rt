@@ -103,8 +103,8 @@ impl System {
         self.learn_all()
     }
 
-    /// Begins anew over forms that are arranged where these literals are true from the start, and learns of all bounds again.
-    pub fn arrange(&mut self, truths: &[Lit]) -> Result<(), Fail> {
+    /// Begins anew over forms that are arranged under these truths of atoms from the start, and learns of all bounds again.
+    pub fn arrange(&mut self, truths: &[Option<bool>]) -> Result<(), Fail> {
         if !self.known {
             return Err(failed());
         }
@@ -266,14 +266,14 @@ fn bound_on(alloc: Global, terms: &Terms, term: TermId, limit: i64) -> Result<Bo
     Ok(Bound::at_most_zero(form).with_limit(Frac::whole(limit)))
 }
 
-/// Puts a new theory in place of one, arranged over the atoms that this one knows, where these literals are true from the start. It knows of no atom.
+/// Puts a new theory in place of one, arranged over the atoms that this one knows, under these truths of atoms from the start. It knows of no atom.
 fn arrange(
     alloc: Global,
     terms: &Terms,
     log: &Log,
     reals: &mut Reals,
     atoms: &[AtomId],
-    truths: &[Lit],
+    truths: &[Option<bool>],
 ) -> Result<(), Memory>
     requires order { IsInOrder terms.now log.now reals.old atoms.now }
     ensures order { OnOk result (IsInOrder terms.now log.now reals.new []) }
