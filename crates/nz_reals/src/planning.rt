@@ -2,7 +2,7 @@
 //!
 //! A check exchanges the least-numbered form that breaks a bound with the least-numbered one that can help. So where units are numbered in the order in which
 //! a plan lets them enter, and sums behind them in the order in which it lets them leave, the check follows the plan. Where the numbers that are given already
-//! leave a choice, that exchange is taken, of the sums that are broken most, after which the fewest forms are broken, so that exchanges are few and numbers
+//! leave a choice, that exchange is taken, of the sum that is broken most, after which the fewest forms are broken, so that exchanges are few and numbers
 //! stay short. Any plan is right.
 ghost use Rattle.std.specs.Prelude.{◌<◌, All, length};
 
@@ -19,9 +19,6 @@ use nz_trail::Side;
 use std::alloc::Global;
 use std::cmp::Ordering;
 use std::collections::HashMap;
-
-/// How many of the rows that are broken most are looked at before each exchange.
-const WORST: usize = 4;
 
 /// How many looks at a row a plan takes: beyond that it costs more than it saves.
 const LOOKS: usize = 16_000_000;
@@ -157,6 +154,11 @@ impl Variable {
             value: Delta::zero(),
             turn: None,
         }
+    }
+
+    /// Whether it has no bound.
+    fn is_free(&self) -> bool {
+        self.lower.is_none() && self.upper.is_none()
     }
 
     /// Takes a bound, where it is tighter.
@@ -392,7 +394,7 @@ impl Tableau {
     /// Makes exchanges as long as a bound is broken and one serves, and plans these.
     fn plan(&mut self, plan: &mut Plan) -> Result<(), Memory> {
         for _ in 0..self.rows.len().saturating_mul(EXCHANGES) {
-            let Some(exchange) = self.choose()? else {
+            let Some(exchange) = self.choose() else {
                 return Ok(());
             };
             self.note(&exchange, plan)?;
@@ -447,34 +449,28 @@ impl Tableau {
         Ok(())
     }
 
-    /// The exchange that comes next by the numbers that are given; where they leave a choice, that one after which the fewest forms are broken, of those of
-    /// the sums that are broken most.
-    fn choose(&mut self) -> Result<Option<Exchange>, Memory> {
+    /// The exchange that comes next by the numbers that are given; where they leave a choice, of the sum that is broken most.
+    fn choose(&mut self) -> Option<Exchange> {
         let worst = self.worst()?;
-        if !self.can_afford(&worst) {
-            return Ok(None);
+        if !self.can_afford(worst.row) {
+            return None;
         }
-        let mut best: Option<(Cost, Exchange)> = None;
-        for broken in &worst {
-            if let Some(row) = self.rows.get(broken.row) {
-                self.choose_at(row, broken, &mut best);
-            }
-        }
-        Ok(best.map(|(_, exchange)| exchange))
+        self.choose_at(&worst)
     }
 
-    /// Keeps the best exchange of a broken row with what may enter: the variables of least rank that can help.
-    fn choose_at(&self, row: &SparseRow, broken: &Broken, best: &mut Option<(Cost, Exchange)>) {
-        let Some(rank) = self.least_helping(row, broken) else {
-            return;
-        };
+    /// The exchange of a broken row with one of the variables of least rank that can help, after which the fewest forms are broken.
+    fn choose_at(&self, broken: &Broken) -> Option<Exchange> {
+        let row = self.rows.get(broken.row)?;
+        let rank = self.least_helping(row, broken)?;
+        let mut best: Option<(Cost, Exchange)> = None;
         for cell in &row.cells {
             if self.rank(cell.column) == rank && self.can_help(broken, cell) {
                 if let Some(exchange) = exchange_at(broken, cell) {
-                    self.keep_better(row, exchange, best);
+                    self.keep_better(row, exchange, &mut best);
                 }
             }
         }
+        best.map(|(_, exchange)| exchange)
     }
 
     /// The least rank of what can help a broken row.
@@ -515,18 +511,13 @@ impl Tableau {
         }
     }
 
-    /// Whether there are looks left for what these rows want. They are taken.
-    fn can_afford(&mut self, worst: &[Broken]) -> bool {
-        let mut cells = 0usize;
-        for broken in worst {
-            if let Some(row) = self.rows.get(broken.row) {
-                cells = cells.saturating_add(row.cells.len());
-            }
-        }
-        match self
-            .looks
-            .checked_sub(cells.saturating_mul(self.rows.len()))
-        {
+    /// Whether there are looks left for what a row wants. They are taken.
+    fn can_afford(&mut self, number: usize) -> bool {
+        let Some(row) = self.rows.get(number) else {
+            return false;
+        };
+        let looks = row.cells.len().saturating_mul(self.rows.len());
+        match self.looks.checked_sub(looks) {
             Some(left) => {
                 self.looks = left;
                 true
@@ -535,31 +526,15 @@ impl Tableau {
         }
     }
 
-    /// Of the rows of least rank that are broken those that are so most, the worst first.
-    fn worst(&self) -> Result<Vec<Broken>, Memory> {
-        let mut worst = Vec::new(self.alloc);
-        let least = self.least_broken();
+    /// Of the rows of least rank that are broken the one that is so most.
+    fn worst(&self) -> Option<Broken> {
+        let mut worst = None;
         for row in 0..self.rows.len() {
             if let Some((rank, broken)) = self.broken(row) {
-                if least == Some(rank) {
-                    keep_worst(&mut worst, broken)?;
-                }
+                keep_worse(rank, broken, &mut worst);
             }
         }
-        Ok(worst)
-    }
-
-    /// The least rank of a basic variable that is broken.
-    fn least_broken(&self) -> Option<Rank> {
-        let mut least: Option<Rank> = None;
-        for row in 0..self.rows.len() {
-            if let Some((rank, _)) = self.broken(row) {
-                if least.is_none_or(|least| rank < least) {
-                    least = Some(rank);
-                }
-            }
-        }
-        least
+        worst.map(|(_, broken)| broken)
     }
 
     /// The rank of the variable of a row, where it breaks a bound, and how it does.
@@ -609,6 +584,9 @@ impl Tableau {
     /// Whether a variable is broken where it goes so many times this way, less whether it is now.
     fn broken_more(&self, number: usize, way: &Delta, times: Frac) -> Option<i64> {
         let variable = self.variables.get(number)?;
+        if variable.is_free() {
+            return Some(0);
+        }
         let moved = variable.value.add(way.scale(times).ok()?).ok()?;
         match (
             variable.broken_by(&moved),
@@ -694,23 +672,12 @@ fn exchange_at(broken: &Broken, cell: &Cell) -> Option<Exchange> {
     })
 }
 
-/// Keeps a broken row, where it is among those that are broken most.
-fn keep_worst(worst: &mut Vec<Broken>, broken: Broken) -> Result<(), Memory> {
-    let place = count_worse(worst, &broken.amount);
-    if place < WORST && place <= worst.len() {
-        worst.insert(place, broken)?;
-        worst.truncate(WORST);
+/// Keeps a broken row, where its rank is less than that of the worst, or the same and it is broken more.
+fn keep_worse(rank: Rank, broken: Broken, worst: &mut Option<(Rank, Broken)>) {
+    let is_worse = worst.is_none_or(|(least, most)| {
+        rank < least || rank == least && is_below(&most.amount, &broken.amount)
+    });
+    if is_worse {
+        *worst = Some((rank, broken));
     }
-    Ok(())
-}
-
-/// How many of these are broken as much, or more.
-fn count_worse(worst: &[Broken], amount: &Delta) -> usize {
-    let mut count = 0usize;
-    for one in worst {
-        if !is_below(&one.amount, amount) {
-            count = count.saturating_add(1);
-        }
-    }
-    count
 }
