@@ -10,7 +10,6 @@ mod neighbours;
 mod planning;
 mod reals;
 mod refute;
-mod sparse_row;
 mod starts;
 mod theory;
 
