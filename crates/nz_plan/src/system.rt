@@ -57,6 +57,20 @@ impl Limits {
         }
     }
 
+    /// Whether the bound at which a value is is the upper one, where it is at one.
+    pub(crate) fn bound_at(&self, value: f64) -> Option<bool> {
+        let slack = slack_at(value);
+        if self
+            .lower
+            .is_some_and(|lower| (value - lower).abs() <= slack)
+        {
+            return Some(false);
+        }
+        self.upper
+            .filter(|upper| (value - *upper).abs() <= slack)
+            .map(|_| true)
+    }
+
     /// Whether a value within the bounds may go up, or down.
     pub(crate) fn has_room(&self, value: f64, up: bool) -> bool {
         let slack = slack_at(value);
@@ -71,6 +85,13 @@ impl Limits {
 /// What is rounding alone at numbers of this size.
 fn slack_at(value: f64) -> f64 {
     TOLERANCE * (1.0 + value.abs())
+}
+
+/// A unit or a sum, by its number.
+#[derive(Clone, Copy, Debug, PartialEq, Eq)]
+pub enum Form {
+    Unit(usize),
+    Sum(usize),
 }
 
 /// A sum of units, with its bounds.
@@ -124,28 +145,39 @@ impl System {
         Ok(number)
     }
 
-    /// Bounds a unit, from above or from below, where it is there and has no tighter bound.
-    pub fn limit_unit(&mut self, unit: usize, bound: f64, is_upper: bool) {
-        if let Some(limits) = self.units.get_mut(unit) {
-            tighten(limits, bound, is_upper);
+    /// Bounds a unit or a sum, from above or from below, where it is there. Answers whether this bound is tighter than what there was.
+    pub fn limit(&mut self, form: Form, bound: f64, is_upper: bool) -> bool {
+        match form {
+            Form::Unit(unit) => match self.units.get_mut(unit) {
+                Some(limits) => tighten(limits, bound, is_upper),
+                None => false,
+            },
+            Form::Sum(sum) => match self.sums.get_mut(sum) {
+                Some(sum) => tighten(&mut sum.limits, bound, is_upper),
+                None => false,
+            },
         }
     }
 
-    /// Bounds a sum, from above or from below, where it is there and has no tighter bound.
-    pub fn limit_sum(&mut self, sum: usize, bound: f64, is_upper: bool) {
-        if let Some(sum) = self.sums.get_mut(sum) {
-            tighten(&mut sum.limits, bound, is_upper);
+    /// The form of a number among the units and, behind them, the sums.
+    pub(crate) fn form(&self, number: usize) -> Form {
+        match number.checked_sub(self.units.len()) {
+            None => Form::Unit(number),
+            Some(sum) => Form::Sum(sum),
         }
     }
 }
 
-/// Takes a bound, where there is no tighter one.
-fn tighten(limits: &mut Limits, bound: f64, is_upper: bool) {
-    if is_upper {
-        if limits.upper.is_none_or(|upper| bound < upper) {
-            limits.upper = Some(bound);
-        }
-    } else if limits.lower.is_none_or(|lower| lower < bound) {
-        limits.lower = Some(bound);
+/// Takes a bound, where there is none as tight. Answers whether it was taken.
+fn tighten(limits: &mut Limits, bound: f64, is_upper: bool) -> bool {
+    let side = if is_upper {
+        &mut limits.upper
+    } else {
+        &mut limits.lower
+    };
+    let is_tighter = side.is_none_or(|other| (bound < other) == is_upper && bound != other);
+    if is_tighter {
+        *side = Some(bound);
     }
+    is_tighter
 }
