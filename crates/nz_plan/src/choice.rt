@@ -1,10 +1,9 @@
-//! Which exchange comes next: by the numbers that a plan has given, and where these leave a choice by a rule.
-use crate::plan::Plan;
+//! Which exchange comes next, by a rule.
 use crate::system::{Cell, Limits};
-use crate::tableau::{Exchange, Form, Row, Tableau};
+use crate::tableau::{Move, Row, Tableau, Variable};
 
 /// What is smaller isn't divided by.
-const LEAST_PIVOT: f64 = 1e-7;
+pub(crate) const LEAST_PIVOT: f64 = 1e-7;
 
 /// By what sums are compared that are broken: by how far a sum is from its bound, or its point from the points that meet it.
 #[derive(Clone, Copy, Debug, PartialEq, Eq)]
@@ -20,20 +19,11 @@ pub(crate) enum Harm {
     Amount,
 }
 
-/// What decides between exchanges where the numbers that are given leave a choice.
+/// What decides between exchanges.
 #[derive(Clone, Copy, Debug)]
 pub(crate) struct Rule {
     pub severity: Severity,
     pub harm: Harm,
-}
-
-/// Where a form stands among all as they will be numbered.
-#[derive(Clone, Copy, Debug, PartialEq, Eq, PartialOrd, Ord)]
-pub(crate) enum Rank {
-    PlannedUnit(usize),
-    Unit,
-    PlannedSum(usize),
-    Sum,
 }
 
 /// A row whose form breaks a bound.
@@ -42,7 +32,6 @@ struct Broken {
     row: usize,
     bound: f64,
     is_short: bool,
-    rank: Rank,
     is_fixed: bool,
     severity: f64,
 }
@@ -55,12 +44,8 @@ struct Cost {
 }
 
 impl Broken {
-    /// Whether it is to be mended first: the one of least rank; of sums that have none yet one that may have one value alone, and then the one that is
-    /// broken most.
+    /// Whether it is to be mended first: a form that may have one value alone, and then the one that is broken most.
     fn is_before(&self, other: &Broken) -> bool {
-        if self.rank != other.rank {
-            return self.rank < other.rank;
-        }
         if self.is_fixed != other.is_fixed {
             return self.is_fixed;
         }
@@ -75,14 +60,13 @@ impl Cost {
 }
 
 /// The exchange that comes next. `None` where no bound is broken, or no form can help.
-pub(crate) fn choose(tableau: &Tableau, plan: &Plan, rule: Rule) -> Option<Exchange> {
-    let broken = first_broken(tableau, plan, rule)?;
+pub(crate) fn choose(tableau: &Tableau, rule: Rule) -> Option<Move> {
+    let broken = first_broken(tableau, rule)?;
     let row = tableau.rows.get(broken.row)?;
-    let rank = least_helping(tableau, plan, row, &broken)?;
-    let mut best: Option<(Cost, Exchange)> = None;
+    let mut best: Option<(Cost, Move)> = None;
     for cell in &row.cells {
-        if can_help(tableau, &broken, cell) && plan.rank(cell.column) == rank {
-            let exchange = Exchange {
+        if can_help(tableau, &broken, cell) {
+            let exchange = Move {
                 row: broken.row,
                 bound: broken.bound,
                 entering: *cell,
@@ -97,10 +81,10 @@ pub(crate) fn choose(tableau: &Tableau, plan: &Plan, rule: Rule) -> Option<Excha
 }
 
 /// The row that is to be mended first.
-fn first_broken(tableau: &Tableau, plan: &Plan, rule: Rule) -> Option<Broken> {
+fn first_broken(tableau: &Tableau, rule: Rule) -> Option<Broken> {
     let mut first: Option<Broken> = None;
     for row in 0..tableau.rows.len() {
-        if let Some(broken) = broken_at(tableau, plan, rule, row) {
+        if let Some(broken) = broken_at(tableau, rule, row) {
             if first.is_none_or(|first| broken.is_before(&first)) {
                 first = Some(broken);
             }
@@ -110,7 +94,7 @@ fn first_broken(tableau: &Tableau, plan: &Plan, rule: Rule) -> Option<Broken> {
 }
 
 /// How the form of a row breaks a bound, where it does.
-fn broken_at(tableau: &Tableau, plan: &Plan, rule: Rule, number: usize) -> Option<Broken> {
+fn broken_at(tableau: &Tableau, rule: Rule, number: usize) -> Option<Broken> {
     let row = tableau.rows.get(number)?;
     let form = tableau.forms.get(row.basic)?;
     let bound = form.limits.broken_by(form.value)?;
@@ -119,27 +103,12 @@ fn broken_at(tableau: &Tableau, plan: &Plan, rule: Rule, number: usize) -> Optio
         row: number,
         bound,
         is_short: form.value < bound,
-        rank: plan.rank(row.basic),
         is_fixed: form.limits.is_fixed(),
         severity: match rule.severity {
             Severity::Amount => amount,
             Severity::Distance => amount / row.length(),
         },
     })
-}
-
-/// The least rank of what can help a broken row.
-fn least_helping(tableau: &Tableau, plan: &Plan, row: &Row, broken: &Broken) -> Option<Rank> {
-    let mut least: Option<Rank> = None;
-    for cell in &row.cells {
-        if can_help(tableau, broken, cell) {
-            let rank = plan.rank(cell.column);
-            if least.is_none_or(|least| rank < least) {
-                least = Some(rank);
-            }
-        }
-    }
-    least
 }
 
 /// Whether a nonbasic form has room to go where it takes a broken row to its bound.
@@ -155,7 +124,7 @@ fn can_help(tableau: &Tableau, broken: &Broken, cell: &Cell) -> bool {
 }
 
 /// What speaks against an exchange of the form of this row.
-fn cost_of(tableau: &Tableau, row: &Row, exchange: &Exchange, rule: Rule) -> Cost {
+fn cost_of(tableau: &Tableau, row: &Row, exchange: &Move, rule: Rule) -> Cost {
     let entering = exchange.entering.column;
     let Some(form) = tableau.forms.get(entering) else {
         return Cost { harm: 0.0, fill: 0 };
@@ -186,7 +155,7 @@ fn harm_to_row(tableau: &Tableau, row: &Row, entering: usize, way: f64, harm: Ha
 }
 
 /// How much more a form is broken where it goes this way.
-fn harm_to(form: &Form, way: f64, harm: Harm) -> f64 {
+fn harm_to(form: &Variable, way: f64, harm: Harm) -> f64 {
     harm_at(&form.limits, form.value + way, harm) - harm_at(&form.limits, form.value, harm)
 }
 

@@ -1,15 +1,15 @@
-//! In which order the units and sums of a linear system join a simplex, so that its first check takes few exchanges and its numbers stay short.
+//! On which basis, and where on it, a simplex is to begin so that its first check finds no bound broken, or a few.
 //!
-//! A check exchanges the least-numbered form that breaks a bound with the least-numbered one that can help. So where units are numbered in the order in
-//! which a plan lets them enter, and sums behind them in the order in which it lets them leave, the check follows the plan. A plan is found by exchanges
-//! in doubles, several times, each time by another rule where the numbers that are given leave a choice; the cheapest is taken. Doubles are near enough,
-//! since any order is right: a plan is advice.
+//! A start is found by exchanges in doubles, several times, each time by another rule; the cheapest is taken. Doubles are near enough, since a simplex may
+//! begin on any basis: a start is advice, and what it leaves broken a check mends, in exact numbers.
 #![tactic(auto)]
 
 mod choice;
-mod plan;
+mod elimination;
+mod start;
 mod system;
 mod tableau;
 
-pub use plan::Plan;
-pub use system::{Cell, System};
+pub use elimination::Exchange;
+pub use start::{Stand, Start};
+pub use system::{Cell, Form, System};

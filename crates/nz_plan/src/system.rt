@@ -1,5 +1,6 @@
 //! Units and sums of units with their bounds.
 use nz_base::Memory;
+use nz_trail::Side;
 use std::alloc::Global;
 
 /// What is below this is taken for a difference of rounding alone, at numbers of size 1.
@@ -25,6 +26,21 @@ impl Limits {
             lower: None,
             upper: None,
         }
+    }
+
+    /// Takes a bound, where there is none as tight. Answers whether it was taken.
+    fn tighten(&mut self, side: Side, bound: f64) -> bool {
+        let is_tighter = match side {
+            Side::Lower => self.lower.is_none_or(|other| other < bound),
+            Side::Upper => self.upper.is_none_or(|other| bound < other),
+        };
+        if is_tighter {
+            match side {
+                Side::Lower => self.lower = Some(bound),
+                Side::Upper => self.upper = Some(bound),
+            }
+        }
+        is_tighter
     }
 
     /// Whether there is no bound.
@@ -57,6 +73,20 @@ impl Limits {
         }
     }
 
+    /// The side of the bound at which a value is, where it is at one.
+    pub(crate) fn side_at(&self, value: f64) -> Option<Side> {
+        let slack = slack_at(value);
+        if self
+            .lower
+            .is_some_and(|lower| (value - lower).abs() <= slack)
+        {
+            return Some(Side::Lower);
+        }
+        self.upper
+            .filter(|upper| (value - *upper).abs() <= slack)
+            .map(|_| Side::Upper)
+    }
+
     /// Whether a value within the bounds may go up, or down.
     pub(crate) fn has_room(&self, value: f64, up: bool) -> bool {
         let slack = slack_at(value);
@@ -71,6 +101,13 @@ impl Limits {
 /// What is rounding alone at numbers of this size.
 fn slack_at(value: f64) -> f64 {
     TOLERANCE * (1.0 + value.abs())
+}
+
+/// A unit or a sum, by its number.
+#[derive(Clone, Copy, Debug, PartialEq, Eq)]
+pub enum Form {
+    Unit(usize),
+    Sum(usize),
 }
 
 /// A sum of units, with its bounds.
@@ -124,28 +161,25 @@ impl System {
         Ok(number)
     }
 
-    /// Bounds a unit, from above or from below, where it is there and has no tighter bound.
-    pub fn limit_unit(&mut self, unit: usize, bound: f64, is_upper: bool) {
-        if let Some(limits) = self.units.get_mut(unit) {
-            tighten(limits, bound, is_upper);
+    /// Bounds a unit or a sum from a side, where it is there. Answers whether this bound is tighter than what there was.
+    pub fn limit(&mut self, form: Form, side: Side, bound: f64) -> bool {
+        match form {
+            Form::Unit(unit) => match self.units.get_mut(unit) {
+                Some(limits) => limits.tighten(side, bound),
+                None => false,
+            },
+            Form::Sum(sum) => match self.sums.get_mut(sum) {
+                Some(sum) => sum.limits.tighten(side, bound),
+                None => false,
+            },
         }
     }
 
-    /// Bounds a sum, from above or from below, where it is there and has no tighter bound.
-    pub fn limit_sum(&mut self, sum: usize, bound: f64, is_upper: bool) {
-        if let Some(sum) = self.sums.get_mut(sum) {
-            tighten(&mut sum.limits, bound, is_upper);
+    /// The form of a number among the units and, behind them, the sums.
+    pub(crate) fn form(&self, number: usize) -> Form {
+        match number.checked_sub(self.units.len()) {
+            None => Form::Unit(number),
+            Some(sum) => Form::Sum(sum),
         }
-    }
-}
-
-/// Takes a bound, where there is no tighter one.
-fn tighten(limits: &mut Limits, bound: f64, is_upper: bool) {
-    if is_upper {
-        if limits.upper.is_none_or(|upper| bound < upper) {
-            limits.upper = Some(bound);
-        }
-    } else if limits.lower.is_none_or(|lower| lower < bound) {
-        limits.lower = Some(bound);
     }
 }

@@ -13,7 +13,7 @@ pub(crate) struct Row {
 
 /// An exchange of the basic form of a row, which goes to a bound, with a nonbasic one.
 #[derive(Clone, Copy, Debug)]
-pub(crate) struct Exchange {
+pub(crate) struct Move {
     pub row: usize,
     pub bound: f64,
     pub entering: Cell,
@@ -21,7 +21,7 @@ pub(crate) struct Exchange {
 
 /// A unit or a sum: its bounds, its value, and the numbers of the rows that have a coefficient at it.
 #[derive(Debug, Drop)]
-pub(crate) struct Form {
+pub(crate) struct Variable {
     pub limits: Limits,
     pub value: f64,
     pub rows: Vec<usize>,
@@ -31,7 +31,7 @@ pub(crate) struct Form {
 #[derive(Debug, Drop)]
 pub(crate) struct Tableau {
     alloc: Global,
-    pub forms: Vec<Form>,
+    pub forms: Vec<Variable>,
     pub rows: Vec<Row>,
     // How many coefficients were computed.
     pub changes: usize,
@@ -77,7 +77,7 @@ impl Tableau {
     }
 
     fn add_form(&mut self, limits: Limits, value: f64) -> Result<(), Memory> {
-        self.forms.push(Form {
+        self.forms.push(Variable {
             limits,
             value,
             rows: Vec::new(self.alloc),
@@ -132,13 +132,33 @@ impl Tableau {
         }
     }
 
+    /// In how many rows a form has a coefficient.
+    pub(crate) fn rows_at(&self, form: usize) -> usize {
+        match self.forms.get(form) {
+            Some(form) => form.rows.len(),
+            None => 0,
+        }
+    }
+
+    /// Of each form whether it is basic.
+    pub(crate) fn are_basic(&self) -> Result<Vec<bool>, Memory> {
+        let mut basic = Vec::with_capacity(self.alloc, self.forms.len())?;
+        basic.resize(self.forms.len(), false)?;
+        for row in &self.rows {
+            if let Some(one) = basic.get_mut(row.basic) {
+                *one = true;
+            }
+        }
+        Ok(basic)
+    }
+
     /// How far the nonbasic form goes in an exchange, after which the basic form of the row is at the bound.
-    pub(crate) fn way(&self, row: &Row, exchange: &Exchange) -> f64 {
+    pub(crate) fn way(&self, row: &Row, exchange: &Move) -> f64 {
         (exchange.bound - self.value(row.basic)) / exchange.entering.coefficient
     }
 
     /// Carries an exchange out.
-    pub(crate) fn exchange(&mut self, exchange: &Exchange) -> Result<(), Memory> {
+    pub(crate) fn exchange(&mut self, exchange: &Move) -> Result<(), Memory> {
         let Some(row) = self.rows.get(exchange.row) else {
             return Ok(());
         };

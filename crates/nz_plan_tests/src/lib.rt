@@ -1,5 +1,5 @@
-//! Tests of plans, by public calls alone: no clause says which plan is made.
+//! Tests of starts, by public calls alone: no clause says which start is found.
 #![tactic(auto)]
 
 #[cfg(test)]
-mod plans;
+mod starts;

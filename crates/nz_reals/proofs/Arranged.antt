@@ -1,19 +1,21 @@
 -- Units and sums that join before a search.
-use Rattle.std.proofs.Common.{◌≡◌, inl, inr, ℕ, ◌==◌, Bool, true, false, List, [], ◌∷◌, map, length, Option, Some, None, refl, sym, ap, ◌∙◌, subst, true≢false, if◌then◌else◌}
-use Rattle.std.specs.Prelude.{All, Contains, pos, slice_get}
+use Rattle.std.proofs.Common.{◌≡◌, ◌⊎◌, inl, inr, ℕ, ◌<◌, ◌≤◌, ◌==◌, Bool, true, false, List, [], ◌∷◌, map, length, Option, Some, None, refl, sym, ap, ◌∙◌, subst, true≢false, if◌then◌else◌, arith}
+use Rattle.std.specs.Prelude.{All, Contains, pos, slice_get, slice_index_or}
 use Rattle.std.specs.List.{AllByRecursion}
 use Rattle.std.proofs.lemmas.List.Elements.{All-contains, All-from_recursion}
 use Rattle.nz_lists.proofs.Elements.{AllByRecursion-append, AllByRecursion-weaker}
 use Rattle.nz_lists.proofs.Members.{by_each, each_of, map_from, map_has}
-use Rattle.nz_fractions.specs.Fraction.{Fraction, whole}
-use Rattle.nz_spec.specs.Bland.{Position, zero_infinitesimal}
+use Rattle.nz_lists.proofs.Numbers.{below_or_past, same-number}
+use Rattle.nz_fractions.specs.Fraction.{Fraction, neg_ℚ, whole}
+use Rattle.nz_fractions.proofs.Identities.{neg-back}
+use Rattle.nz_spec.specs.Bland.{Position, Side, zero_infinitesimal}
 use Rattle.nz_spec.specs.Farkas.{bound_of}
 use Rattle.nz_spec.specs.Form as spec
 use Rattle.nz_spec.specs.Form.{unit_form}
 use Rattle.nz_spec.specs.Infinitesimal.{Infinitesimal}
 use Rattle.nz_spec.specs.Legal.{IsSumOf, IsTabled}
-use Rattle.nz_spec.specs.Literal.{Literal, term_literal}
-use Rattle.nz_spec.specs.LiteralBounds.{turned}
+use Rattle.nz_spec.specs.Literal.{Literal, TellsLiterals, is_at_most, negation_of, term_literal}
+use Rattle.nz_spec.specs.LiteralBounds.{FormBound, bound_said, turned}
 use Rattle.nz_spec.specs.PositionMoves.{with_form, with_unit}
 use Rattle.nz_spec.specs.Table.{IsTable, Node, OneNumber, term_in}
 use Rattle.nz_spec.specs.Term.{Term}
@@ -24,33 +26,30 @@ use Rattle.nz_lin.specs.Forms.{AreUnits, NamesUnit, Numbered, form_over, negated
 use Rattle.nz_tab.specs.Units.{is_unit_form, new_units, unit_of}
 use Rattle.nz_log.specs.declared.atoms.Atom.{Atom}
 use Rattle.nz_log.specs.declared.atoms.Atom.TheVariants.{AtMost}
-use Rattle.nz_log.specs.Atoms.{IsLitIn, atom_in, literal_in, with_sign}
-use Rattle.nz_simplex.specs.Moves.{IsJoined, joined_over, unit_terms, with_all_units}
-use Rattle.nz_simplex.specs.State.{IsSound, State, point_in, position_over}
-use Rattle.nz_reals.specs.Arranging.{AreAtomsIn, HasJoined, IsArranged, IsAtZero, IsBoundAmong, IsFormOfBound, IsSumAmong, IsTabledAtom, MayArrange, MayHaveJoined}
+use Rattle.nz_log.specs.Atoms.{AreAtoms, IsLitIn, atom_in, literal_in, with_sign}
+use Rattle.nz_simplex.specs.Moves.{IsExchanged, IsJoined, KnowsNonbasicAlone, StandsAt, joined_over, unit_terms, with_all_units}
+use Rattle.nz_simplex.specs.Standing.{half}
+use Rattle.nz_simplex.specs.State.{IsSound, State, nonbasic_in, point_in, position_over, value_in}
+use Rattle.nz_reals.specs.Arranging.{AreAtomsIn, HasJoined, HasMoved, HasTurned, IsArranged, IsAtBound, IsAtZero, IsBoundAmong, IsFormOfBound, IsSumAmong, IsTabledAtom, MayArrange, MayHaveExchanged, MayHaveJoined, MayHaveStood, StandsAmong}
 use Rattle.nz_reals.specs.Joins.{AddsForm, MayAddSum}
+use Rattle.nz_reals.specs.Known.{said_at}
 use Rattle.nz_reals.specs.Stands.{IsOver}
 use Rattle.nz_reals.specs.Starts.{MayRestart}
 use Rattle.nz_reals.specs.State.{Theory}
-use Rattle.nz_reals.specs.Stored.{FindsForms, IsStored}
+use Rattle.nz_reals.specs.Stored.{AreForms, FindsForms, IsStored}
 use Rattle.nz_reals.specs.Sums.{AreNonzero, is_turned, turned_sum, zero_bound}
+use Rattle.nz_reals.proofs.Adding.{normal_at}
+use Rattle.nz_reals.proofs.Bounding.{said_of_form}
 use Rattle.nz_reals.proofs.Joining.{adds_form, forms_then, then_cases, then_kept, tolds_then, unit_sum, unit_units, units_from}
 use Rattle.nz_reals.proofs.Refuting.{own_units}
-use Rattle.nz_reals.proofs.Sums.{literal_parts, one_sum, turned_form, turned_over, turned_units}
+use Rattle.nz_reals.proofs.Saying.{bound_in_log}
+use Rattle.nz_reals.proofs.Sums.{literal_parts, one_sum, parts_back, turned_form, turned_over, turned_units}
 
 -- ---- Units that join a position
 
 all_units : (P : List spec.Part → Type 0) (s : Position) (us : List Term) → AllByRecursion P s.forms → AllByRecursion (λ (u : Term). P (unit_form u).parts) us → AllByRecursion P (with_all_units s us).forms
 all_units P s [] h k = h
 all_units P s (u ∷ us) h k = all_units P (with_unit s u) us (AllByRecursion-append P s.forms ((unit_form u).parts ∷ []) h (k.0, tt)) k.1
-
-zero_units : (s : Position) (us : List Term) → IsAtZero s.point → IsAtZero (with_all_units s us).point
-zero_units s [] h = h
-zero_units s (u ∷ us) h = zero_units (with_unit s u) us (λ k v. by_test k v (k == length s.forms))
-  where
-    by_test : (k : ℕ) (v : Infinitesimal) (b : Bool) → (if b then Some zero_infinitesimal else s.point k) ≡ Some v → v ≡ zero_infinitesimal
-    by_test k v true e = cc
-    by_test k v false e = h k v e
 
 -- the terms of units
 terms_of_units : (Q : Term → Type 0) (ns : List Node) (fs : List (List Part)) → AllByRecursion (λ (f : List Part). (p : Part) × (f ≡ unit_of p) × Q (term_in ns p.unit)) fs → AllByRecursion Q (unit_terms ns fs)
@@ -66,16 +65,6 @@ terms_of_units Q ns ((p ∷ ps) ∷ fs) h =
 -- the position when the units of a form have joined
 abbrev with_new_units : List Node → State → List Part → Position
 with_new_units ns s f = with_all_units (position_over ns s) (unit_terms ns (new_units s.forms f))
-
-zero_then : (ns : List Node) (s : State) (f : List Part) → IsAtZero (point_in s) → IsAtZero (joined_over ns s f).point
-zero_then ns s f zero = by_test (is_unit_form f)
-  where
-    units_zero : IsAtZero (with_new_units ns s f).point
-    units_zero = zero_units (position_over ns s) (unit_terms ns (new_units s.forms f)) zero
-
-    by_test : (t : Bool) → IsAtZero (if t then with_new_units ns s f else with_form (with_new_units ns s f) (parts_over ns f)).point
-    by_test true = units_zero
-    by_test false = units_zero
 
 -- ---- A bound among atoms
 
@@ -144,6 +133,19 @@ module _ (all : List Atom) (ids : List ℕ) (b : Bound) (among : IsBoundAmong al
 -- ---- A theory
 
 module _ (all : List Atom) (ids : List ℕ) where
+  -- what moves stands as it may
+  stands_then : (fs gs : List (List Part)) → ((k : ℕ) (f : List Part) → slice_get fs k ≡ Some f → slice_get gs k ≡ Some f) → (k : ℕ) (v : Infinitesimal) → StandsAmong all ids fs k v → StandsAmong all ids gs k v
+  stands_then fs gs kept k v (inl zero) = inl zero
+  stands_then fs gs kept k v (inr b) = inr (record { bound = b.bound; among = b.among; form = kept k (turned_sum b.bound.sides.parts) b.form; sign = b.sign; value = b.value })
+
+  places_then : (t u : Theory) (moved : ℕ → Infinitesimal → Type 0) → HasMoved t u moved → ((k : ℕ) (v : Infinitesimal) → moved k v → StandsAmong all ids u.simplex.forms k v)
+      → ((k : ℕ) (v : Infinitesimal) → point_in t.simplex k ≡ Some v → StandsAmong all ids t.simplex.forms k v) → (k : ℕ) (v : Infinitesimal) → point_in u.simplex k ≡ Some v → StandsAmong all ids u.simplex.forms k v
+  places_then t u moved m may places k v at = by_case (m.points k v at)
+    where
+      by_case : moved k v ⊎ (point_in t.simplex k ≡ Some v) → StandsAmong all ids u.simplex.forms k v
+      by_case (inl h) = may k v h
+      by_case (inr was) = stands_then t.simplex.forms u.simplex.forms m.kept k v (places k v was)
+
   -- what joins keeps it so
   pub arranged_more : (may : MayArrange all ids) (b : Bound) (among : IsBoundAmong all ids b) (f : List Part) → IsFormOfBound b f → (t u : Theory) → IsArranged all ids t → MayHaveJoined t u f → IsArranged all ids u
   arranged_more may b among f is t u h (inl same) = subst (IsArranged all ids) (sym same) h
@@ -152,10 +154,65 @@ module _ (all : List Atom) (ids : List ℕ) where
     sums = λ ns table within.
         subst (λ (p : Position). AllByRecursion (IsSumAmong ns all ids) p.forms) (sym (joined.position ns (h.over ns table within) (form_units all ids b among ns within f is)))
         (sums_then all ids b among ns within t.simplex f is (h.sums ns table within));
-    zero =
-        subst (λ (p : Position). IsAtZero p.point) (sym (joined.position may.table (h.over may.table may.is_table may.within) (form_units all ids b among may.table may.within f is)))
-        (zero_then may.table t.simplex f h.zero);
+    places = places_then t u IsAtZero joined.moves (λ k v zero. inl zero) h.places;
+    unbounded = joined.moves.unbounded h.unbounded;
+    unknown = joined.moves.unknown h.unknown;
   }
+
+  -- so does what moves to where it may stand
+  arranged_turned : (t u : Theory) (moved : ℕ → Infinitesimal → Type 0) → ((k : ℕ) (v : Infinitesimal) → moved k v → StandsAmong all ids u.simplex.forms k v) → IsArranged all ids t → HasTurned t u moved → IsArranged all ids u
+  arranged_turned t u moved may h turned = record {
+    over = λ ns table within. let over = h.over ns table within in record { table = over.table; units = subst (λ (fs : List (List Part)). AllByRecursion (AreUnits ns) fs) (sym turned.forms) over.units };
+    sums = λ ns table within. subst (λ (fs : List (List Part)). AllByRecursion (IsSumAmong ns all ids) (map (parts_over ns) fs)) (sym turned.forms) (h.sums ns table within);
+    places = places_then t u moved turned.moves may h.places;
+    unbounded = turned.moves.unbounded h.unbounded;
+    unknown = turned.moves.unknown h.unknown;
+  }
+
+  pub arranged_exchanged : (t u : Theory) → IsArranged all ids t → MayHaveExchanged t u → IsArranged all ids u
+  arranged_exchanged t u h (inl same) = subst (IsArranged all ids) (sym same) h
+  arranged_exchanged t u h (inr turned) = arranged_turned t u IsAtZero (λ k v zero. inl zero) h turned
+
+  pub arranged_stood : (t u : Theory) (b : Bound) → IsBoundAmong all ids b → (k : ℕ) (v : Infinitesimal) (sign : Bool) → slice_get t.simplex.forms k ≡ Some (turned_sum b.sides.parts) → v ≡ (said_at b.sides.parts b.sides.offset sign).value
+      → IsArranged all ids t → MayHaveStood t u k v → IsArranged all ids u
+  arranged_stood t u b among k v sign form value h (inl same) = subst (IsArranged all ids) (sym same) h
+  arranged_stood t u b among k v sign form value h (inr turned) =
+      arranged_turned t u (λ j w. (j ≡ k) × (w ≡ v))
+      (λ j w moved. inr (record { bound = b; among = among; form = turned.moves.kept j (turned_sum b.sides.parts) (ap (slice_get t.simplex.forms) moved.0 ∙ form); sign = sign; value = moved.1 ∙ value }))
+      h turned
+
+  -- where there is no form yet
+  pub arranged_first : (t : Theory) → length t.simplex.forms ≡ 0 → length t.simplex.asserted ≡ 0 → IsSound t.simplex → IsArranged all ids t
+  arranged_first t none free sound = record {
+    over = λ ns table within. record { table = table; units = subst (λ (fs : List (List Part)). AllByRecursion (AreUnits ns) fs) (sym no_forms) tt };
+    sums = λ ns table within. subst (λ (fs : List (List Part)). AllByRecursion (IsSumAmong ns all ids) (map (parts_over ns) fs)) (sym no_forms) tt;
+    places = λ k v at. absurd (none_stands k v at);
+    unbounded = empty_list t.simplex.asserted free;
+    unknown = λ k basic. no_value k;
+  }
+    where
+      empty_list : {A : Type 0} (xs : List A) → length xs ≡ 0 → xs ≡ []
+      empty_list [] e = refl
+      empty_list (x ∷ xs) e = absurd (omega (arith, e))
+
+      no_forms : t.simplex.forms ≡ []
+      no_forms = empty_list t.simplex.forms none
+
+      no_values : t.simplex.values ≡ []
+      no_values = empty_list t.simplex.values (sound.valued ∙ none)
+
+      no_value : (k : ℕ) → value_in t.simplex k ≡ None
+      no_value k = ap (λ (vs : List (Option Infinitesimal)). slice_index_or vs k None) no_values
+
+      none_stands : (k : ℕ) (v : Infinitesimal) → point_in t.simplex k ≡ Some v → ⊥
+      none_stands k v at = by_mark (nonbasic_in t.simplex k) at
+        where
+          by_mark : (b : Bool) → (if b then value_in t.simplex k else None) ≡ Some v → ⊥
+          by_mark true e = absurd (none_some (sym (no_value k) ∙ e))
+            where
+              none_some : None ≡ Some v → ⊥
+              none_some h = absurd cc
+          by_mark false e = absurd cc
 
   -- what may join
   pub may_add_form : MayArrange all ids → (b : Bound) → IsBoundAmong all ids b → (t : Theory) → IsArranged all ids t → (s : Bound) → ((ns : List Node) → IsTable ns → AreUnits ns b.sides.parts → s ≡ zero_bound (turned_sum b.sides.parts))
@@ -173,9 +230,21 @@ module _ (all : List Atom) (ids : List ℕ) where
       let units = bound_units all ids b among may.table may.within in
       record { table = may.table; over = h.over may.table may.is_table may.within; units = unit_units may.table p (each_of (NamesUnit may.table) b.sides.parts units.names p has); sum = unit_sum p }
 
+  -- a bound that is tabled is so with either sign
+  tabled_with : (ts : List Term) (ps : List spec.Part) (b : Fraction) (sign : Bool) → IsTabled ts (is_at_most ps b) → IsTabled ts (with_sign sign (is_at_most ps b))
+  tabled_with ts ps b true h = h
+  tabled_with ts ps b false h = record { number = h.number; term = h.term; listed = h.listed; row = h.row; tabled = h.tabled; has = by_case h.has }
+    where
+      back : negation_of (negation_of (is_at_most ps b)) ≡ is_at_most ps b
+      back = ap (λ (qs : List spec.Part). is_at_most qs (neg_ℚ (neg_ℚ b))) (parts_back ps) ∙ ap (is_at_most ps) (neg-back b)
+
+      by_case : Contains h.row.result (is_at_most ps b) ⊎ Contains h.row.result (negation_of (is_at_most ps b)) → Contains h.row.result (negation_of (is_at_most ps b)) ⊎ Contains h.row.result (negation_of (negation_of (is_at_most ps b)))
+      by_case (inl has) = inr (subst (Contains h.row.result) (sym back) has)
+      by_case (inr has) = inl has
+
   -- and at the end
-  pub arranged_restarts : (t u : Theory) → IsArranged all ids u → IsSound u.simplex → (ns : List Node) (ts : List Term) → AreAtomsIn ns all ids → All (IsTabledAtom ns ts all) ids → IsOver t ns → MayRestart u ns ts
-  arranged_restarts t u h sound ns ts within tabled over =
+  pub arranged_restarts : (t u : Theory) → IsArranged all ids u → IsSound u.simplex → AreForms u.simplex → AreAtoms all → OneNumber → TellsLiterals → (ns : List Node) (ts : List Term) → AreAtomsIn ns all ids → All (IsTabledAtom ns ts all) ids → IsOver t ns → MayRestart u ns ts
+  arranged_restarts t u h sound forms atoms one tells ns ts within tabled over =
       let here = h.over ns over.table within in
       record {
         known =
@@ -184,8 +253,125 @@ module _ (all : List Atom) (ids : List ℕ) where
             (λ f s. (literal_in ns all (record { atom = s.among.id; sign = true }), All-contains (IsTabledAtom ns ts all) ids s.among.id tabled s.among.listed s.bound s.among.at, s.is))
             (map (parts_over ns) u.simplex.forms) (h.sums ns over.table within));
         basis = (sound.ready ns here).basis;
-        places = λ k v at. inl (h.zero k v at);
+        places = λ k v at. by_place k v (h.places k v at);
       }
+    where
+      by_place : (k : ℕ) (v : Infinitesimal) → StandsAmong all ids u.simplex.forms k v
+          → (v ≡ zero_infinitesimal) ⊎ ((l : Literal) × (side : Side) × IsTabled ts l × (bound_said (map (parts_over ns) u.simplex.forms) l ≡ Some (record { form = k; side = side; bound = v })))
+      by_place k v (inl zero) = inl zero
+      by_place k v (inr b) =
+          let ps = b.bound.sides.parts in
+          let q = b.bound.sides.offset in
+          let y = said_at ps q b.sign in
+          let says : literal_in ns all (record { atom = b.among.id; sign = true }) ≡ is_at_most (parts_over ns ps) q =
+          bound_in_log ns all (record { atom = b.among.id; sign = true }) b.bound b.among.at (normal_at all b.among.id b.bound atoms b.among.at)
+          in
+          let known = All-contains (IsTabledAtom ns ts all) ids b.among.id tabled b.among.listed b.bound b.among.at in
+          inr (
+            with_sign b.sign (is_at_most (parts_over ns ps) q),
+            half y.side,
+            tabled_with ts (parts_over ns ps) q b.sign (subst (IsTabled ts) says known),
+            said_of_form ns u.simplex k ps q b.sign (one ns over.table) tells (h.over ns over.table within) forms b.form
+                ∙ ap (λ (x : Infinitesimal). let o : Option FormBound = Some (record { form = k; side = half y.side; bound = x }) in o) (sym b.value),
+          )
+
+-- ---- How forms move when one joins
+
+module _ (old new : State) (f : List Part) (v : ℕ) (joined : IsJoined old new f v) where
+  past_old : (k : ℕ) → length old.forms ≤ k → k < length old.forms → ⊥
+  past_old k h less = absurd (omega (arith, h, less))
+
+  -- a form that is new has a value where it is nonbasic, which is 0
+  new_value : (k : ℕ) → length old.forms ≤ k → value_in new k ≡ (if nonbasic_in new k then Some zero_infinitesimal else None)
+  new_value k h = joined.new_values k (past_old k h) ∙ ap (λ (b : Bool). if b then Some zero_infinitesimal else None) (sym (joined.new_marks k (past_old k h)))
+
+  unknown_then : KnowsNonbasicAlone old → KnowsNonbasicAlone new
+  unknown_then unknown k basic = by_place (below_or_past k (length old.forms))
+    where
+      by_place : (k < length old.forms) ⊎ (length old.forms ≤ k) → value_in new k ≡ None
+      by_place (inl h) = joined.old_values k h ∙ unknown k (sym (joined.old_marks k h) ∙ basic)
+      by_place (inr h) = new_value k h ∙ ap (λ (b : Bool). if b then Some zero_infinitesimal else None) basic
+
+  points_then : (k : ℕ) (x : Infinitesimal) → point_in new k ≡ Some x → IsAtZero k x ⊎ (point_in old k ≡ Some x)
+  points_then k x at = by_place (below_or_past k (length old.forms))
+    where
+      by_mark : (b : Bool) → (if b then (if b then Some zero_infinitesimal else None) else None) ≡ Some x → x ≡ zero_infinitesimal
+      by_mark true h = cc
+      by_mark false h = absurd cc
+
+      by_place : (k < length old.forms) ⊎ (length old.forms ≤ k) → IsAtZero k x ⊎ (point_in old k ≡ Some x)
+      by_place (inl h) =
+          inr
+          (ap (λ (b : Bool). if b then value_in old k else None) (sym (joined.old_marks k h))
+          ∙ ap (λ (o : Option Infinitesimal). if nonbasic_in new k then o else None) (sym (joined.old_values k h))
+          ∙ at)
+      by_place (inr h) = inl (by_mark (nonbasic_in new k) (ap (λ (o : Option Infinitesimal). if nonbasic_in new k then o else None) (sym (new_value k h)) ∙ at))
+
+pub moves_then : (old new : Theory) (f : List Part) (v : ℕ) → IsJoined old.simplex new.simplex f v → HasMoved old new IsAtZero
+moves_then old new f v joined = record {
+  kept = then_kept old.simplex new.simplex f v joined;
+  unbounded = λ none. joined.asserted ∙ none;
+  unknown = unknown_then old.simplex new.simplex f v joined;
+  points = points_then old.simplex new.simplex f v joined;
+}
+
+-- ---- How forms move by themselves
+
+module _ (old new : Theory) where
+  pub turned_by_exchange : (i j : ℕ) → IsExchanged old.simplex new.simplex i j → HasTurned old new IsAtZero
+  turned_by_exchange i j h = record {
+    forms = h.forms;
+    moves = record {
+      kept = λ k f at. ap (λ (fs : List (List Part)). slice_get fs k) h.forms ∙ at;
+      unbounded = λ none. h.asserted ∙ none;
+      unknown = λ unknown k basic. h.values k ∙ by_values unknown k (k == i) (k == j) (sym (h.marks k) ∙ basic);
+      points = λ k x at. by_point k x (k == i) (k == j) (sym (point_then k) ∙ at);
+    };
+  }
+    where
+      by_values : KnowsNonbasicAlone old.simplex → (k : ℕ) (s t : Bool) → (if s then true else if t then false else nonbasic_in old.simplex k) ≡ false → (if s then Some zero_infinitesimal else if t then None else value_in old.simplex k) ≡ None
+      by_values unknown k true t m = absurd (true≢false m)
+      by_values unknown k false true m = refl
+      by_values unknown k false false m = unknown k m
+
+      point_then : (k : ℕ) → point_in new.simplex k
+          ≡ (if (if k == i then true else if k == j then false else nonbasic_in old.simplex k) then (if k == i then Some zero_infinitesimal else if k == j then None else value_in old.simplex k) else None)
+      point_then k = ap (λ (b : Bool). if b then value_in new.simplex k else None) (h.marks k) ∙ ap (λ (o : Option Infinitesimal). if (if k == i then true else if k == j then false else nonbasic_in old.simplex k) then o else None) (h.values k)
+
+      by_point : (k : ℕ) (x : Infinitesimal) (s t : Bool) → (if (if s then true else if t then false else nonbasic_in old.simplex k) then (if s then Some zero_infinitesimal else if t then None else value_in old.simplex k) else None) ≡ Some x
+          → IsAtZero k x ⊎ (point_in old.simplex k ≡ Some x)
+      by_point k x true t e = inl cc
+      by_point k x false true e = absurd cc
+      by_point k x false false e = inr e
+
+  pub turned_by_stand : (k : ℕ) (v : Infinitesimal) → nonbasic_in old.simplex k ≡ true → StandsAt old.simplex new.simplex k v → HasTurned old new (λ j w. (j ≡ k) × (w ≡ v))
+  turned_by_stand k v nonbasic h = record {
+    forms = h.forms;
+    moves = record {
+      kept = λ j f at. ap (λ (fs : List (List Part)). slice_get fs j) h.forms ∙ at;
+      unbounded = λ none. h.asserted ∙ none;
+      unknown = λ unknown j basic. by_number unknown j (sym (marks_then j) ∙ basic) (j == k) refl;
+      points = λ j w at. by_point j w (j == k) refl (sym (point_then j) ∙ at);
+    };
+  }
+    where
+      marks_then : (j : ℕ) → nonbasic_in new.simplex j ≡ nonbasic_in old.simplex j
+      marks_then j = ap (λ (ms : List Bool). slice_index_or ms j false) h.marks
+
+      by_number : KnowsNonbasicAlone old.simplex → (j : ℕ) → nonbasic_in old.simplex j ≡ false → (b : Bool) → (j == k) ≡ b → value_in new.simplex j ≡ None
+      by_number unknown j basic true e = absurd (true≢false (sym nonbasic ∙ ap (nonbasic_in old.simplex) (sym (same-number j k e)) ∙ basic))
+      by_number unknown j basic false e = h.values j ∙ ap (λ (b : Bool). if b then Some v else value_in old.simplex j) e ∙ unknown j basic
+
+      point_then : (j : ℕ) → point_in new.simplex j ≡ (if nonbasic_in old.simplex j then (if j == k then Some v else value_in old.simplex j) else None)
+      point_then j = ap (λ (b : Bool). if b then value_in new.simplex j else None) (marks_then j) ∙ ap (λ (o : Option Infinitesimal). if nonbasic_in old.simplex j then o else None) (h.values j)
+
+      by_mark : (w : Infinitesimal) (m : Bool) → (if m then Some v else None) ≡ Some w → w ≡ v
+      by_mark w true h = cc
+      by_mark w false h = absurd cc
+
+      by_point : (j : ℕ) (w : Infinitesimal) (b : Bool) → (j == k) ≡ b → (if nonbasic_in old.simplex j then (if j == k then Some v else value_in old.simplex j) else None) ≡ Some w → ((j ≡ k) × (w ≡ v)) ⊎ (point_in old.simplex j ≡ Some w)
+      by_point j w true e at = inl (same-number j k e, by_mark w (nonbasic_in old.simplex j) (ap (λ (b : Bool). if nonbasic_in old.simplex j then (if b then Some v else value_in old.simplex j) else None) (sym e) ∙ at))
+      by_point j w false e at = inr (ap (λ (b : Bool). if nonbasic_in old.simplex j then (if b then Some v else value_in old.simplex j) else None) (sym e) ∙ at)
 
 -- ---- A unit that joins alone
 
@@ -215,4 +401,4 @@ module _ (old new : Theory) (p : Part) (v : ℕ) (may : MayAddSum old (unit_of p
   }
 
   pub joined_alone : ((ns : List Node) → IsOver old ns → AreUnits ns (unit_of p) → position_over ns new.simplex ≡ joined_over ns old.simplex (unit_of p)) → HasJoined old new (unit_of p)
-  joined_alone position = let adds : AddsForm old new (unit_of p) = adds_form old new (unit_of p) v may joined known told in record { over = adds.over; position = position }
+  joined_alone position = let adds : AddsForm old new (unit_of p) = adds_form old new (unit_of p) v may joined known told in record { over = adds.over; position = position; moves = moves_then old new (unit_of p) v joined }

@@ -22,7 +22,9 @@ use Rattle.nz_trail.specs.declared.limits.Side.TheVariants as trail
 use Rattle.nz_log.specs.declared.lits.Lit.{Lit}
 use Rattle.nz_log.specs.Atoms.{with_sign}
 use Rattle.nz_simplex.specs.Standing.{half}
-use Rattle.nz_reals.specs.Known.{Known, Said, form_bound, no_of, said_on, yes_of}
+use Rattle.nz_simplex.specs.State as simplex
+use Rattle.nz_simplex.specs.State.{State}
+use Rattle.nz_reals.specs.Known.{Known, Said, form_bound, no_of, said_at, said_by, said_on, yes_of}
 use Rattle.nz_reals.specs.Stands.{IsKnown, IsOver}
 use Rattle.nz_reals.specs.State.{Theory, known_at, literal_over}
 use Rattle.nz_reals.specs.Stored.{AreForms}
@@ -194,31 +196,35 @@ turned_empty (p ∷ ps) e = by_test (is_turned (p ∷ ps)) e
     by_test true f = absurd cc
     by_test false f = absurd cc
 
--- over a table of the forms, a literal on what is known says the bound that is known
-pub said_bound : (ns : List Node) (t : Theory) (l : Lit) (b : Bound) (k : Known) → HasOneNumberEach ns → TellsLiterals → IsOver t ns → AreForms t.simplex → known_at t l.atom ≡ Some k → IsKnown t b k
-    → bound_said (map (parts_over ns) t.simplex.forms) (literal_over ns t l) ≡ Some (form_bound k l.sign)
-said_bound ns t l b k one tells over forms knows is =
-    ap (bound_said (map (parts_over ns) t.simplex.forms)) (literal_of_known ns t l b k knows is) ∙ by_sign l.sign
+-- over a table of the forms, that the sum of a form, or that with the other signs, is at most a number says a bound of the form, and so does its negation
+pub said_of_form : (ns : List Node) (x : State) (v : ℕ) (ps : List Part) (b : Fraction) (sign : Bool) → HasOneNumberEach ns → TellsLiterals → simplex.IsOver ns x → AreForms x → slice_get x.forms v ≡ Some (turned_sum ps)
+    → bound_said (map (parts_over ns) x.forms) (with_sign sign (is_at_most (parts_over ns ps) b)) ≡ Some (let y = said_at ps b sign in record { form = v; side = half y.side; bound = y.value })
+said_of_form ns x v ps b sign one tells over forms at = by_sign sign
   where
-    ps : List Part
-    ps = b.sides.parts
-
     f : List Part
     f = turned_sum ps
 
     sum : IsFormSum f
-    sum = at_of IsFormSum t.simplex.forms forms.sums k.form f is.form
+    sum = at_of IsFormSum x.forms forms.sums v f at
 
-    by_sign : (sign : Bool) → bound_said (map (parts_over ns) t.simplex.forms) (with_sign sign (is_at_most (parts_over ns ps) b.sides.offset)) ≡ Some (form_bound k sign)
-    by_sign true =
-        yes_said ns one tells t.simplex.forms over.units forms.sums forms.once k.form f is.form ps b.sides.offset refl (λ turned. differs_from ns one tells f sum (λ none. empty (turned_empty ps none) turned))
-        ∙ ap (λ (s : Said). as_said ns one tells t.simplex.forms over.units forms.sums forms.once k.form f is.form s) (sym is.says.yes)
+    by_sign : (sign : Bool) → bound_said (map (parts_over ns) x.forms) (with_sign sign (is_at_most (parts_over ns ps) b)) ≡ Some (let y = said_at ps b sign in record { form = v; side = half y.side; bound = y.value })
+    by_sign true = yes_said ns one tells x.forms over.units forms.sums forms.once v f at ps b refl (λ turned. differs_from ns one tells f sum (λ none. empty (turned_empty ps none) turned))
       where
         empty : ps ≡ [] → is_turned ps ≡ true → ⊥
         empty none turned = true≢false (sym turned ∙ ap is_turned none)
-    by_sign false =
-        no_said ns one tells t.simplex.forms over.units forms.sums forms.once k.form f is.form ps b.sides.offset refl (λ p rest some. differs_from ns one tells f sum (λ none. clash p rest some (turned_empty ps none)))
-        ∙ ap (λ (s : Said). as_said ns one tells t.simplex.forms over.units forms.sums forms.once k.form f is.form s) (sym is.says.no)
+    by_sign false = no_said ns one tells x.forms over.units forms.sums forms.once v f at ps b refl (λ p rest some. differs_from ns one tells f sum (λ none. clash p rest some (turned_empty ps none)))
       where
         clash : (p : Part) (rest : List Part) → ps ≡ p ∷ rest → ps ≡ [] → ⊥
         clash p rest some none = cc
+
+-- over a table of the forms, a literal on what is known says the bound that is known
+pub said_bound : (ns : List Node) (t : Theory) (l : Lit) (b : Bound) (k : Known) → HasOneNumberEach ns → TellsLiterals → IsOver t ns → AreForms t.simplex → known_at t l.atom ≡ Some k → IsKnown t b k
+    → bound_said (map (parts_over ns) t.simplex.forms) (literal_over ns t l) ≡ Some (form_bound k l.sign)
+said_bound ns t l b k one tells over forms knows is =
+    ap (bound_said (map (parts_over ns) t.simplex.forms)) (literal_of_known ns t l b k knows is)
+    ∙ said_of_form ns t.simplex k.form b.sides.parts b.sides.offset l.sign one tells over forms is.form
+    ∙ ap (λ (x : Said). let y : Option FormBound = Some (record { form = k.form; side = half x.side; bound = x.value }) in y) (said l.sign)
+  where
+    said : (sign : Bool) → said_at b.sides.parts b.sides.offset sign ≡ said_by k sign
+    said true = sym is.says.yes
+    said false = sym is.says.no

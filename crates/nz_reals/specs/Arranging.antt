@@ -1,7 +1,8 @@
 -- Units and sums that join before a search, where no form is there yet.
-use Rattle.std.specs.Prelude.{◌≡◌, ◌⊎◌, ℕ, true, List, All, Contains, Some, map, slice_get}
+use Rattle.std.specs.Prelude.{◌≡◌, ◌⊎◌, ℕ, Bool, true, List, [], All, Contains, Some, map, slice_get}
 use Rattle.std.specs.List.{AllByRecursion}
-use Rattle.nz_spec.specs.Bland.{Point, zero_infinitesimal}
+use Rattle.nz_fractions.specs.Fraction.{Fraction}
+use Rattle.nz_spec.specs.Bland.{zero_infinitesimal}
 use Rattle.nz_spec.specs.Form as spec
 use Rattle.nz_spec.specs.Infinitesimal.{Infinitesimal}
 use Rattle.nz_spec.specs.Legal.{IsSumOf, IsTabled}
@@ -14,9 +15,10 @@ use Rattle.nz_tab.specs.Units.{unit_of}
 use Rattle.nz_log.specs.declared.atoms.Atom.{Atom}
 use Rattle.nz_log.specs.declared.atoms.Atom.TheVariants.{AtMost}
 use Rattle.nz_log.specs.Atoms.{IsLitIn, literal_in}
-use Rattle.nz_simplex.specs.Moves.{joined_over}
+use Rattle.nz_simplex.specs.Moves.{KnowsNonbasicAlone, joined_over}
 use Rattle.nz_simplex.specs.State.{point_in, position_over}
 use Rattle.nz_reals.specs.Stands.{IsOver}
+use Rattle.nz_reals.specs.Known.{Said, said_at}
 use Rattle.nz_reals.specs.State.{Theory}
 use Rattle.nz_reals.specs.Sums.{AreNonzero, turned_sum}
 
@@ -55,20 +57,64 @@ pub record IsSumAmong (ns : List Node) (all : List Atom) (ids : List ℕ) (f : L
   pub among : IsBoundAmong all ids bound
   pub is : IsSumOf (literal_in ns all (record { atom = among.id; sign = true })) f
 
-abbrev pub IsAtZero : Point → Type 0
-IsAtZero x = (k : ℕ) (v : Infinitesimal) → x k ≡ Some v → v ≡ zero_infinitesimal
+-- ---- Where forms stand
 
--- Over each table that has these atoms, the forms are their sums, or units of these; and each nonbasic form stands at 0.
+-- what a bound on a sum, or its negation, says
+abbrev pub IsSaidAt : List Part → Fraction → Said → Type 0
+IsSaidAt ps b s = (sign : Bool) × (s ≡ said_at ps b sign)
+
+-- a form stands at what a bound among these atoms, or its negation, says of it
+pub record IsAtBound (all : List Atom) (ids : List ℕ) (fs : List (List Part)) (k : ℕ) (v : Infinitesimal) : Type 0 where
+  pub bound : Bound
+  pub among : IsBoundAmong all ids bound
+  pub form : slice_get fs k ≡ Some (turned_sum bound.sides.parts)
+  pub sign : Bool
+  pub value : v ≡ (said_at bound.sides.parts bound.sides.offset sign).value
+
+-- or at 0
+abbrev pub IsAtZero : ℕ → Infinitesimal → Type 0
+IsAtZero k v = v ≡ zero_infinitesimal
+
+abbrev pub StandsAmong : List Atom → List ℕ → List (List Part) → ℕ → Infinitesimal → Type 0
+StandsAmong all ids fs k v = IsAtZero k v ⊎ IsAtBound all ids fs k v
+
+-- Over each table that has these atoms, the forms are their sums, or units of these; each nonbasic form stands at 0 or at such a bound; and no bound was
+-- told yet, nor is the value of a basic form known.
 pub record IsArranged (all : List Atom) (ids : List ℕ) (t : Theory) : Type 0 where
   pub over : (ns : List Node) → IsTable ns → AreAtomsIn ns all ids → IsOver t ns
   pub sums : (ns : List Node) → IsTable ns → AreAtomsIn ns all ids → AllByRecursion (IsSumAmong ns all ids) (map (parts_over ns) t.simplex.forms)
-  pub zero : IsAtZero (point_in t.simplex)
+  pub places : (k : ℕ) (v : Infinitesimal) → point_in t.simplex k ≡ Some v → StandsAmong all ids t.simplex.forms k v
+  pub unbounded : t.simplex.asserted ≡ []
+  pub unknown : KnowsNonbasicAlone t.simplex
+
+-- ---- How that changes
+
+-- Forms stay, and what stays of values and bounds; nonbasic forms stand where they stood, or are moved so.
+pub record HasMoved (old new : Theory) (moved : ℕ → Infinitesimal → Type 0) : Type 0 where
+  pub kept : (k : ℕ) (f : List Part) → slice_get old.simplex.forms k ≡ Some f → slice_get new.simplex.forms k ≡ Some f
+  pub unbounded : old.simplex.asserted ≡ [] → new.simplex.asserted ≡ []
+  pub unknown : KnowsNonbasicAlone old.simplex → KnowsNonbasicAlone new.simplex
+  pub points : (k : ℕ) (v : Infinitesimal) → point_in new.simplex k ≡ Some v → moved k v ⊎ (point_in old.simplex k ≡ Some v)
 
 -- a form has joined
 pub record HasJoined (old new : Theory) (f : List Part) : Type 0 where
   pub over : (ns : List Node) → AreUnits ns f → IsOver old ns → IsOver new ns
   pub position : (ns : List Node) → IsOver old ns → AreUnits ns f → position_over ns new.simplex ≡ joined_over ns old.simplex f
+  pub moves : HasMoved old new IsAtZero
 
 -- a form has joined, or all is as before
 abbrev pub MayHaveJoined : Theory → Theory → List Part → Type 0
 MayHaveJoined old new f = (new ≡ old) ⊎ HasJoined old new f
+
+-- the same forms have moved
+pub record HasTurned (old new : Theory) (moved : ℕ → Infinitesimal → Type 0) : Type 0 where
+  pub forms : new.simplex.forms ≡ old.simplex.forms
+  pub moves : HasMoved old new moved
+
+-- two forms are exchanged, of which the one that is nonbasic then stands at 0, or all is as before
+abbrev pub MayHaveExchanged : Theory → Theory → Type 0
+MayHaveExchanged old new = (new ≡ old) ⊎ HasTurned old new IsAtZero
+
+-- a form stands at this value, or all is as before
+abbrev pub MayHaveStood : Theory → Theory → ℕ → Infinitesimal → Type 0
+MayHaveStood old new k v = (new ≡ old) ⊎ HasTurned old new (λ j w. (j ≡ k) × (w ≡ v))

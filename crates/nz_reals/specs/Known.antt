@@ -53,6 +53,11 @@ abbrev pub no_of : List Part → Fraction → Said
 no_of [] b = said_on Upper (at_most_bound true (neg_ℚ b))
 no_of (p ∷ ps) b = if is_turned (p ∷ ps) then said_on Upper (at_most_bound true (neg_ℚ b)) else said_on Lower (at_least_bound true b)
 
+-- the one or the other
+abbrev pub said_at : List Part → Fraction → Bool → Said
+said_at ps b true = yes_of ps b
+said_at ps b false = no_of ps b
+
 -- what is known of a form is what this sum says, at most this number
 pub record IsSaidOf (ps : List Part) (b : Fraction) (k : Known) : Type 0 where
   pub yes : k.yes ≡ yes_of ps b

@@ -1,27 +1,32 @@
-//! Units and sums that join before a search, in a planned order.
-ghost use Rattle.std.specs.Prelude.{◌≡◌, ◌<◌, List, All, Contains, IfSome, length};
+//! On which basis, and where on it, a theory begins its first search.
+ghost use Rattle.std.specs.Prelude.{◌≡◌, ◌<◌, List, [], All, Contains, IfOk, IfSome, Some, true, length, slice_get};
+ghost use Rattle.nz_delta.specs.DeltaSpace.{infinitesimal_of};
+ghost use Rattle.nz_simplex.specs.Moves.{KnowsNonbasicAlone};
 ghost use Rattle.nz_spec.specs.Table.{Node};
 ghost use Rattle.nz_spec.specs.Term.{Term};
 ghost use Rattle.nz_tab.specs.Units.{unit_of};
-ghost use Rattle.nz_reals.specs.Arranging.{AreAtomsIn, IsArranged, IsBoundAmong, IsTabledAtom, MayArrange, MayHaveJoined};
+ghost use Rattle.nz_reals.specs.Arranging.{AreAtomsIn, IsArranged, IsBoundAmong, IsTabledAtom, MayArrange, MayHaveExchanged, MayHaveJoined, MayHaveStood};
 ghost use Rattle.nz_reals.specs.Joins.{MayAddSum};
 ghost use Rattle.nz_reals.specs.Stands.{IsOver};
 ghost use Rattle.nz_reals.specs.Starts.{MayRestart};
-ghost use Rattle.nz_reals.specs.Sums.{zero_bound};
+ghost use Rattle.nz_reals.specs.Sums.{turned_sum, zero_bound};
 
 use crate::forms::zeroed;
-use crate::planning::{Plan, UnitAt, plan_exchanges};
+use crate::planning::{Exchanged, Plan, UnitAt, plan_start, said_at};
 use crate::reals::{Reals, stored};
 use nz_base::Memory;
+use nz_delta::Delta;
 use nz_frac::Frac;
 use nz_lin::{Bound, Form, Part};
 use nz_log::{Atom, AtomId, Log, Stop};
+use nz_spec::derivation::tells_literals;
 use nz_spec::table::one_number;
+use nz_trail::Var;
 
 impl Reals {
-    /// Lets units and sums of these atoms join before a search, where the theory has no form yet: in the order in which a plan for its first check
-    /// exchanges them, under the bounds whose truths are known from the start; truths are by the numbers of atoms in the log. Nothing is noted, since a
-    /// theory that begins anew notes all its forms.
+    /// Puts a theory without forms where its first check finds no bound broken, or a few, of those that are true from the start: lets sums of these atoms
+    /// join, exchanges them with units, and puts forms at bounds. Truths are by the numbers of atoms in the log. Nothing is noted, since a theory that begins
+    /// anew notes its forms and where they stand.
     ///
     /// # Errors
     ///
@@ -38,84 +43,186 @@ impl Reals {
         ensures restarts { (ns : List Node) (ts : List Term) → AreAtomsIn ns log.now.atoms atoms.now → All (IsTabledAtom ns ts log.now.atoms) atoms.now → IsOver self.old ns → MayRestart self.old ns ts → MayRestart self.new ns ts }
     {
         stored(self);
-        if self.has_forms() {
+        one_number();
+        tells_literals();
+        log.atom_count();
+        if !self.is_fresh() {
             return Ok(());
         }
-        let plan = plan_exchanges(self.alloc, log, atoms, truths)?;
-        let followed = self.follow(log, atoms, &plan);
+        let plan = plan_start(self.alloc, log, atoms, truths)?;
+        let followed = self.follow(log, atoms, truths, &plan);
         stored(self);
         followed
     }
 
-    /// Lets what is planned join, the units before the sums.
-    fn follow(&mut self, log: &Log, atoms: &[AtomId], plan: &Plan) -> Result<(), Memory>
+    /// Whether there is no form yet, and no bound.
+    fn is_fresh(&self) -> bool
+        ensures fresh { result ≡ true → (length self.now.simplex.forms ≡ 0) × (length self.now.simplex.asserted ≡ 0) }
+    {
+        self.simplex.len() == 0 && self.simplex.mark() == 0
+    }
+
+    /// Lets what is planned join and exchanges it, and puts forms at their bounds.
+    fn follow(
+        &mut self,
+        log: &Log,
+        atoms: &[AtomId],
+        truths: &[Option<bool>],
+        plan: &Plan,
+    ) -> Result<(), Memory>
         requires may { MayArrange log.now.atoms atoms.now }
         requires arranged { IsArranged log.now.atoms atoms.now self.old }
         ensures arranged { IsArranged log.now.atoms atoms.now self.new }
     {
-        for at in &plan.units {
-            self.join_unit(log, atoms, *at)?;
+        for exchanged in &plan.exchanges {
+            self.exchange_joined(log, atoms, exchanged)?;
         }
-        for place in &plan.sums {
-            self.join_sum(log, atoms, *place)?;
+        for place in &plan.stands {
+            self.stand_at(log, atoms, truths, *place)?;
         }
         Ok(())
     }
 
-    /// Lets a unit of a sum join, where it is there.
-    fn join_unit(&mut self, log: &Log, atoms: &[AtomId], at: UnitAt) -> Result<(), Memory>
+    /// Lets a sum and a unit join, and exchanges them.
+    fn exchange_joined(
+        &mut self,
+        log: &Log,
+        atoms: &[AtomId],
+        exchanged: &Exchanged,
+    ) -> Result<(), Memory>
+        requires may { MayArrange log.now.atoms atoms.now }
+        requires arranged { IsArranged log.now.atoms atoms.now self.old }
+        ensures arranged { IsArranged log.now.atoms atoms.now self.new }
+    {
+        let Some(sum) = self.join_sum(log, atoms, exchanged.sum)? else {
+            return Ok(());
+        };
+        if let Some(unit) = self.join_unit(log, atoms, exchanged.unit)? {
+            self.exchange(sum, unit);
+        }
+        Ok(())
+    }
+
+    /// Exchanges two forms, where one is basic and the other isn't, unless a number would leave the fractions.
+    fn exchange(&mut self, leaves: Var, enters: Var)
+        requires unbounded { self.old.simplex.asserted ≡ [] }
+        requires unknown { KnowsNonbasicAlone self.old.simplex }
+        ensures exchanged { MayHaveExchanged self.old self.new }
+    {
+        let count = self.simplex.len();
+        if leaves < count
+            && enters < count
+            && self.simplex.is_basic(leaves)
+            && !self.simplex.is_basic(enters)
+        {
+            let _ = self.simplex.exchange(leaves, enters);
+        }
+    }
+
+    /// Puts a form at the bound that the atom of a place says of it, where it is nonbasic.
+    fn stand_at(
+        &mut self,
+        log: &Log,
+        atoms: &[AtomId],
+        truths: &[Option<bool>],
+        place: usize,
+    ) -> Result<(), Memory>
+        requires may { MayArrange log.now.atoms atoms.now }
+        requires arranged { IsArranged log.now.atoms atoms.now self.old }
+        ensures arranged { IsArranged log.now.atoms atoms.now self.new }
+    {
+        let Some((bound, said)) = said_at(log, atoms, truths, place) else {
+            return Ok(());
+        };
+        if let Some(var) = self.add_bound(log, atoms, bound)? {
+            self.stand(var, said.value);
+        }
+        Ok(())
+    }
+
+    /// Puts a form at a value, where it is nonbasic.
+    fn stand(&mut self, var: Var, value: Delta)
+        requires listed { var < length self.old.simplex.forms }
+        requires unbounded { self.old.simplex.asserted ≡ [] }
+        requires unknown { KnowsNonbasicAlone self.old.simplex }
+        ensures stood { MayHaveStood self.old self.new var (infinitesimal_of value) }
+    {
+        if !self.simplex.is_basic(var) {
+            self.simplex.stand(var, value);
+        }
+    }
+
+    /// Lets a unit of a sum join, where it is there, and answers its number.
+    fn join_unit(&mut self, log: &Log, atoms: &[AtomId], at: UnitAt) -> Result<Option<Var>, Memory>
         requires may { MayArrange log.now.atoms atoms.now }
         requires arranged { IsArranged log.now.atoms atoms.now self.old }
         ensures arranged { IsArranged log.now.atoms atoms.now self.new }
     {
         let Some(bound) = bound_at(log, atoms, at.place) else {
-            return Ok(());
+            return Ok(None);
         };
         let Some(part) = part_at(bound, at.part) else {
-            return Ok(());
+            return Ok(None);
         };
-        self.add_unit(part)
+        self.add_unit(part).map(Some)
     }
 
-    /// Lets the sum that an atom bounds join.
-    fn join_sum(&mut self, log: &Log, atoms: &[AtomId], place: usize) -> Result<(), Memory>
+    /// Lets the sum that an atom bounds join, and answers its number. One whose row leaves the numbers is left out.
+    fn join_sum(&mut self, log: &Log, atoms: &[AtomId], place: usize) -> Result<Option<Var>, Memory>
         requires may { MayArrange log.now.atoms atoms.now }
         requires arranged { IsArranged log.now.atoms atoms.now self.old }
         ensures arranged { IsArranged log.now.atoms atoms.now self.new }
     {
-        let Some(bound) = bound_at(log, atoms, place) else {
-            return Ok(());
-        };
+        match bound_at(log, atoms, place) {
+            Some(bound) => self.add_bound(log, atoms, bound),
+            None => Ok(None),
+        }
+    }
+
+    /// Lets the sum of one of the bounds of these atoms join, and answers its number.
+    fn add_bound(
+        &mut self,
+        log: &Log,
+        atoms: &[AtomId],
+        bound: &Bound,
+    ) -> Result<Option<Var>, Memory>
+        requires may { MayArrange log.now.atoms atoms.now }
+        requires among { IsBoundAmong log.now.atoms atoms.now bound.now }
+        requires arranged { IsArranged log.now.atoms atoms.now self.old }
+        ensures arranged { IsArranged log.now.atoms atoms.now self.new }
+        ensures form { IfOk result (λ r. IfSome r (λ v. slice_get self.new.simplex.forms v ≡ Some (turned_sum bound.now.sides.parts))) }
+    {
         let sum = zeroed(self.alloc, bound)?;
         self.add_sum(sum)
     }
 
     /// Adds the unit of a part, alone.
-    fn add_unit(&mut self, part: Part) -> Result<(), Memory>
+    fn add_unit(&mut self, part: Part) -> Result<Var, Memory>
         requires may { MayAddSum self.old (unit_of part) }
         ensures joined { MayHaveJoined self.old self.new (unit_of part) }
     {
         one_number();
         let form = Form::times_unit(self.alloc, Frac::whole(1), part.unit, part.sort)?;
         match self.simplex.add_form(&form) {
-            Ok(_) => Ok(()),
+            Ok(var) => Ok(var),
             // A unit alone has no row, so no operation leaves the numbers.
             Err(_) => Err(Memory),
         }
     }
 
-    /// Adds a sum, where it is none of the forms. One whose row leaves the numbers is left out.
-    fn add_sum(&mut self, sum: Bound) -> Result<(), Memory>
+    /// Adds a sum, where it is none of the forms, and answers its number. One whose row leaves the numbers is left out.
+    fn add_sum(&mut self, sum: Bound) -> Result<Option<Var>, Memory>
         requires zero { sum ≡ zero_bound sum.sides.parts }
         requires may { MayAddSum self.old sum.sides.parts }
         ensures joined { MayHaveJoined self.old self.new sum.sides.parts }
+        ensures form { IfOk result (λ r. IfSome r (λ v. slice_get self.new.simplex.forms v ≡ Some sum.sides.parts)) }
     {
-        if self.find(&sum)?.is_some() {
-            return Ok(());
+        if let Some(var) = self.find(&sum)? {
+            return Ok(Some(var));
         }
         match self.join(sum) {
-            Ok(_) => Ok(()),
-            Err(Stop::Wide(_)) => Ok(()),
+            Ok(var) => Ok(Some(var)),
+            Err(Stop::Wide(_)) => Ok(None),
             Err(_) => Err(Memory),
         }
     }

@@ -8,6 +8,7 @@ ghost use Rattle.nz_log.specs.Atoms.{IsLitIn};
 ghost use Rattle.nz_log.specs.Standing.{Ends, Stands};
 ghost use Rattle.nz_simplex.specs.Moves.{joined_over};
 ghost use Rattle.nz_simplex.specs.State.{position_over};
+ghost use Rattle.nz_reals.specs.Arranging.{HasMoved, IsAtZero};
 ghost use Rattle.nz_reals.specs.Joins.{AddsForm, IsAtomFor, IsFree, IsNamedSum, IsNumberIn, MayAddSum, NotesForm, StopsJoining};
 ghost use Rattle.nz_reals.specs.Known.{known_of};
 ghost use Rattle.nz_reals.specs.Stands.{HasTold, IsAt, IsOf, IsOver};
@@ -105,6 +106,7 @@ impl Reals {
         ensures form { IfOk result (λ v. slice_get self.new.simplex.forms v ≡ Some sum.sides.parts) }
         ensures adds { AddsForm self.old self.new sum.sides.parts }
         ensures position { OnOk result ((ns : List Node) → IsOver self.old ns → AreUnits ns sum.sides.parts → position_over ns self.new.simplex ≡ joined_over ns self.old.simplex sum.sides.parts) }
+        ensures moves { OnOk result (HasMoved self.old self.new IsAtZero) }
         ensures stops { IfErr result (StopsJoining self.old sum.sides.parts) }
         ensures unspent { IfErr result (λ e. e ≡ stop.Spent → ⊥) }
         ensures unchanged { OnErr result (self.new ≡ self.old) }

@@ -1,5 +1,7 @@
-//! The bounds that are true from the start, as a system in doubles that a plan for the first check is made of.
-ghost use Rattle.std.specs.Prelude.{◌<◌, All, length};
+//! The bounds that are true from the start, as a system in doubles for which a start of the first check is found.
+ghost use Rattle.std.specs.Prelude.{◌<◌, All, IfSome, length};
+ghost use Rattle.nz_reals.specs.Arranging.{IsBoundAmong, IsSaidAt};
+ghost use Rattle.nz_reals.specs.Known.{said_of};
 
 use crate::forms::{Bounded, Said, zeroed};
 use indexmap::IndexMap;
@@ -8,14 +10,14 @@ use nz_delta::Delta;
 use nz_frac::Frac;
 use nz_lin::{Bound, Part};
 use nz_log::{Atom, AtomId, Log};
-use nz_plan::{Cell, System};
+use nz_plan::{Cell, Form, Start, System};
 use nz_term::TermId;
 use nz_trail::Side;
 use std::alloc::Global;
 use std::collections::HashMap;
 use std::num::nearest_isize_to_f64;
 
-/// What a plan takes for the infinitesimal: a power of 2, small beside the numbers of a script and large beside what is rounded.
+/// What stands for the infinitesimal: a power of 2, small beside the numbers of a script and large beside what is rounded.
 const INFINITESIMAL: f64 = 0.0000152587890625;
 
 /// The unit of a part of the sum that an atom bounds; the atom by its place in a list.
@@ -25,28 +27,42 @@ pub(crate) struct UnitAt {
     pub part: usize,
 }
 
-/// Which units and which sums join first; sums by the places of their atoms.
-#[derive(Debug, Drop)]
-pub(crate) struct Plan {
-    pub units: Vec<UnitAt>,
-    pub sums: Vec<usize>,
+/// A sum, by the place of an atom that bounds it, and the unit that is basic in its stead.
+#[derive(Clone, Copy, Debug)]
+pub(crate) struct Exchanged {
+    pub sum: usize,
+    pub unit: UnitAt,
 }
 
-/// A system, and where its units and sums are found.
+/// Which sums are exchanged with which units before a first check, one after another, and the places of the atoms at whose bounds forms stand then.
 #[derive(Debug, Drop)]
-struct Found {
+pub(crate) struct Plan {
+    pub exchanges: Vec<Exchanged>,
+    pub stands: Vec<usize>,
+}
+
+/// Where a form is found, and the places of the atoms that bound it most tightly.
+#[derive(Clone, Copy, Debug)]
+struct Found<T> {
+    at: T,
+    lower: Option<usize>,
+    upper: Option<usize>,
+}
+
+/// A system, and where its units and sums are found; a sum by the place of an atom that bounds it.
+#[derive(Debug, Drop)]
+struct Planned {
     alloc: Global,
     system: System,
     unit_numbers: HashMap<TermId, usize>,
     // By the atoms that the sums are at most 0.
     sum_numbers: IndexMap<Atom, usize>,
-    // Where each unit is found, and the place of an atom that bounds each sum.
-    units: Vec<UnitAt>,
-    sums: Vec<usize>,
+    units: Vec<Found<UnitAt>>,
+    sums: Vec<Found<usize>>,
 }
 
-/// In which order units and sums join before a first check under the bounds that these atoms say; truths are by the numbers of atoms.
-pub(crate) fn plan_exchanges(
+/// A plan for the first check, under the bounds that these atoms say; truths are by the numbers of atoms.
+pub(crate) fn plan_start(
     alloc: Global,
     log: &Log,
     atoms: &[AtomId],
@@ -54,18 +70,43 @@ pub(crate) fn plan_exchanges(
 ) -> Result<Plan, Memory>
     requires within { All (λ i. i < length log.now.atoms) atoms.now }
 {
-    let mut found = Found::new(alloc);
+    let mut planned = Planned::new(alloc);
     for place in 0..atoms.len() {
         if let Some((bound, said)) = said_at(log, atoms, truths, place) {
-            found.add(bound, &said, place)?;
+            planned.add(bound, &said, place)?;
         }
     }
-    found.plan()
+    planned.plan()
 }
 
-impl Found {
-    fn new(alloc: Global) -> Found {
+impl<T> Found<T> {
+    fn new(at: T) -> Found<T> {
         Found {
+            at,
+            lower: None,
+            upper: None,
+        }
+    }
+
+    /// Notes the place of the atom that bounds it on a side.
+    fn note(&mut self, side: Side, place: usize) {
+        match side {
+            Side::Lower => self.lower = Some(place),
+            Side::Upper => self.upper = Some(place),
+        }
+    }
+
+    fn on(&self, side: Side) -> Option<usize> {
+        match side {
+            Side::Lower => self.lower,
+            Side::Upper => self.upper,
+        }
+    }
+}
+
+impl Planned {
+    fn new(alloc: Global) -> Planned {
+        Planned {
             alloc,
             system: System::new(alloc),
             unit_numbers: HashMap::new(alloc),
@@ -77,39 +118,72 @@ impl Found {
 
     /// The plan of the system, in places of atoms.
     fn plan(&self) -> Result<Plan, Memory> {
-        let planned = nz_plan::Plan::new(&self.system)?;
+        let start = Start::new(&self.system)?;
         let mut plan = Plan {
-            units: Vec::new(self.alloc),
-            sums: Vec::new(self.alloc),
+            exchanges: Vec::new(self.alloc),
+            stands: Vec::new(self.alloc),
         };
-        for unit in planned.units() {
-            if let Some(at) = self.units.get(*unit) {
-                plan.units.push(*at)?;
+        for exchange in start.exchanges() {
+            if let (Some(sum), Some(unit)) = (
+                self.sums.get(exchange.sum),
+                self.units.get(exchange.unit),
+            ) {
+                plan.exchanges.push(Exchanged {
+                    sum: sum.at,
+                    unit: unit.at,
+                })?;
             }
         }
-        for sum in planned.sums() {
-            if let Some(place) = self.sums.get(*sum) {
-                plan.sums.push(*place)?;
+        for stand in start.stands() {
+            if let Some(place) = self.place_of(stand.form, stand.side) {
+                plan.stands.push(place)?;
             }
         }
         Ok(plan)
     }
 
+    /// The place of the atom that bounds a form most tightly on a side.
+    fn place_of(&self, form: Form, side: Side) -> Option<usize> {
+        match form {
+            Form::Unit(unit) => self.units.get(unit)?.on(side),
+            Form::Sum(sum) => self.sums.get(sum)?.on(side),
+        }
+    }
+
     /// Adds what the atom of a place says.
     fn add(&mut self, bound: &Bound, said: &Said, place: usize) -> Result<(), Memory> {
-        for part in 0..bound.parts().len() {
-            self.unit_number(bound.parts()[part].unit, UnitAt { place, part })?;
-        }
-        let limit = rounded_value(said.value);
-        let is_upper = said.side == Side::Upper;
-        if let Some((unit, at)) = alone(bound.parts(), place) {
-            let unit = self.unit_number(unit, at)?;
-            self.system.limit_unit(unit, limit, is_upper);
-        } else {
-            let sum = self.sum_number(zeroed(self.alloc, bound)?, place)?;
-            self.system.limit_sum(sum, limit, is_upper);
+        let form = match bound.parts() {
+            [part] if is_alone(part) => {
+                Form::Unit(self.unit_number(part.unit, UnitAt { place, part: 0 })?)
+            }
+            parts => {
+                for (part, one) in parts.iter().enumerate() {
+                    self.unit_number(one.unit, UnitAt { place, part })?;
+                }
+                Form::Sum(self.sum_number(zeroed(self.alloc, bound)?, place)?)
+            }
+        };
+        let value = rounded_value(&said.value);
+        if self.system.limit(form, said.side, value) {
+            self.note(form, said.side, place);
         }
         Ok(())
+    }
+
+    /// Notes the place of the atom that bounds a form on a side.
+    fn note(&mut self, form: Form, side: Side, place: usize) {
+        match form {
+            Form::Unit(unit) => {
+                if let Some(unit) = self.units.get_mut(unit) {
+                    unit.note(side, place);
+                }
+            }
+            Form::Sum(sum) => {
+                if let Some(sum) = self.sums.get_mut(sum) {
+                    sum.note(side, place);
+                }
+            }
+        }
     }
 
     /// The number of a unit, which is added where it isn't there yet.
@@ -119,7 +193,7 @@ impl Found {
         }
         let number = self.system.add_unit()?;
         self.unit_numbers.insert(unit, number)?;
-        self.units.push(at)?;
+        self.units.push(Found::new(at))?;
         Ok(number)
     }
 
@@ -132,7 +206,7 @@ impl Found {
         let cells = self.cells(&key)?;
         let number = self.system.add_sum(cells)?;
         self.sum_numbers.insert(key, number)?;
-        self.sums.push(place)?;
+        self.sums.push(Found::new(place))?;
         Ok(number)
     }
 
@@ -156,13 +230,15 @@ impl Found {
 }
 
 /// The bound of the atom of a place, and what it says, where its truth is known.
-fn said_at<'a>(
+pub(crate) fn said_at<'a>(
     log: &'a Log,
     atoms: &[AtomId],
     truths: &[Option<bool>],
     place: usize,
 ) -> Option<(&'a Bound, Said)>
     requires within { All (λ i. i < length log.now.atoms) atoms.now }
+    ensures among { IfSome result (λ r. IsBoundAmong log.now.atoms atoms.now r.0.now) }
+    ensures says { IfSome result (λ r. IsSaidAt r.0.now.sides.parts r.0.now.sides.offset (said_of r.1)) }
 {
     let atom = atoms.get(place)?;
     let truth = truths.get(*atom).copied()??;
@@ -172,18 +248,13 @@ fn said_at<'a>(
     }
 }
 
-/// The unit that the sum of a place is alone, where it is one.
-fn alone(parts: &[Part], place: usize) -> Option<(TermId, UnitAt)> {
-    match parts {
-        [part] if part.coefficient == Frac::whole(1) || part.coefficient == Frac::whole(-1) => {
-            Some((part.unit, UnitAt { place, part: 0 }))
-        }
-        _ => None,
-    }
+/// Whether a part is its unit, up to the sign.
+fn is_alone(part: &Part) -> bool {
+    part.coefficient == Frac::whole(1) || part.coefficient == Frac::whole(-1)
 }
 
 /// The double that is near to a value.
-fn rounded_value(value: Delta) -> f64 {
+fn rounded_value(value: &Delta) -> f64 {
     rounded(value.c) + rounded(value.k) * INFINITESIMAL
 }
 

@@ -1,4 +1,5 @@
 pub mod Asserting
+pub mod Beginning
 pub mod Bounded
 pub mod Bounding
 pub mod Breaking

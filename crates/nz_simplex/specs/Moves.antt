@@ -1,13 +1,14 @@
 -- What the calls outside of a check leave.
 use Rattle.std.specs.Prelude.{◌≡◌, ℕ, ◌<◌, ◌==◌, ◌||◌, Bool, true, false, List, [], ◌∷◌, ◌++◌, length, nat_lt, Some, None, fold, if◌then◌else◌}
 use Rattle.nz_spec.specs.Bland.{zero_infinitesimal, is_nonbasic, Position}
+use Rattle.nz_spec.specs.Infinitesimal.{Infinitesimal}
 use Rattle.nz_spec.specs.PositionMoves.{with_unit, with_form, with_bound}
 use Rattle.nz_spec.specs.Table.{Node, term_in}
 use Rattle.nz_spec.specs.Term.{Term}
 use Rattle.nz_lin.specs.declared.form.Part.{Part}
 use Rattle.nz_lin.specs.Forms.{parts_over}
 use Rattle.nz_spec.specs.Basis.{Coefficients}
-use Rattle.nz_spec.specs.BasisMoves.{Rows, AreRows, joining_row}
+use Rattle.nz_spec.specs.BasisMoves.{Rows, AreRows, exchanged, joining_row}
 use Rattle.nz_spec.specs.Computation.{Computation}
 use Rattle.nz_fractions.specs.Fraction.{first_wide}
 use Rattle.nz_frac.specs.Operations.{operation_of}
@@ -87,3 +88,25 @@ pub record IsSettled (old new : State) (vars : List ℕ) : Type 0 where
   pub asserted : new.asserted ≡ old.asserted
   pub why : new.why ≡ old.why
   pub point : (k : ℕ) → nonbasic_in old k ≡ true → value_in new k ≡ (if is_among k vars then Some zero_infinitesimal else value_in old k)
+
+-- ---- Another basis, before any bound
+
+-- of basic forms no value is known
+abbrev pub KnowsNonbasicAlone : State → Type 0
+KnowsNonbasicAlone s = (k : ℕ) → nonbasic_in s k ≡ false → value_in s k ≡ None
+
+-- A basic form is nonbasic, at 0, and a nonbasic one is basic. All else stays.
+pub record IsExchanged (old new : State) (i j : ℕ) : Type 0 where
+  pub forms : new.forms ≡ old.forms
+  pub marks : (k : ℕ) → nonbasic_in new k ≡ exchanged (nonbasic_in old) i j k
+  pub values : (k : ℕ) → value_in new k ≡ (if k == i then Some zero_infinitesimal else if k == j then None else value_in old k)
+  pub asserted : new.asserted ≡ old.asserted
+  pub why : new.why ≡ old.why
+
+-- A nonbasic form stands at a value. All else stays.
+pub record StandsAt (old new : State) (var : ℕ) (x : Infinitesimal) : Type 0 where
+  pub forms : new.forms ≡ old.forms
+  pub marks : new.marks ≡ old.marks
+  pub values : (k : ℕ) → value_in new k ≡ (if k == var then Some x else value_in old k)
+  pub asserted : new.asserted ≡ old.asserted
+  pub why : new.why ≡ old.why

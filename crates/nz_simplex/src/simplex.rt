@@ -1,16 +1,19 @@
 //! The simplex: forms over a basis, their bounds, and the point.
-ghost use Rattle.std.specs.Prelude.{◌≡◌, ◌≢◌, ◌↔◌, ◌<◌, ◌≤◌, ℕ, [], ◌∷◌, List, All, IfOk, OnOk, OnErr, IfErr, IfSome, IfNone, IsSome, IsTrue, is_some, None, Some, Ok, Err, false, true, not, length, option_map, slice_index_or, take, vec_capacity};
+ghost use Rattle.std.specs.Prelude.{◌≡◌, ◌≢◌, ◌↔◌, ◌<◌, ◌≤◌, ℕ, [], ◌∷◌, List, All, IfOk, OnOk, OnErr, IfErr, IfSome, IfNone, IsSome, IsTrue, is_some, None, Some, Ok, Err, false, true, not, length, option_map, pos, slice_index_or, take, vec_capacity};
+ghost use Rattle.nz_frac.specs.Operations.{operation_of};
+ghost use Rattle.nz_fractions.specs.Fraction.{first_wide, whole};
 ghost use Rattle.nz_lin.specs.Forms.{AreUnits};
 ghost use Rattle.nz_simplex.specs.Checks.{Answers, IsFeasible, IsFirstBroken, IsRefuted, IsRenewed, IsStepped, Renews, StopsAt};
 ghost use Rattle.nz_simplex.specs.Stored.{IsPastBound, first_passing, is_breaking};
-ghost use Rattle.nz_simplex.specs.Moves.{IsBounded, IsJoined, IsSettled, JoinStops, joined_over};
+ghost use Rattle.nz_simplex.specs.Moves.{IsBounded, IsExchanged, IsJoined, IsSettled, JoinStops, KnowsNonbasicAlone, StandsAt, joined_over};
 ghost use Rattle.nz_simplex.specs.Standing.{half, standing, told_on};
 ghost use Rattle.nz_simplex.specs.State.{IsOver, IsSound, empty_state, nonbasic_in, position_over, value_in};
 ghost use Rattle.nz_simplex.specs.Stored.{basic_numbers};
 ghost use Rattle.nz_simplex.specs.Tabled.{coefficients_in};
 ghost use Rattle.nz_spec.specs.Bland as bland;
 ghost use Rattle.nz_spec.specs.Bland.{Breaks, CanHelp, HasValue, IsCheckStep, is_nonbasic};
-ghost use Rattle.nz_spec.specs.Basis.{IsRow};
+ghost use Rattle.nz_spec.specs.Basis.{IsCoefficient, IsRow};
+ghost use Rattle.nz_spec.specs.BasisMoves.{AreRows, Rows, exchange};
 ghost use Rattle.nz_spec.specs.Infinitesimal.{infinitesimal_cmp};
 ghost use Rattle.nz_spec.specs.Table.{Node};
 ghost use Rattle.nz_tab.specs.declared.tab.TabStop.TheVariants as stops;
@@ -209,6 +212,53 @@ impl<S: Coordinate> Simplex<S> {
         list_basic(&self.tab, &mut self.basic);
         list_nonbasic(&self.tab, &mut self.nonbasic);
         Ok(var)
+    }
+
+    /// Exchanges a basic form, which stands at 0 then, with a nonbasic one, before any bound is asserted. Answers false, and changes
+    /// nothing, where its row has no coefficient there. Takes no memory.
+    ///
+    /// # Errors
+    ///
+    /// `Wide` with the first operation of the exchange that leaves the numbers. Then all is as before.
+    pub fn exchange(&mut self, leaves: Var, enters: Var) -> Result<bool, Wide>
+        requires listed { leaves < length self.old.forms }
+        requires basic { nonbasic_in self.old leaves ≡ false }
+        requires nonbasic { nonbasic_in self.old enters ≡ true }
+        requires unbounded { self.old.asserted ≡ [] }
+        requires unknown { KnowsNonbasicAlone self.old }
+        ensures exchanged { result ≡ Ok true → IsExchanged self.old self.new leaves enters }
+        ensures none { result ≡ Ok false → (ns : List Node) → IsOver ns self.old
+            → IsCoefficient (position_over ns self.old).forms (is_nonbasic (position_over ns self.old).point) leaves enters (whole (pos 0)) }
+        ensures stops { (ns : List Node) → IsOver ns self.old → IfErr result (λ w. (rows : Rows)
+            × AreRows (position_over ns self.old).forms (is_nonbasic (position_over ns self.old).point) rows
+            × (first_wide (exchange (length self.old.forms) (is_nonbasic (position_over ns self.old).point) rows leaves enters).operations ≡ Some (operation_of w))) }
+        ensures unchanged { result ≢ Ok true → self.new ≡ self.old }
+    {
+        nonbasic_form_is_itself();
+        known_tableau(&self.tab);
+        if self.tab.row(leaves).at(enters).is_zero() {
+            return Ok(false);
+        }
+        self.tab.pivot(leaves, enters)?;
+        known_tableau(&self.tab);
+        self.values[leaves] = Some(S::zero());
+        self.values[enters] = None;
+        list_basic(&self.tab, &mut self.basic);
+        list_nonbasic(&self.tab, &mut self.nonbasic);
+        Ok(true)
+    }
+
+    /// Puts a nonbasic form at a value, before any bound is asserted. Takes no memory.
+    pub fn stand(&mut self, var: Var, value: S)
+        requires nonbasic { nonbasic_in self.old var ≡ true }
+        requires unbounded { self.old.asserted ≡ [] }
+        requires unknown { KnowsNonbasicAlone self.old }
+        ensures stands { StandsAt self.old self.new var (S.stands_for value) }
+    {
+        nonbasic_form_is_itself();
+        known_tableau(&self.tab);
+        let slot = &mut self.values[var];
+        *slot = Some(value);
     }
 
     /// Asserts a bound of a form. A nonbasic form that is outside of it moves to it, and the values of the basic forms follow.

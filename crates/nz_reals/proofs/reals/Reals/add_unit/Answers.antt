@@ -21,8 +21,8 @@ invariant_of-self c =
     let p = c.args.part in
     let may : MayAddSum old (unit_of p) = subst (λ (t : Theory). MayAddSum t (unit_of p)) (sym c.self.view_is) c.requires.may in
     let is = unit_is c.one_number.ensures.one may.table may.over.table p c.in_ok-form.form c.whole.result c.whole.ensures may.units c.in_ok-form.ensures.form c.in_ok-form.ensures.units in
-    let joined : IsJoined old.simplex new.simplex (unit_of p) c.in-Ok.field-0 = subst (λ (f : List Part). IsJoined old.simplex new.simplex f c.in-Ok.field-0) is c.in-Ok.ensures.joined in
-    stored_alone old new p c.in-Ok.field-0 may joined (λ i. old.known) (λ i. old.told) (get are_same_atom c.self.inside.forms) c.self.invariant
+    let joined : IsJoined old.simplex new.simplex (unit_of p) c.in-Ok.var = subst (λ (f : List Part). IsJoined old.simplex new.simplex f c.in-Ok.var) is c.in-Ok.ensures.joined in
+    stored_alone old new p c.in-Ok.var may joined (λ i. old.known) (λ i. old.told) (get are_same_atom c.self.inside.forms) c.self.invariant
 
 pub returns-in-Ok : goal.returns-in-Ok
 returns-in-Ok c =
@@ -31,6 +31,6 @@ returns-in-Ok c =
     let p = c.args.part in
     let may : MayAddSum old (unit_of p) = subst (λ (t : Theory). MayAddSum t (unit_of p)) (sym c.self.view_is) c.requires.may in
     let is = unit_is c.one_number.ensures.one may.table may.over.table p c.in_ok-form.form c.whole.result c.whole.ensures may.units c.in_ok-form.ensures.form c.in_ok-form.ensures.units in
-    let joined : IsJoined old.simplex new.simplex (unit_of p) c.in-Ok.field-0 = subst (λ (f : List Part). IsJoined old.simplex new.simplex f c.in-Ok.field-0) is c.in-Ok.ensures.joined in
+    let joined : IsJoined old.simplex new.simplex (unit_of p) c.in-Ok.var = subst (λ (f : List Part). IsJoined old.simplex new.simplex f c.in-Ok.var) is c.in-Ok.ensures.joined in
     let position = subst (λ (f : List Part). (ns : List Node) → IsOver old ns → AreUnits ns f → position_over ns new.simplex ≡ joined_over ns old.simplex f) is c.in-Ok.ensures.position in
-    record { joined = subst (λ (t : Theory). MayHaveJoined t new (unit_of p)) c.self.view_is (inr (joined_alone old new p c.in-Ok.field-0 may joined (λ i. old.known) (λ i. old.told) position)) }
+    record { joined = subst (λ (t : Theory). MayHaveJoined t new (unit_of p)) c.self.view_is (inr (joined_alone old new p c.in-Ok.var may joined (λ i. old.known) (λ i. old.told) position)) }

@@ -1,0 +1,28 @@
+-- The value of one nonbasic form changes, and no basic one has a value that would follow.
+use Rattle.nz_simplex.proofs.Beginning.{stands_shown}
+use Rattle.nz_simplex.proofs.simplex.Simplex.stand.Goals as goal
+
+pub invariant_of-self : goal.invariant_of-self
+invariant_of-self g c =
+    let x = c.self.inside in
+    let stored = c.self.invariant in
+    record {
+      sound =
+          (stands_shown g.S.Coordinate.stands_for x.tab x.trail x.values.items x.why.items c.args.self.now c.args.var c.args.value c.self.view_is stored.sound
+          c.requires.nonbasic c.requires.unbounded c.requires.unknown c.nonbasic_form_is_itself.ensures.itself c.known_tableau.ensures.tableau).sound;
+      basic_listed = stored.basic_listed;
+      nonbasic_listed = stored.nonbasic_listed;
+      numbered = stored.numbered;
+      room_for_basic = stored.room_for_basic;
+      room_for_nonbasic = stored.room_for_nonbasic;
+      room_for_why = stored.room_for_why;
+    }
+
+pub returns : goal.returns
+returns g c =
+    let x = c.self.inside in
+    record {
+      stands =
+          (stands_shown g.S.Coordinate.stands_for x.tab x.trail x.values.items x.why.items c.args.self.now c.args.var c.args.value c.self.view_is c.self.invariant.sound
+          c.requires.nonbasic c.requires.unbounded c.requires.unknown c.nonbasic_form_is_itself.ensures.itself c.known_tableau.ensures.tableau).stands;
+    }
