@@ -2,7 +2,7 @@
 use Rattle.std.specs.Prelude.{◌≡◌, ◌+◌, ◌-◌, ◌≤◌, ℕ, map, vec_len, vec_capacity}
 use Rattle.std.specs.declared.vec.Vec.{Vec}
 use Rattle.std.specs.declared.alloc.Global.{Global}
-use Rattle.nz_spec.specs.Work.{WorkEntry, DecisionEntry, LearnedEntry, PivotEntry, WorkLine, UnitLine, NoteLine, unit_count}
+use Rattle.nz_spec.specs.search.Work.{WorkEntry, DecisionEntry, LearnedEntry, PivotEntry, WorkLine, UnitLine, NoteLine, unit_count}
 use Rattle.nz_base.specs.declared.entries.Entry.{Entry}
 use Rattle.nz_base.specs.declared.entries.Entry.TheVariants.{Decision, Learned, Pivot}
 use Rattle.nz_base.specs.declared.entries.Line.{Line}

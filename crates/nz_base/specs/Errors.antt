@@ -1,5 +1,5 @@
 -- What the errors of the code are.
-use Rattle.nz_spec.specs.Error as spec
+use Rattle.nz_spec.specs.outside.Error as spec
 use Rattle.nz_base.specs.declared.reply_errors.Error.{Error}
 use Rattle.nz_base.specs.declared.reply_errors.Error.TheVariants as code
 

@@ -90,7 +90,7 @@ pub struct Lines<T> {
 
 impl<T> Model for Lines<T> {
     ghost use Rattle.std.specs.Prelude.{List, map};
-    ghost use Rattle.nz_spec.specs.Work.{WorkLine};
+    ghost use Rattle.nz_spec.specs.search.Work.{WorkLine};
 
     ghost Value = { List (WorkLine T) };
 

@@ -1,7 +1,7 @@
 //! Sources and sinks in memory: plain ones, and ones that fail at planned calls.
 ghost use Rattle.std.specs.Prelude.{◌≡◌, ◌<◌, ◌↔◌, ◌||◌, [], length, IsTrue, OnOk, OnErr, IfOk, IsErr, is_err, Some, Ok};
 ghost use Rattle.std.specs.Io.KnownBytes.{Keeps};
-ghost use Rattle.nz_spec.specs.Outside.{last_count, counted, GivesFront, EndsAtZero, TakesFront, is_refusal, given_count, after_read, read_buffer, taken_count, after_fault, after_write, after_flush, fails_next, after_call, after_faulty_read, after_faulty_write, after_faulty_flush};
+ghost use Rattle.nz_spec.specs.outside.Outside.{last_count, counted, GivesFront, EndsAtZero, TakesFront, is_refusal, given_count, after_read, read_buffer, taken_count, after_fault, after_write, after_flush, fails_next, after_call, after_faulty_read, after_faulty_write, after_faulty_flush};
 
 use crate::errors::{Failed, Memory};
 use crate::outside::{Sink, Source};
@@ -19,7 +19,7 @@ pub struct PlainSource {
 
 impl Model for PlainSource {
     ghost use Rattle.std.specs.Prelude.{◌<◌, ◌≤◌, drop, vec_len};
-    ghost use Rattle.nz_spec.specs.Outside.{MemoryInput};
+    ghost use Rattle.nz_spec.specs.outside.Outside.{MemoryInput};
 
     ghost Value = { MemoryInput };
 
@@ -45,7 +45,7 @@ impl PlainSource {
 impl Source for PlainSource {
     ghost use Rattle.std.specs.Prelude.{Some};
     ghost use Rattle.std.proofs.Common.{lit<};
-    ghost use Rattle.nz_spec.specs.Outside.{last_count};
+    ghost use Rattle.nz_spec.specs.outside.Outside.{last_count};
 
     ghost left = { λ s. Some s.left };
 
@@ -82,7 +82,7 @@ pub struct PlainSink {
 
 impl Model for PlainSink {
     ghost use Rattle.std.specs.Prelude.{◌≤◌, take, vec_len, vec_capacity};
-    ghost use Rattle.nz_spec.specs.Outside.{MemoryOutput};
+    ghost use Rattle.nz_spec.specs.outside.Outside.{MemoryOutput};
 
     ghost Value = { MemoryOutput };
 
@@ -135,7 +135,7 @@ impl PlainSink {
 impl Sink for PlainSink {
     ghost use Rattle.std.specs.Prelude.{Some};
     ghost use Rattle.std.proofs.Common.{lit<};
-    ghost use Rattle.nz_spec.specs.Outside.{last_count};
+    ghost use Rattle.nz_spec.specs.outside.Outside.{last_count};
 
     ghost held = { λ s. Some s.held };
 
@@ -176,7 +176,7 @@ struct Plan {
 }
 
 impl Model for Plan {
-    ghost use Rattle.nz_spec.specs.Outside.{PlannedFaults};
+    ghost use Rattle.nz_spec.specs.outside.Outside.{PlannedFaults};
 
     ghost Value = { PlannedFaults };
 
@@ -210,7 +210,7 @@ pub struct MemSource {
 }
 
 impl Model for MemSource {
-    ghost use Rattle.nz_spec.specs.Outside.{FaultyInput};
+    ghost use Rattle.nz_spec.specs.outside.Outside.{FaultyInput};
 
     ghost Value = { FaultyInput };
 
@@ -244,7 +244,7 @@ impl MemSource {
 impl Source for MemSource {
     ghost use Rattle.std.specs.Prelude.{Some};
     ghost use Rattle.std.proofs.Common.{lit<};
-    ghost use Rattle.nz_spec.specs.Outside.{last_count};
+    ghost use Rattle.nz_spec.specs.outside.Outside.{last_count};
 
     ghost left = { λ s. Some s.input.left };
 
@@ -280,7 +280,7 @@ pub struct MemSink {
 }
 
 impl Model for MemSink {
-    ghost use Rattle.nz_spec.specs.Outside.{FaultyOutput};
+    ghost use Rattle.nz_spec.specs.outside.Outside.{FaultyOutput};
 
     ghost Value = { FaultyOutput };
 
@@ -326,7 +326,7 @@ impl MemSink {
 impl Sink for MemSink {
     ghost use Rattle.std.specs.Prelude.{Some};
     ghost use Rattle.std.proofs.Common.{lit<};
-    ghost use Rattle.nz_spec.specs.Outside.{last_count};
+    ghost use Rattle.nz_spec.specs.outside.Outside.{last_count};
 
     ghost held = { λ s. Some s.output.held };
 

@@ -2,7 +2,7 @@
 ghost use Rattle.std.specs.Prelude.{◌≡◌, ℕ, ◌<◌, ◌||◌, List, Option, is_err, OnOk, OnErr};
 ghost use Rattle.std.specs.Io.{ReadsAtMost, WritesAtMost};
 ghost use Rattle.std.specs.Io.KnownBytes.{Keeps, Appends};
-ghost use Rattle.nz_spec.specs.Outside.{counted, TellsAlike, GivesFront, EndsAtZero, TakesFront, is_refusal, AddsFrontOf};
+ghost use Rattle.nz_spec.specs.outside.Outside.{counted, TellsAlike, GivesFront, EndsAtZero, TakesFront, is_refusal, AddsFrontOf};
 
 use crate::errors::Failed;
 

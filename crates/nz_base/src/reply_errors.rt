@@ -1,6 +1,6 @@
 //! The errors that replies tell, with their numbers and texts.
 ghost use Rattle.std.specs.Prelude.{◌≡◌};
-ghost use Rattle.nz_spec.specs.Error.{error_number, error_text};
+ghost use Rattle.nz_spec.specs.outside.Error.{error_number, error_text};
 ghost use Rattle.nz_base.specs.Errors.{error_of};
 
 use crate::Memory;

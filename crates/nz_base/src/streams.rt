@@ -3,7 +3,7 @@ ghost use Rattle.std.specs.Prelude.{◌≡◌, ◌||◌, [], false, is_err, IfOk
 ghost use Rattle.std.specs.Io.{ReadsAtMost, WritesAtMost};
 ghost use Rattle.std.specs.Io.Buffered.{writer_buffer, writer_capacity, writer_contents, writer_inner};
 ghost use Rattle.std.specs.Io.KnownBytes.{Keeps, ReadConsumes, WriteAppends};
-ghost use Rattle.nz_spec.specs.Outside.{is_refusal};
+ghost use Rattle.nz_spec.specs.outside.Outside.{is_refusal};
 
 use crate::errors::{Failed, Memory};
 use crate::outside::{Sink, Source};
@@ -23,7 +23,7 @@ pub struct Input<R: Read + Drop> {
 }
 
 impl<R: Read + Drop> Model for Input<R> {
-    ghost use Rattle.nz_spec.specs.Outside.{Stream};
+    ghost use Rattle.nz_spec.specs.outside.Outside.{Stream};
 
     ghost Value = { Stream R };
 
@@ -78,7 +78,7 @@ pub struct Output<W: Write + Drop> {
 }
 
 impl<W: Write + Drop> Model for Output<W> {
-    ghost use Rattle.nz_spec.specs.Outside.{Stream};
+    ghost use Rattle.nz_spec.specs.outside.Outside.{Stream};
     ghost use Rattle.std.specs.declared.alloc.Global.{Global};
     ghost use Rattle.std.specs.declared.io.buffered.BufWriter.{BufWriter};
 

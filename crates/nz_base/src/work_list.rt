@@ -1,6 +1,6 @@
 //! The work list of one check: its steps in their order, of which at most a limit count as units.
 ghost use Rattle.std.specs.Prelude.{◌≡◌, ◌+◌, ◌<◌, ◌↔◌, [], length, slice_get, Some, IsErr, OnOk, OnErr, IsOkAnd, IsTrue};
-ghost use Rattle.nz_spec.specs.Work.{WorkLine, UnitLine, NoteLine, unit_count, IsSpent, empty_work, with_line};
+ghost use Rattle.nz_spec.specs.search.Work.{WorkLine, UnitLine, NoteLine, unit_count, IsSpent, empty_work, with_line};
 
 use crate::entries::{Entry, Line, Lines, Noted};
 use crate::errors::{Memory, Spent};
@@ -19,7 +19,7 @@ pub struct Work<T: Drop> {
 
 impl<T: Drop> Model for Work<T> {
     ghost use Rattle.std.specs.Prelude.{map};
-    ghost use Rattle.nz_spec.specs.Work.{WorkList};
+    ghost use Rattle.nz_spec.specs.search.Work.{WorkList};
 
     ghost Value = { WorkList T };
 

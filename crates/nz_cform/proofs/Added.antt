@@ -7,7 +7,7 @@ use Rattle.std.proofs.lemmas.List.Elements.{All-append, All-cons, All-contains, 
 use Rattle.std.proofs.lemmas.List.Kept.{AllPairs-cons}
 use Rattle.nz_lists.proofs.Numbers.{same_or_other}
 use Rattle.nz_lists.proofs.Members.{has_first, has_more}
-use Rattle.nz_spec.specs.Table.{Node}
+use Rattle.nz_spec.specs.terms.Table.{Node}
 use Rattle.nz_log.specs.Logs.{Entry, JoinsAtoms, LogState, entry_at, IsLive, Puts, row_term}
 use Rattle.nz_log.specs.Sound.{IsLog}
 use Rattle.nz_cform.specs.Covering.{AddsRows, AreAdded, GoesOn, IsRowAt, Keeps}

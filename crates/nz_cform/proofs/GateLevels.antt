@@ -3,21 +3,22 @@ use Rattle.std.proofs.Common.{◌≡◌, ℕ, zero, suc, ◌<◌, ◌≤◌, Boo
 use Rattle.std.specs.Prelude.{All, Contains, slice_get, unwrap_or, if◌then◌else◌}
 use Rattle.std.specs.List.{AllByRecursion}
 use Rattle.std.proofs.lemmas.List.Elements.{All-head}
-use Rattle.nz_spec.specs.Term.{Head, verum, falsum, negation, conjunction, disjunction, exclusion, equality, choice, bool_sort}
-use Rattle.nz_spec.specs.Table.{Node}
-use Rattle.nz_spec.specs.Literal.{once}
-use Rattle.nz_spec.specs.Gates.{clauses_over}
+use Rattle.nz_spec.specs.terms.Term.{Head, verum, falsum, negation, conjunction, disjunction, exclusion, equality, choice, bool_sort}
+use Rattle.nz_spec.specs.terms.Table.{Node}
+use Rattle.nz_spec.specs.clauses.Literal.{once}
+use Rattle.nz_spec.specs.clauses.Gates.{clauses_over}
 use Rattle.nz_lists.proofs.Elements.{AllByRecursion-append}
 use Rattle.nz_lists.proofs.Members.{has_first}
 use Rattle.nz_log.specs.declared.atoms.Atom.{Atom}
-use Rattle.nz_log.specs.declared.term_lits.TermLit.{TermLit}
+use Rattle.nz_term.specs.declared.term_lits.TermLit.{TermLit}
 use Rattle.nz_log.specs.Atoms.{HasTerm, TellsLits, lit_of, lits_of, terms_at, terms_of}
 use Rattle.nz_log.specs.Leveled.{LevelsReach}
 use Rattle.nz_log.specs.Lits.{are_same_lit}
-use Rattle.nz_log.specs.TermLits.{yes, no, is_boolean_at, gates_at}
+use Rattle.nz_rows.specs.GateRows.{is_boolean_at, gates_at}
+use Rattle.nz_term.specs.TermLits.{yes, no}
 use Rattle.nz_log.specs.Logs.{LogState, told_of, told_level, level_with, gate_entry}
 use Rattle.nz_cform.specs.Covering.{AreNamed, gate_terms}
-use Rattle.nz_cform.proofs.Elements.{once_has}
+use Rattle.nz_lists.proofs.Once.{once_has}
 use Rattle.nz_cform.proofs.RowClauses.{level_is}
 
 -- ---- What a clause names first

@@ -1,13 +1,13 @@
 mod Added
-mod Adding
 mod AtomsStay
-mod Bounding
-mod Covering
+mod CoveragePreservation
+mod CoveredTerms
 mod Elements
 mod GateLevels
 mod Kept
 pub mod Levels
 mod Listed
+mod ListedBounds
 mod Parts
 mod PartsCovered
 mod RowClauses
@@ -15,6 +15,7 @@ mod RowNames
 mod RowsMet
 mod RowsPut
 mod Sizes
-mod Staying
-mod Stopping
+mod TableClauses
+mod TableRows
 mod Underway
+mod WideRows

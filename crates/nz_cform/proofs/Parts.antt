@@ -3,9 +3,9 @@ use Rattle.std.proofs.Common.{◌≡◌, ◌<◌, inl, inr, ℕ, List, [], ◌�
 use Rattle.std.specs.Prelude.{All, Contains}
 use Rattle.std.specs.List.{AllByRecursion}
 use Rattle.std.proofs.lemmas.List.Elements.{All-from_recursion, Contains-append_cases, Contains-append_left, Contains-append_right, Contains-push, Contains-push_cases}
-use Rattle.nz_spec.specs.Term.{Head, Term, apply, Terms, no_terms, terms}
-use Rattle.nz_spec.specs.Table.{terms_at}
-use Rattle.nz_spec.specs.Order.{post_order, post_orders}
+use Rattle.nz_spec.specs.terms.Term.{Head, Term, apply, Terms, no_terms, terms}
+use Rattle.nz_spec.specs.terms.Table.{terms_at}
+use Rattle.nz_spec.specs.terms.Order.{post_order, post_orders}
 use Rattle.nz_lists.proofs.Elements.{AllByRecursion-weaker}
 
 -- a term is a part of itself

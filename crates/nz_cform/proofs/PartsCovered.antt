@@ -6,24 +6,26 @@ use Rattle.std.proofs.lemmas.List.Elements.{Contains-append_cases, Contains-push
 use Rattle.std.proofs.lemmas.Option.{slice_get-get_or}
 use Rattle.nz_lists.proofs.Elements.{AllByRecursion-weaker}
 use Rattle.nz_lists.proofs.Members.{by_each, each_of, has_cases, map_has}
-use Rattle.nz_spec.specs.FormOf.{number_in, UnitsAreParts}
-use Rattle.nz_spec.specs.Gates.{gate_clauses}
-use Rattle.nz_spec.specs.Literal.{are_same_literal}
-use Rattle.nz_spec.specs.Order.{post_order, post_orders}
-use Rattle.nz_spec.specs.Table.{Node, IsTable, HasOneNumberEach, OneNumber, TermOfNode, term_in, terms_at}
-use Rattle.nz_spec.specs.Taken.{IsTaken}
-use Rattle.nz_spec.specs.Term.{Term, apply, falsum}
+use Rattle.nz_spec.specs.terms.FormOf.{number_in, UnitsAreParts}
+use Rattle.nz_spec.specs.clauses.Gates.{gate_clauses}
+use Rattle.nz_spec.specs.clauses.Literal.{are_same_literal}
+use Rattle.nz_spec.specs.terms.Order.{post_order, post_orders}
+use Rattle.nz_spec.specs.terms.Table.{Node, IsTable, HasOneNumberEach, OneNumber, TermOfNode, term_in, terms_at}
+use Rattle.nz_spec.specs.terms.Taken.{IsTaken}
+use Rattle.nz_spec.specs.terms.Term.{Term, apply, falsum}
 use Rattle.nz_log.specs.declared.lits.Lit.{Lit}
-use Rattle.nz_log.specs.declared.term_lits.TermLit.{TermLit}
+use Rattle.nz_term.specs.declared.term_lits.TermLit.{TermLit}
 use Rattle.nz_log.specs.Atoms.{IsLitIn, clause_in, literal_in, terms_of}
 use Rattle.nz_log.specs.Leveled.{Names}
 use Rattle.nz_log.specs.Logs.{LogState, entry_at, level_at, literals_at, row_term}
 use Rattle.nz_log.specs.Sound.{AxiomsAreTaken, GatesAreNamed, GatesNameArguments, IsLog}
-use Rattle.nz_log.specs.TermLits.{clause_of_terms, gates_at, literal_of}
+use Rattle.nz_rows.specs.GateRows.{gates_at}
+use Rattle.nz_term.specs.TermLits.{clause_of_terms, literal_of}
 use Rattle.nz_cform.specs.Covering.{Covers, IsRowAt, kids_at}
 use Rattle.nz_cform.specs.Forms.{FormState, covered_at, IsCoveredWithin}
 use Rattle.nz_cform.specs.Laws.{RowsNameCovered}
-use Rattle.nz_cform.proofs.Elements.{each_mapped, each_once}
+use Rattle.nz_lists.proofs.Once.{each_once}
+use Rattle.nz_cform.proofs.Elements.{each_mapped}
 use Rattle.nz_cform.proofs.Kept.{some_entry}
 use Rattle.nz_cform.proofs.Levels.{covered_within, level_of}
 use Rattle.nz_cform.proofs.Parts.{arguments_are_parts, itself}

@@ -5,15 +5,15 @@ use Rattle.std.specs.List.{AllByRecursion}
 use Rattle.nz_lists.proofs.Elements.{AllByRecursion-map}
 use Rattle.nz_lists.proofs.Members.{each_of, map_from}
 use Rattle.nz_fractions.specs.Fraction.{Fraction}
-use Rattle.nz_spec.specs.Computation.{Computation}
-use Rattle.nz_spec.specs.FormOf.{number_in}
-use Rattle.nz_spec.specs.Gates.{gate_clauses}
-use Rattle.nz_spec.specs.Links.{link_clauses}
-use Rattle.nz_spec.specs.Literal.{Literal, Clause, clause_of, are_same_literal, term_literal, TellsLiterals}
-use Rattle.nz_spec.specs.Steps.{clause_at}
-use Rattle.nz_spec.specs.Table.{Node, IsTable, HasOneNumberEach, term_in}
-use Rattle.nz_spec.specs.Term as spec
-use Rattle.nz_spec.specs.Units.{unit_clauses}
+use Rattle.nz_spec.specs.numbers.Computation.{Computation}
+use Rattle.nz_spec.specs.terms.FormOf.{number_in}
+use Rattle.nz_spec.specs.clauses.Gates.{gate_clauses}
+use Rattle.nz_spec.specs.clauses.Links.{link_clauses}
+use Rattle.nz_spec.specs.clauses.Literal.{Literal, Clause, clause_of, are_same_literal, term_literal, TellsLiterals}
+use Rattle.nz_spec.specs.clauses.Steps.{clause_at}
+use Rattle.nz_spec.specs.terms.Table.{Node, IsTable, HasOneNumberEach, term_in}
+use Rattle.nz_spec.specs.terms.Term as spec
+use Rattle.nz_spec.specs.clauses.Units.{unit_clauses}
 use Rattle.nz_lin.specs.declared.form.Part.{Part}
 use Rattle.nz_lin.specs.Bounds.{bounded}
 use Rattle.nz_lin.specs.Forms.{NamesUnit, parts_over}
@@ -25,7 +25,7 @@ use Rattle.nz_log.specs.Axioms.{link_of, unit_of, farkas_of, branch_of, cut_of}
 use Rattle.nz_log.specs.Logs.{Origin, assertion_of, gate_of, axiom_of, chain_of, Entry, LogState, level_of_terms, level_with, row_term, told_level}
 use Rattle.nz_log.specs.Leveled.{LevelsReach}
 use Rattle.nz_log.specs.Sound.{AxiomsAreTaken, IsMade}
-use Rattle.nz_cform.proofs.Elements.{once_has}
+use Rattle.nz_lists.proofs.Once.{once_has}
 use Rattle.nz_cform.proofs.RowNames.{Named, Names, names_of, negation_names, units_of}
 
 -- ---- What a literal names

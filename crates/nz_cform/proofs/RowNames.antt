@@ -6,18 +6,18 @@ use Rattle.std.proofs.lemmas.List.Elements.{Contains-append_left, Contains-appen
 use Rattle.nz_lists.proofs.Elements.{AllByRecursion-weaker}
 use Rattle.nz_lists.proofs.Members.{has_first, has_more}
 use Rattle.nz_fractions.specs.Fraction.{Fraction, whole, outcome, Arithmetic, Sum, Difference, Product, Quotient}
-use Rattle.nz_spec.specs.Computation.{Computation, operated, at_once, turned_into, in_turn}
-use Rattle.nz_spec.specs.Term.{int_sort, real_sort, Head, equality, choice, less, at_most, integer_quotient, modulus, magnitude, to_int, is_int, Term, apply, Terms, no_terms, terms, is_zero}
-use Rattle.nz_spec.specs.Same.{are_same_term, TellsTerms}
-use Rattle.nz_spec.specs.Form.{Numbering, Part, Form, unit_form, with_part, negated_part, part_alone, part_joined, parts_joined}
-use Rattle.nz_spec.specs.FormOf.{form_of, UnitsAreParts}
-use Rattle.nz_spec.specs.Literal.{Literal, term_literal, is_at_most, is_below, negation_of, Clause}
-use Rattle.nz_spec.specs.Gates.{holds, fails, is_boolean_term}
-use Rattle.nz_spec.specs.Links.{minus, at_most_literal, below_literal, link_clauses}
-use Rattle.nz_spec.specs.Linear.{constant_value}
-use Rattle.nz_spec.specs.Units.{quotient_rows, remainder_rows, unit_clauses}
-use Rattle.nz_spec.specs.Order.{post_order, post_orders}
-use Rattle.nz_spec.specs.Taken.{IsTakenHead, IsTaken}
+use Rattle.nz_spec.specs.numbers.Computation.{Computation, operated, at_once, turned_into, in_turn}
+use Rattle.nz_spec.specs.terms.Term.{int_sort, real_sort, Head, equality, choice, less, at_most, integer_quotient, modulus, magnitude, to_int, is_int, Term, apply, Terms, no_terms, terms, is_zero}
+use Rattle.nz_spec.specs.terms.Same.{are_same_term, TellsTerms}
+use Rattle.nz_spec.specs.terms.Form.{Numbering, Part, Form, unit_form, with_part, negated_part, part_alone, part_joined, parts_joined}
+use Rattle.nz_spec.specs.terms.FormOf.{form_of, UnitsAreParts}
+use Rattle.nz_spec.specs.clauses.Literal.{Literal, term_literal, is_at_most, is_below, negation_of, Clause}
+use Rattle.nz_spec.specs.clauses.Gates.{holds, fails, is_boolean_term}
+use Rattle.nz_spec.specs.clauses.Links.{minus, at_most_literal, below_literal, link_clauses}
+use Rattle.nz_spec.specs.terms.Linear.{constant_value}
+use Rattle.nz_spec.specs.clauses.Units.{quotient_rows, remainder_rows, unit_clauses}
+use Rattle.nz_spec.specs.terms.Order.{post_order, post_orders}
+use Rattle.nz_spec.specs.terms.Taken.{IsTakenHead, IsTaken}
 use Rattle.nz_cform.proofs.Parts.{itself}
 use Rattle.nz_cform.proofs.Sizes.{size, sizes}
 

@@ -5,28 +5,29 @@ use Rattle.std.specs.List.{AllByRecursion}
 use Rattle.std.proofs.lemmas.List.{length-map}
 use Rattle.std.proofs.lemmas.Option.{same_Some, slice_get_within}
 use Rattle.nz_lists.proofs.Members.{map_has}
-use Rattle.nz_spec.specs.Basis.{Valuation}
-use Rattle.nz_spec.specs.Computation.{Computation, at_once, turned_into}
-use Rattle.nz_spec.specs.Deciding.{HasMetLiteral}
-use Rattle.nz_spec.specs.FormOf.{number_in}
-use Rattle.nz_spec.specs.Gates.{gate_clauses}
-use Rattle.nz_spec.specs.Links.{link_clauses}
-use Rattle.nz_spec.specs.Literal.{Clause, are_same_literal, clause_of}
-use Rattle.nz_spec.specs.Order.{post_order}
-use Rattle.nz_spec.specs.Steps.{clause_at}
-use Rattle.nz_spec.specs.Table.{Node, IsTable, TermOfNode, term_in}
-use Rattle.nz_spec.specs.Term.{Term}
-use Rattle.nz_spec.specs.Units.{unit_clauses}
+use Rattle.nz_spec.specs.simplex.Basis.{Valuation}
+use Rattle.nz_spec.specs.numbers.Computation.{Computation, at_once, turned_into}
+use Rattle.nz_spec.specs.laws.Deciding.{HasMetLiteral}
+use Rattle.nz_spec.specs.terms.FormOf.{number_in}
+use Rattle.nz_spec.specs.clauses.Gates.{gate_clauses}
+use Rattle.nz_spec.specs.clauses.Links.{link_clauses}
+use Rattle.nz_spec.specs.clauses.Literal.{Clause, are_same_literal, clause_of}
+use Rattle.nz_spec.specs.terms.Order.{post_order}
+use Rattle.nz_spec.specs.clauses.Steps.{clause_at}
+use Rattle.nz_spec.specs.terms.Table.{Node, IsTable, TermOfNode, term_in}
+use Rattle.nz_spec.specs.terms.Term.{Term}
+use Rattle.nz_spec.specs.clauses.Units.{unit_clauses}
 use Rattle.nz_log.specs.declared.lits.Lit.{Lit}
 use Rattle.nz_log.specs.Atoms.{clause_in, literal_in}
 use Rattle.nz_log.specs.Axioms.{Axiom, IsAxiom, link_of, unit_of}
 use Rattle.nz_log.specs.Logs.{gate_of, axiom_of, Entry, LogState, entry_at, row_term}
 use Rattle.nz_log.specs.Sound.{AxiomsAreTaken, GatesAreNamed, IsLog, IsMade}
-use Rattle.nz_log.specs.TermLits.{clause_of_terms, gates_at}
+use Rattle.nz_rows.specs.GateRows.{gates_at}
+use Rattle.nz_term.specs.TermLits.{clause_of_terms}
 use Rattle.nz_cform.specs.Covering.{Covers, HasClause, IsRowAt}
 use Rattle.nz_cform.specs.Forms.{FormState, covered_at}
 use Rattle.nz_cform.specs.Laws.{MeetsClauses, MeetsRows, RowsMeetTables}
-use Rattle.nz_cform.proofs.Elements.{once_from}
+use Rattle.nz_lists.proofs.Once.{once_from}
 use Rattle.nz_cform.proofs.Kept.{some_entry}
 use Rattle.nz_cform.proofs.Levels.{level_of}
 use Rattle.nz_cform.proofs.Listed.{has_some}

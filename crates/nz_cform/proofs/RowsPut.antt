@@ -6,26 +6,26 @@ use Rattle.std.proofs.lemmas.Option.{slice_get_within}
 use Rattle.std.proofs.lemmas.List.Elements.{recursion_from_All}
 use Rattle.nz_lists.proofs.Numbers.{same_or_other}
 use Rattle.nz_lists.proofs.Members.{each_of}
-use Rattle.nz_spec.specs.Same.{TellsTerms}
-use Rattle.nz_spec.specs.FormOf.{number_in, UnitsAreParts}
-use Rattle.nz_spec.specs.Links.{link_clauses}
-use Rattle.nz_spec.specs.Literal.{Clause, clause_of, TellsLiterals}
-use Rattle.nz_spec.specs.Table.{Node, HasOneNumberEach, term_in}
-use Rattle.nz_spec.specs.Taken.{IsTaken}
-use Rattle.nz_spec.specs.Units.{unit_clauses}
+use Rattle.nz_spec.specs.terms.Same.{TellsTerms}
+use Rattle.nz_spec.specs.terms.FormOf.{number_in, UnitsAreParts}
+use Rattle.nz_spec.specs.clauses.Links.{link_clauses}
+use Rattle.nz_spec.specs.clauses.Literal.{Clause, clause_of, TellsLiterals}
+use Rattle.nz_spec.specs.terms.Table.{Node, HasOneNumberEach, term_in}
+use Rattle.nz_spec.specs.terms.Taken.{IsTaken}
+use Rattle.nz_spec.specs.clauses.Units.{unit_clauses}
 use Rattle.nz_log.specs.declared.lits.Lit.{Lit}
-use Rattle.nz_log.specs.declared.term_lits.TermLit.{TermLit}
+use Rattle.nz_term.specs.declared.term_lits.TermLit.{TermLit}
 use Rattle.nz_log.specs.Atoms.{AtomsOfTerms, HasTerm, IsLitIn, TellsLits, clause_in, lits_of}
 use Rattle.nz_log.specs.Axioms.{Axiom, link_of, unit_of, farkas_of, branch_of, cut_of}
 use Rattle.nz_log.specs.Leveled.{LevelsReach}
 use Rattle.nz_log.specs.Lits.{are_same_lit}
 use Rattle.nz_log.specs.Logs.{Origin, assertion_of, gate_of, axiom_of, chain_of, Entry, LogState, axiom_entry, entry_at, gate_entry, level_at, row_term, told_of, told_level, Puts, PutsAxiom}
-use Rattle.nz_log.specs.TermLits.{gates_at}
+use Rattle.nz_rows.specs.GateRows.{gates_at}
 use Rattle.nz_cform.specs.Forms.{FormState, covered_at}
 use Rattle.nz_cform.specs.Covering.{AreNamed, HasClause, HasGate, HasRowsBelow, IsBelow, IsOnAtoms, IsRowAt, gate_clause, gate_terms, origin_at}
 use Rattle.nz_cform.proofs.Added.{put_kept}
 use Rattle.nz_cform.proofs.AtomsStay.{gate_stays}
-use Rattle.nz_cform.proofs.Elements.{each_once}
+use Rattle.nz_lists.proofs.Once.{each_once}
 use Rattle.nz_cform.proofs.GateLevels.{gate_level}
 use Rattle.nz_cform.proofs.Kept.{clause_kept, level_kept, made_live, on_atoms_kept}
 use Rattle.nz_cform.proofs.RowClauses.{placed, says_level}

@@ -1,7 +1,7 @@
 -- Sizes of terms, by which the covering of terms comes to an end.
 use Rattle.std.proofs.Common.{◌≡◌, ℕ, suc, ◌+◌, ◌<◌, List, [], ◌∷◌, ◌++◌, refl, ap, ◌∙◌, arith}
-use Rattle.nz_spec.specs.Term.{Term, apply, Terms, no_terms, terms, Head}
-use Rattle.nz_spec.specs.Table.{terms_at}
+use Rattle.nz_spec.specs.terms.Term.{Term, apply, Terms, no_terms, terms, Head}
+use Rattle.nz_spec.specs.terms.Table.{terms_at}
 
 -- how many terms one is made of
 abbrev mutual

@@ -3,10 +3,10 @@ use Rattle.std.proofs.Common.{◌≡◌, ℕ, ◌<◌, ◌≤◌, inl, inr, List
 use Rattle.std.specs.Prelude.{All, Contains, IsSome, unwrap_or}
 use Rattle.std.proofs.lemmas.List.Elements.{All-append, All-cons, All-head, All-nil, All-pop, All-push, All-tail, All-weaker}
 use Rattle.nz_lists.proofs.Numbers.{same_or_other}
-use Rattle.nz_spec.specs.Term.{Head, apply}
-use Rattle.nz_spec.specs.Table.{Node, term_in, terms_at}
-use Rattle.nz_spec.specs.Taken.{IsTaken, TakenTermsAreInOrder}
-use Rattle.nz_spec.specs.Order.{post_order}
+use Rattle.nz_spec.specs.terms.Term.{Head, apply}
+use Rattle.nz_spec.specs.terms.Table.{Node, term_in, terms_at}
+use Rattle.nz_spec.specs.terms.Taken.{IsTaken, TakenTermsAreInOrder}
+use Rattle.nz_spec.specs.terms.Order.{post_order}
 use Rattle.nz_log.specs.Logs.{LogState, told_level}
 use Rattle.nz_log.specs.Sound.{IsLog}
 use Rattle.nz_cform.specs.declared.stop.FormStop.{FormStop}

@@ -1,21 +1,21 @@
 -- What it is that the covered terms have their clauses in a log: those of the gate table, of the link table and of the unit table.
 use Rattle.std.specs.Prelude.{◌≡◌, ◌≢◌, ◌↔◌, ◌⊎◌, ⊤, ℕ, ◌<◌, ◌≤◌, List, [], ◌++◌, length, Option, Some, None, All, Contains, IsSome, slice_get, option_map, unwrap_or}
 use Rattle.std.specs.List.{AllPairs}
-use Rattle.nz_spec.specs.FormOf.{number_in}
-use Rattle.nz_spec.specs.Links.{link_clauses}
-use Rattle.nz_spec.specs.Literal.{once}
-use Rattle.nz_spec.specs.Table.{Node, term_in}
-use Rattle.nz_spec.specs.Units.{unit_clauses}
+use Rattle.nz_spec.specs.terms.FormOf.{number_in}
+use Rattle.nz_spec.specs.clauses.Links.{link_clauses}
+use Rattle.nz_spec.specs.clauses.Literal.{once}
+use Rattle.nz_spec.specs.terms.Table.{Node, term_in}
+use Rattle.nz_spec.specs.clauses.Units.{unit_clauses}
 use Rattle.nz_lin.specs.declared.bound.Bound.{Bound}
 use Rattle.nz_log.specs.declared.atoms.Atom.{Atom}
 use Rattle.nz_log.specs.declared.atoms.Atom.TheVariants.{AtMost}
 use Rattle.nz_log.specs.declared.lits.Lit.{Lit}
-use Rattle.nz_log.specs.declared.term_lits.TermLit.{TermLit}
+use Rattle.nz_term.specs.declared.term_lits.TermLit.{TermLit}
 use Rattle.nz_log.specs.Atoms.{HasTerm, Stay, lits_of}
 use Rattle.nz_log.specs.Axioms.{link_of, unit_of}
 use Rattle.nz_log.specs.Lits.{are_same_lit}
 use Rattle.nz_log.specs.Sound.{IsLog}
-use Rattle.nz_log.specs.TermLits.{gates_at}
+use Rattle.nz_rows.specs.GateRows.{gates_at}
 use Rattle.nz_log.specs.Logs.{Origin, gate_of, axiom_of, row_term, Entry, LogState, entry_at, IsLive, literals_at, level_at, told_of, told_level}
 use Rattle.nz_cform.specs.Listings.{ListingState, IsListedWithin, listed_at}
 use Rattle.nz_cform.specs.Forms.{FormState, covered_at, IsCoveredWithin}

@@ -1,24 +1,24 @@
 -- Laws of covered terms.
 use Rattle.std.specs.Prelude.{◌≡◌, ℕ, Bool, List, ◌++◌, Option, None, Contains, IsSome}
-use Rattle.nz_spec.specs.Basis.{Valuation}
-use Rattle.nz_spec.specs.Deciding.{IsMet, HasMetLiteral}
-use Rattle.nz_spec.specs.FormOf.{number_in}
-use Rattle.nz_spec.specs.Gates.{gate_clauses}
-use Rattle.nz_spec.specs.Links.{link_clauses}
-use Rattle.nz_spec.specs.Computation.{Computation}
-use Rattle.nz_spec.specs.Literal.{Clause}
-use Rattle.nz_spec.specs.Order.{post_order}
-use Rattle.nz_spec.specs.Table.{Node, IsTable, term_in}
-use Rattle.nz_spec.specs.Taken.{IsTaken}
-use Rattle.nz_spec.specs.Term.{Term}
-use Rattle.nz_spec.specs.Units.{unit_clauses}
+use Rattle.nz_spec.specs.simplex.Basis.{Valuation}
+use Rattle.nz_spec.specs.laws.Deciding.{IsMet, HasMetLiteral}
+use Rattle.nz_spec.specs.terms.FormOf.{number_in}
+use Rattle.nz_spec.specs.clauses.Gates.{gate_clauses}
+use Rattle.nz_spec.specs.clauses.Links.{link_clauses}
+use Rattle.nz_spec.specs.numbers.Computation.{Computation}
+use Rattle.nz_spec.specs.clauses.Literal.{Clause}
+use Rattle.nz_spec.specs.terms.Order.{post_order}
+use Rattle.nz_spec.specs.terms.Table.{Node, IsTable, term_in}
+use Rattle.nz_spec.specs.terms.Taken.{IsTaken}
+use Rattle.nz_spec.specs.terms.Term.{Term}
+use Rattle.nz_spec.specs.clauses.Units.{unit_clauses}
 use Rattle.std.specs.List.{AllByRecursion}
 use Rattle.nz_log.specs.declared.lits.Lit.{Lit}
 use Rattle.nz_log.specs.Atoms.{literal_in}
 use Rattle.nz_log.specs.Leveled.{Names}
 use Rattle.nz_log.specs.Logs.{Entry, LogState, empty_log, level_at, literals_at, JoinsAtoms, Puts, Drops, row_term}
 use Rattle.nz_log.specs.Sound.{IsLog}
-use Rattle.nz_log.specs.Theories.{Grows}
+use Rattle.nz_log.specs.Growth.{Grows}
 use Rattle.nz_cform.specs.Forms.{FormState, covered_at, empty_form, Cuts, IsCoveredWithin}
 use Rattle.nz_cform.specs.Covering.{Covers, IsRowAt}
 

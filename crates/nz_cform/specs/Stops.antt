@@ -1,15 +1,15 @@
 -- Where the clauses of terms leave the numbers.
 use Rattle.std.specs.Prelude.{◌≡◌, ℕ, ◌<◌, ⊤, List, length, Contains}
 use Rattle.nz_fractions.specs.Fraction.{IsNumber}
-use Rattle.nz_spec.specs.FormOf.{number_in}
-use Rattle.nz_spec.specs.Order.{post_order}
-use Rattle.nz_spec.specs.Places.{LeavesNumbers, term_operations}
-use Rattle.nz_spec.specs.Table.{Node, term_in}
-use Rattle.nz_spec.specs.Term.{Term}
+use Rattle.nz_spec.specs.terms.FormOf.{number_in}
+use Rattle.nz_spec.specs.terms.Order.{post_order}
+use Rattle.nz_spec.specs.search.Places.{LeavesNumbers, term_operations}
+use Rattle.nz_spec.specs.terms.Table.{Node, term_in}
+use Rattle.nz_spec.specs.terms.Term.{Term}
 use Rattle.nz_frac.specs.declared.frac.Wide as frac
 use Rattle.nz_frac.specs.Operations.{operation_of}
-use Rattle.nz_lin.specs.declared.form.LinStop as lin
-use Rattle.nz_lin.specs.declared.form.LinStop.TheVariants as stops
+use Rattle.nz_term.specs.declared.stops.ArithmeticStop as lin
+use Rattle.nz_term.specs.declared.stops.ArithmeticStop.TheVariants as stops
 use Rattle.nz_cform.specs.declared.stop.FormStop.{FormStop}
 use Rattle.nz_cform.specs.declared.stop.FormStop.TheVariants.{Wide, Memory}
 
@@ -26,6 +26,6 @@ pub record IsStopIn (ns : List Node) (root : Term) (wide : frac.Wide) (term : �
   pub leaves : LeavesNumbers (operation_of wide)
 
 -- what stops a row of a term: the same operation, which is one on numbers, or want of memory
-abbrev pub IsStopOf : lin.LinStop → ℕ → FormStop → Type 0
+abbrev pub IsStopOf : lin.ArithmeticStop → ℕ → FormStop → Type 0
 IsStopOf (stops.Wide wide) term stop = (stop ≡ Wide wide term) × IsNumber wide.a × IsNumber wide.b
 IsStopOf stops.Memory term stop = stop ≡ Memory

@@ -1,9 +1,9 @@
 //! Which terms have their clauses in a log.
 ghost use Rattle.std.specs.Prelude.{◌≡◌, ◌≢◌, ◌↔◌, ℕ, ◌≤◌, ◌<◌, List, length, None, Contains, OnOk, IfErr, IfOk, IsSome, is_some};
 ghost use Rattle.std.specs.List.{AllPairs};
-ghost use Rattle.nz_spec.specs.Order.{HasCompanions, post_order};
-ghost use Rattle.nz_spec.specs.Table.{term_in};
-ghost use Rattle.nz_spec.specs.Taken.{IsTaken};
+ghost use Rattle.nz_spec.specs.terms.Order.{HasCompanions, post_order};
+ghost use Rattle.nz_spec.specs.terms.Table.{term_in};
+ghost use Rattle.nz_spec.specs.terms.Taken.{IsTaken};
 ghost use Rattle.nz_log.specs.Logs.{told_level};
 ghost use Rattle.nz_log.specs.Sound.{IsLog};
 ghost use Rattle.nz_cform.specs.Covering.{AddsRows, AreAdded, Covers, HasBounds, HasRows, Keeps};

@@ -1,5 +1,5 @@
 //! Numbers that are listed, each at a level.
-ghost use Rattle.std.specs.Prelude.{◌≡◌, ◌≢◌, ◌↔◌, ◌⊎◌, ℕ, ◌<◌, List, length, filter, None, Some, All, Contains, OnErr, OnOk, IsSome, is_some, slice_index_or};
+ghost use Rattle.std.specs.Prelude.{◌≡◌, ◌≢◌, ◌↔◌, ◌⊎◌, ℕ, ◌<◌, length, filter, None, Some, All, Contains, OnErr, OnOk, IsSome, is_some, slice_index_or};
 ghost use Rattle.std.specs.List.{AllPairs};
 ghost use Rattle.nz_log.specs.Logs.{told_below};
 ghost use Rattle.nz_cform.specs.Listings.{Cuts, Takes, empty_listing, listed_at};

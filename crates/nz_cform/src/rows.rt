@@ -1,12 +1,12 @@
 //! The clauses of one term.
 ghost use Rattle.std.specs.Prelude.{ℕ, ◌<◌, length, IfErr, OnOk};
-ghost use Rattle.nz_spec.specs.FormOf.{number_in};
-ghost use Rattle.nz_spec.specs.Links.{link_clauses};
-ghost use Rattle.nz_spec.specs.Order.{HasCompanions};
-ghost use Rattle.nz_spec.specs.Table.{term_in};
-ghost use Rattle.nz_spec.specs.Taken.{IsTaken};
-ghost use Rattle.nz_spec.specs.Units.{unit_clauses};
-ghost use Rattle.nz_log.specs.TermLits.{gates_at};
+ghost use Rattle.nz_spec.specs.terms.FormOf.{number_in};
+ghost use Rattle.nz_spec.specs.clauses.Links.{link_clauses};
+ghost use Rattle.nz_spec.specs.terms.Order.{HasCompanions};
+ghost use Rattle.nz_spec.specs.terms.Table.{term_in};
+ghost use Rattle.nz_spec.specs.terms.Taken.{IsTaken};
+ghost use Rattle.nz_spec.specs.clauses.Units.{unit_clauses};
+ghost use Rattle.nz_rows.specs.GateRows.{gates_at};
 ghost use Rattle.nz_cform.specs.Covering.{AddsRows, GoesOn, HasRowsBelow};
 ghost use Rattle.nz_cform.specs.Forms.{FormState};
 ghost use Rattle.nz_cform.specs.Stops.{IsStopIn, OnWide};
@@ -14,7 +14,8 @@ ghost use Rattle.nz_cform.specs.Stops.{IsStopIn, OnWide};
 use crate::stop::FormStop;
 use nz_base::Memory;
 use nz_log::laws::{atoms_of_terms, gates_are_named, levels_reach, tells_lits};
-use nz_log::{ClauseId, Log, gate_count, link_count, unit_count};
+use nz_log::{ClauseId, Log};
+use nz_rows::{gate_rows, link_rows, unit_rows};
 use nz_spec::deciding::taken_terms_are_in_order;
 use nz_spec::derivation::tells_literals;
 use nz_spec::form::units_are_parts;
@@ -41,8 +42,11 @@ pub fn add_gates(
     tells_lits();
     taken_terms_are_in_order();
     known_table(terms);
-    for j in 0..gate_count(terms, term) {
-        let clause = log.gate(terms, term, j)?;
+    let rows = gate_rows(*clauses.allocator(), terms, term)?;
+    let from = clauses.len();
+    for row in rows {
+        let j = clauses.len() - from;
+        let clause = log.gate(terms, term, j, row)?;
         clauses.push(clause)?;
     }
     Ok(())
@@ -69,11 +73,14 @@ pub fn add_links(
     one_number();
     taken_terms_are_in_order();
     known_table(terms);
-    for j in 0..link_count(terms, term) {
-        let clause = match log.link(terms, term, j) {
-            Ok(clause) => clause,
-            Err(stop) => return Err(FormStop::of(stop, term)),
-        };
+    let rows = match link_rows(*clauses.allocator(), terms, term) {
+        Ok(rows) => rows,
+        Err(stop) => return Err(FormStop::of(stop, term)),
+    };
+    let from = clauses.len();
+    for row in rows {
+        let j = clauses.len() - from;
+        let clause = log.link(terms, term, j, row)?;
         clauses.push(clause)?;
     }
     Ok(())
@@ -102,11 +109,14 @@ pub fn add_units(
     one_number();
     taken_terms_are_in_order();
     known_table(terms);
-    for j in 0..unit_count(terms, term) {
-        let clause = match log.unit_axiom(terms, term, j) {
-            Ok(clause) => clause,
-            Err(stop) => return Err(FormStop::of(stop, term)),
-        };
+    let rows = match unit_rows(*clauses.allocator(), terms, term) {
+        Ok(rows) => rows,
+        Err(stop) => return Err(FormStop::of(stop, term)),
+    };
+    let from = clauses.len();
+    for row in rows {
+        let j = clauses.len() - from;
+        let clause = log.unit_axiom(terms, term, j, row)?;
         clauses.push(clause)?;
     }
     Ok(())

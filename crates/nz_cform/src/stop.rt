@@ -3,8 +3,7 @@ ghost use Rattle.nz_cform.specs.Stops.{IsStopOf};
 
 use nz_base::Memory;
 use nz_frac::Wide;
-use nz_lin::LinStop;
-use nz_term::TermId;
+use nz_term::{ArithmeticStop, TermId};
 use std::alloc::{AllocError, AllocFailed};
 
 /// Why the clauses of a term weren't put.
@@ -18,17 +17,17 @@ pub enum FormStop {
 
 impl FormStop {
     /// What stops a row of this term.
-    pub(crate) fn of(stop: LinStop, term: TermId) -> FormStop
+    pub(crate) fn of(stop: ArithmeticStop, term: TermId) -> FormStop
         ensures stop { IsStopOf stop term result }
     {
         match stop {
-            LinStop::Wide(wide) => {
+            ArithmeticStop::Wide(wide) => {
                 // Both operands are numbers, as every fraction is.
                 wide.a.num();
                 wide.b.num();
                 FormStop::Wide(wide, term)
             }
-            LinStop::Memory => FormStop::Memory,
+            ArithmeticStop::Memory => FormStop::Memory,
         }
     }
 }

@@ -1,8 +1,8 @@
 -- What is covered of a table.
 use Rattle.std.specs.Prelude.{ℕ, ◌≤◌, Bool, List}
 use Rattle.std.specs.Bool.{OnTrue}
-use Rattle.nz_spec.specs.Order.{HasCompanions}
-use Rattle.nz_spec.specs.Table.{Node}
+use Rattle.nz_spec.specs.terms.Order.{HasCompanions}
+use Rattle.nz_spec.specs.terms.Table.{Node}
 use Rattle.nz_log.specs.Logs.{LogState, told_level}
 use Rattle.nz_cform.specs.Covering as covering
 use Rattle.nz_cform.specs.Forms.{FormState}

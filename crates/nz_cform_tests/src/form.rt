@@ -15,7 +15,7 @@ const SHARED: &[Term] = &[
 ];
 
 #[test]
-fn shared_terms_have_their_gates_once(rt: HostRuntime) -> Result<(), Fail> {
+fn test_shared_terms_have_their_gates_once(rt: HostRuntime) -> Result<(), Fail> {
     const ACTS: &[Act] = &[
         // Four of each of the two, and three of the conjunction.
         Add(4, 1, 11),
@@ -29,7 +29,7 @@ fn shared_terms_have_their_gates_once(rt: HostRuntime) -> Result<(), Fail> {
 }
 
 #[test]
-fn what_is_cut_is_covered_anew(rt: HostRuntime) -> Result<(), Fail> {
+fn test_what_is_cut_is_covered_anew(rt: HostRuntime) -> Result<(), Fail> {
     const ACTS: &[Act] = &[
         Add(4, 1, 11),
         Cut(0),

@@ -20,7 +20,7 @@ const COMPARISONS: &[Term] = &[
 ];
 
 #[test]
-fn shared_sums_have_their_rows_and_bounds_once(rt: HostRuntime) -> Result<(), Fail> {
+fn test_shared_sums_have_their_rows_and_bounds_once(rt: HostRuntime) -> Result<(), Fail> {
     const ACTS: &[Act] = &[
         // Two of a comparison.
         Add(4, 1, 2),

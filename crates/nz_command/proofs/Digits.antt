@@ -1,6 +1,6 @@
 -- Lemmas of the numbers that digits spell.
 use Rattle.std.proofs.Common.{◌≡◌, ℕ, ◌+◌, ◌-◌, ◌*◌, ◌<◌, ◌≤◌, suc, List, [], ◌∷◌, ◌++◌, length, drop, get_or, Option, None, Some, IfSome, IfNone, refl, sym, ap, ◌∙◌, drop-cons, arith, subst}
-use Rattle.nz_spec.specs.Bounds.{value_onto}
+use Rattle.nz_script.specs.text.Bounds.{value_onto}
 
 -- further digits spell no smaller number
 pub value_grows : (n : ℕ) (bs : List ℕ) → n ≤ value_onto n bs

@@ -1,6 +1,6 @@
 mod Digits
-mod Listing
+mod ListLengths
 mod Members
-mod Parsing
+mod ParsedLists
 mod Sizes
 mod TermLists

@@ -3,10 +3,10 @@ use Rattle.std.proofs.Common.{◌≡◌, ℕ, ◌<◌, ◌≤◌, ◌+◌, suc, 
 use Rattle.std.proofs.Math.ListN.{drop_of_length-le}
 use Rattle.nz_sexpr.specs.declared.tree.Tree as code
 use Rattle.nz_sexpr.specs.View.{view, seen}
-use Rattle.nz_spec.specs.Tree.{Tree}
-use Rattle.nz_spec.specs.Parse.{cons_onto, each, listed_with}
+use Rattle.nz_script.specs.text.Tree.{Tree}
+use Rattle.nz_script.specs.commands.Parse.{cons_onto, each, listed_with}
 use Rattle.nz_command.specs.Requests.{entry}
-use Rattle.nz_command.proofs.Parsing.{before, parsed_next, parsed_none}
+use Rattle.nz_command.proofs.ParsedLists.{before, parsed_next, parsed_none}
 
 module _ {A : Type 0} (table : List (Bor (List ℕ) × A)) (i : ℕ) (z : Bor (List ℕ) × A) (word : List ℕ) (known : Option A) (below : i < length table) (item : z ≡ get_or table i z)
     (is : known ≡ listed_with (map entry (drop i table)) word) where

@@ -1,7 +1,7 @@
 -- The trees of a list are smaller than the list.
 use Rattle.std.proofs.Common.{◌≡◌, ℕ, ◌<◌, zero, suc, List, [], ◌∷◌, ◌++◌, length, map, take, drop, get_or, ap, arith}
-use Rattle.nz_spec.specs.Tree.{Tree}
-use Rattle.nz_spec.specs.Reading.{trees_from}
+use Rattle.nz_script.specs.text.Tree.{Tree}
+use Rattle.nz_script.specs.text.Reading.{trees_from}
 use Rattle.nz_sexpr.specs.Sizes.{tree_size, trees_size}
 
 -- a list of trees round one of its items

@@ -3,10 +3,10 @@ use Rattle.std.proofs.Common.{◌≡◌, ℕ, ◌≤◌, Bool, true, false, true
 use Rattle.std.proofs.Math.ListN.{drop_of_length-le}
 use Rattle.nz_sexpr.specs.declared.tree.Tree as code
 use Rattle.nz_sexpr.specs.View.{view, seen}
-use Rattle.nz_spec.specs.Expression.{Expression, written_use, written_let, Expressions, no_expressions, expressions, Locals, no_locals}
-use Rattle.nz_spec.specs.Parse.{expression_of, expressions_of, locals_of, expressions_onto, locals_onto, used, bound}
+use Rattle.nz_script.specs.commands.Expression.{Expression, written_use, written_let, Expressions, no_expressions, expressions, Locals, no_locals}
+use Rattle.nz_script.specs.commands.Parse.{expression_of, expressions_of, locals_of, expressions_onto, locals_onto, used, bound}
 use Rattle.nz_command.specs.View.{expressions_from, locals_from}
-use Rattle.nz_command.proofs.Parsing.{before}
+use Rattle.nz_command.proofs.ParsedLists.{before}
 
 none_is_not : {A : Type 0} (a : A) → None ≡ Some a → ⊥
 none_is_not a h = true≢false (ap is_none h)

@@ -1,5 +1,5 @@
 -- What a list begins with that may be a term.
-use Rattle.nz_spec.specs.Parse as parse
+use Rattle.nz_script.specs.commands.Parse as parse
 use Rattle.nz_command.specs.declared.terms.TermHead.{TermHead}
 use Rattle.nz_command.specs.declared.terms.TermHead.TheVariants as heads
 

@@ -1,6 +1,6 @@
 -- Lists of trees of another length, or that begin with no token.
 use Rattle.std.specs.Prelude.{⊤}
-use Rattle.nz_spec.specs.Tree.{Tree, leaf, node, Trees, no_trees, trees}
+use Rattle.nz_script.specs.text.Tree.{Tree, leaf, node, Trees, no_trees, trees}
 
 -- no token stands first
 abbrev pub IsHeadless : Trees → Type 0

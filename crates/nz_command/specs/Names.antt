@@ -1,8 +1,8 @@
 -- The arguments of the commands of the code.
 use Rattle.std.specs.Prelude.{[], Option, option_map}
-use Rattle.nz_spec.specs.Tree.{Trees}
-use Rattle.nz_spec.specs.Request.{least, greatest, Request, declares, asserts, seeks, checks, checks_assuming, pushes, pops, resets, resets_assertions, shows_model, shows_values, shows_objectives, shows_info, sets_option, sets_nothing, echoes, exits}
-use Rattle.nz_spec.specs.Parse.{name_of, keyword_of, expression_of, none, one, first, within, each, written_sort, assumption_of, some_questions, literal_of, level_count, wish_of, setting_of, info_key, info_of, function_of, written_definition}
+use Rattle.nz_script.specs.text.Tree.{Trees}
+use Rattle.nz_script.specs.commands.Request.{least, greatest, Request, declares, asserts, seeks, checks, checks_assuming, pushes, pops, resets, resets_assertions, shows_model, shows_values, shows_objectives, shows_info, sets_option, sets_nothing, echoes, exits}
+use Rattle.nz_script.specs.commands.Parse.{name_of, keyword_of, expression_of, none, one, first, within, each, written_sort, assumption_of, some_questions, literal_of, level_count, wish_of, setting_of, info_key, info_of, function_of, written_definition}
 use Rattle.nz_command.specs.declared.grammar.CommandName.{CommandName}
 use Rattle.nz_command.specs.declared.grammar.CommandName.TheVariants as names
 

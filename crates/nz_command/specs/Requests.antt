@@ -2,7 +2,7 @@
 use Rattle.std.specs.Prelude.{ℕ, List, map, Option, Some, None, option_map}
 use Rattle.std.specs.Borrow.{Bor}
 use Rattle.nz_sexpr.specs.View as trees
-use Rattle.nz_spec.specs.Request as spec
+use Rattle.nz_script.specs.commands.Request as spec
 use Rattle.nz_command.specs.View.{number_view, view}
 use Rattle.nz_command.specs.declared.command.Direction as direction
 use Rattle.nz_command.specs.declared.command.Direction.TheVariants as directions

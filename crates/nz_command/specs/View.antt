@@ -1,6 +1,6 @@
 -- The data that terms of the code stand for.
 use Rattle.std.specs.Prelude.{ℕ, List, [], ◌∷◌, map, Option, Some, None}
-use Rattle.nz_spec.specs.Expression as spec
+use Rattle.nz_script.specs.commands.Expression as spec
 use Rattle.nz_command.specs.declared.expression.Number.{Number}
 use Rattle.nz_command.specs.declared.expression.Number.TheVariants as number
 use Rattle.nz_command.specs.declared.expression.Expression.{Expression, fold-Expression}

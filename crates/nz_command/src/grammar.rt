@@ -1,9 +1,9 @@
 //! What a tree is as a command.
 ghost use Rattle.std.specs.Prelude.{◌≡◌, ℕ, List, [], Option, None, IfOk, IfSome, IfNone, option_map};
 ghost use Rattle.nz_sexpr.specs.View.{view, seen};
-ghost use Rattle.nz_spec.specs.Tree.{node, Trees, trees, no_trees};
-ghost use Rattle.nz_spec.specs.Request as spec;
-ghost use Rattle.nz_spec.specs.Parse as parse;
+ghost use Rattle.nz_script.specs.text.Tree.{node, Trees, trees, no_trees};
+ghost use Rattle.nz_script.specs.commands.Request as spec;
+ghost use Rattle.nz_script.specs.commands.Parse as parse;
 ghost use Rattle.nz_command.specs.View as views;
 ghost use Rattle.nz_command.specs.Requests.{request, direction_view};
 ghost use Rattle.nz_command.specs.Names.{arguments_of};

@@ -1,7 +1,7 @@
 //! Lists of trees taken apart.
 ghost use Rattle.std.specs.Prelude.{◌≡◌, IfSome, IfNone};
 ghost use Rattle.nz_sexpr.specs.View.{token_view, view, seen};
-ghost use Rattle.nz_spec.specs.Tree.{leaf, trees, no_trees};
+ghost use Rattle.nz_script.specs.text.Tree.{leaf, trees, no_trees};
 ghost use Rattle.nz_command.specs.Lists.{IsHeadless, IsNotOne, IsNotTwo, IsNotThree, IsShort};
 
 use nz_sexpr::{Token, Tree};

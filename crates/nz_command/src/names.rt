@@ -2,7 +2,7 @@
 ghost use Rattle.std.specs.Prelude.{◌≡◌, bytes_eq, map, option_map};
 ghost use Rattle.std.specs.List.{list_any};
 ghost use Rattle.nz_sexpr.specs.View.{token_view, view};
-ghost use Rattle.nz_spec.specs.Parse as parse;
+ghost use Rattle.nz_script.specs.commands.Parse as parse;
 ghost use Rattle.nz_command.specs.Requests.{entry};
 
 use nz_base::Text;

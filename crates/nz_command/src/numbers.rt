@@ -1,11 +1,12 @@
 //! Numerals and decimals: their numbers, and the bounds on numbers, which hold anywhere in a command.
 ghost use Rattle.std.specs.Prelude.{◌≡◌, ◌<◌, ◌≤◌, ◌||◌, ◌++◌, IfSome, IfNone, nat_lt, length, option_map, is_none};
 ghost use Rattle.nz_sexpr.specs.View.{token_view, view, seen};
-ghost use Rattle.nz_spec.specs.Tree.{before_point as front_of, after_point as places_of};
-ghost use Rattle.nz_spec.specs.Bounds as bounds;
+ghost use Rattle.nz_script.specs.text.Tree.{before_point as front_of, after_point as places_of};
+ghost use Rattle.nz_script.specs.text.Bounds as bounds;
+ghost use Rattle.nz_spec.specs.terms.Term.{place_limit};
 ghost use Rattle.nz_fractions.specs.Fraction as fractions;
-ghost use Rattle.nz_spec.specs.Expression.{written_integer, written_decimal};
-ghost use Rattle.nz_spec.specs.Parse.{fitting, token_number};
+ghost use Rattle.nz_script.specs.commands.Expression.{written_integer, written_decimal};
+ghost use Rattle.nz_script.specs.commands.Parse.{fitting, token_number};
 ghost use Rattle.nz_command.specs.View.{number_view};
 
 use crate::expression::Number;
@@ -88,7 +89,7 @@ fn token_faults(token: &Token) -> NumberFaults
 
 fn decimal_faults(bytes: &[u8]) -> NumberFaults
     ensures wide { result.wide ≡ bounds.are_wide (bounds.decimal_digits bytes.now) }
-    ensures long { result.long ≡ nat_lt bounds.place_limit (length (places_of bytes.now)) }
+    ensures long { result.long ≡ nat_lt place_limit (length (places_of bytes.now)) }
 {
     let (front, places) = around_point(bytes);
     NumberFaults {

@@ -1,9 +1,9 @@
 //! The parts of commands: sorts, parameters, assumptions, questions, attributes, options and infos.
 ghost use Rattle.std.specs.Prelude.{◌≡◌, IfOk, map, Option, option_map, option_and_then};
 ghost use Rattle.nz_sexpr.specs.View.{view, seen};
-ghost use Rattle.nz_spec.specs.Tree.{Tree};
-ghost use Rattle.nz_spec.specs.Request as requests;
-ghost use Rattle.nz_spec.specs.Parse as parse;
+ghost use Rattle.nz_script.specs.text.Tree.{Tree};
+ghost use Rattle.nz_script.specs.commands.Request as requests;
+ghost use Rattle.nz_script.specs.commands.Parse as parse;
 ghost use Rattle.nz_command.specs.Lists.{IsShort};
 ghost use Rattle.nz_command.specs.View as views;
 ghost use Rattle.nz_command.specs.Requests.{entry, sort_view, parameter_view, assumption_view, attributes_view, question_view, count_view, priority_view, setting_view, key_view};

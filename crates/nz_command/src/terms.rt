@@ -1,8 +1,8 @@
 //! What a tree is as a term.
 ghost use Rattle.std.specs.Prelude.{◌≡◌, IfOk, option_map};
 ghost use Rattle.nz_sexpr.specs.View.{token_view, view, seen};
-ghost use Rattle.nz_spec.specs.Tree.{node};
-ghost use Rattle.nz_spec.specs.Parse as parse;
+ghost use Rattle.nz_script.specs.text.Tree.{node};
+ghost use Rattle.nz_script.specs.commands.Parse as parse;
 ghost use Rattle.nz_command.specs.View as views;
 ghost use Rattle.nz_command.specs.Heads.{head_view};
 

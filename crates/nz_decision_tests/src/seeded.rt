@@ -133,7 +133,7 @@ fn is_decided(rt: &impl Abort, alloc: Global, problem: &Problem) -> Result<bool,
 }
 
 #[test]
-fn seeded_scripts_are_decided(rt: HostRuntime) -> Result<(), Fail> {
+fn test_seeded_scripts_are_decided(rt: HostRuntime) -> Result<(), Fail> {
     let mut seed = Seed { state: 14 };
     let mut found = 0u64;
     for _ in 0..SCRIPTS {

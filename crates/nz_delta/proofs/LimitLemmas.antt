@@ -1,15 +1,15 @@
 -- The limits of pairs: their divisors are not 0, and one more pair leaves the lesser of what was there and its limit.
-use Rattle.std.proofs.Common.{◌≡◌, ℕ, Bool, true, false, refl, sym, ap, ◌∙◌, subst, ℤ, pos, ◌*ℤ◌, ◌<ℤ◌, List, [], ◌∷◌, ◌++◌, map, length, drop, Some, None, Ordering, Less, Equal, Greater, is_lt, int_lt, int_le, not, arith, if◌then◌else◌, append-nil, drop_of_length-le, ◌≤◌}
+use Rattle.std.proofs.Common.{◌≡◌, ℕ, Bool, true, false, refl, sym, ap, ◌∙◌, ℤ, pos, ◌*ℤ◌, List, [], ◌∷◌, ◌++◌, map, length, drop, Some, None, Ordering, Less, Equal, Greater, is_lt, int_lt, int_le, not, arith, if◌then◌else◌, append-nil, drop_of_length-le, ◌≤◌}
 use Rattle.std.proofs.Math.IntN.{zero-*ℤ}
 use Rattle.std.proofs.lemmas.Int.{ints}
 use Rattle.nz_fractions.specs.Fraction.{Fraction, denominator, whole, ◌=ℚ◌, ◌<ℚ◌, ◌+ℚ◌, neg_ℚ, fraction_cmp, fraction_lt, fraction_le, fraction_min, outcome, Difference, Operation, first_wide}
-use Rattle.nz_spec.specs.Infinitesimal.{Pair, is_limiting, limit, limits, limit_operations, least_from, chosen_delta, delta_operations}
+use Rattle.nz_spec.specs.numbers.Infinitesimal.{Pair, is_limiting, limit, limits, limit_operations, least_from, chosen_delta, delta_operations}
 use Rattle.nz_fractions.proofs.Laws.{=ℚ_sym, =ℚ_trans, <ℚ_irrefl, ≤ℚ-from_eq}
 use Rattle.nz_fractions.proofs.Order.{fraction_ranked, fraction_cmp_is, lt-cmp}
 use Rattle.nz_fractions.proofs.Arithmetic.{outcome-difference, +ℚ-neg, cmp-+ℚ}
 use Rattle.nz_delta.specs.declared.delta.Delta.{Delta}
 use Rattle.nz_delta.specs.Pairs.{pair_of}
-use Rattle.nz_delta.proofs.WideLemmas.{first-append_none, first-append_some}
+use Rattle.nz_fractions.proofs.FirstOperations.{first_wide-none, first_wide-some}
 
 zero_value : (q : Fraction) → q.numerator ≡ pos 0 → q =ℚ whole (pos 0)
 zero_value q e =
@@ -98,7 +98,7 @@ unfolding delta_operations
 operations-cons_none x xs = by_test (is_limiting x)
   where
     by_test : (b : Bool) → first_wide (if b then limit_operations x ++ [] else []) ≡ None → first_wide (if b then limit_operations x ++ delta_operations xs else delta_operations xs) ≡ first_wide (delta_operations xs)
-    by_test true e = first-append_none (limit_operations x) (delta_operations xs) (ap first_wide (sym (append-nil (limit_operations x))) ∙ e)
+    by_test true e = first_wide-none (limit_operations x) (delta_operations xs) (ap first_wide (sym (append-nil (limit_operations x))) ∙ e)
     by_test false e = refl
 
 pub operations-cons_some : (x : Pair) (xs : List Pair) (o : Operation) → first_wide (delta_operations (x ∷ [])) ≡ Some o → first_wide (delta_operations (x ∷ xs)) ≡ Some o
@@ -106,7 +106,7 @@ unfolding delta_operations first_wide
 operations-cons_some x xs o = by_test (is_limiting x)
   where
     by_test : (b : Bool) → first_wide (if b then limit_operations x ++ [] else []) ≡ Some o → first_wide (if b then limit_operations x ++ delta_operations xs else delta_operations xs) ≡ Some o
-    by_test true e = first-append_some (limit_operations x) (delta_operations xs) o (ap first_wide (sym (append-nil (limit_operations x))) ∙ e)
+    by_test true e = first_wide-some (limit_operations x) (delta_operations xs) o (ap first_wide (sym (append-nil (limit_operations x))) ∙ e)
     by_test false e = absurd (cc)
 
 pub chosen_from : (ps : List Pair) {one : Fraction} → one ≡ whole (pos 1) → chosen_delta ps ≡ least_from one (limits ps)
@@ -124,12 +124,3 @@ unfolding delta_operations first_wide
 ended_operations ps i h = ap (λ (xs : List (Delta × Delta)). first_wide (delta_operations (map pair_of xs))) (drop_of_length-le ps h)
 
 -- ---- whole numbers
-
-pub whole-below : {m n : ℤ} {p q : Fraction} → m <ℤ n → p ≡ whole m → q ≡ whole n → p <ℚ q
-unfolding denominator
-whole-below {m} {n} {p} {q} h e f =
-    let w : whole m <ℚ whole n = record { cross = products_one m n h } in
-    subst (λ (x : Fraction). x <ℚ q) (sym e) (subst (λ (y : Fraction). whole m <ℚ y) (sym f) w)
-  where
-    products_one : (m n : ℤ) → m <ℤ n → (m *ℤ pos 1) <ℤ (n *ℤ pos 1)
-    products_one m n h = omega (arith, ints)

@@ -1,5 +1,5 @@
 -- The first Wide operation of a list, and what a refused call names.
-use Rattle.std.proofs.Common.{◌≡◌, Bool, true, false, IsTrue, refl, sym, ap, ◌∙◌, List, [], ◌∷◌, ◌++◌, Option, Some, None, Result, Ok, Err, IsErr, IfErr, if◌then◌else◌}
+use Rattle.std.proofs.Common.{◌≡◌, Bool, true, false, IsTrue, refl, sym, ap, ◌∙◌, List, [], ◌∷◌, Option, Some, None, Result, Ok, Err, IsErr, IfErr, if◌then◌else◌}
 use Rattle.nz_lists.proofs.Tests.{told_false, told_true}
 use Rattle.nz_fractions.specs.Fraction.{Fraction, Arithmetic, Operation, is_wide, first_wide}
 use Rattle.nz_frac.specs.declared.frac.Wide.{Wide}
@@ -31,22 +31,3 @@ refused_alone (Err y) op p q w e h k =
     ap (λ (x : Wide). let o : Option Operation = Some (operation_of x) in o) k
     ∙ ap (λ (o : Operation). let s : Option Operation = Some o in s) e
     ∙ sym (first_here (record { operator = op; left = p; right = q }) [] (told_true h))
-
--- one list after another: the second is reached where the first has none
-pub first-append_none : (xs ys : List Operation) → first_wide xs ≡ None → first_wide (xs ++ ys) ≡ first_wide ys
-unfolding first_wide
-first-append_none [] ys e = refl
-first-append_none (x ∷ xs) ys e = by_test (is_wide x.operator x.left x.right) x xs ys e (first-append_none xs ys)
-  where
-    by_test : (b : Bool) (x : Operation) (xs ys : List Operation) → (if b then Some x else first_wide xs) ≡ None → (first_wide xs ≡ None → first_wide (xs ++ ys) ≡ first_wide ys) → (if b then Some x else first_wide (xs ++ ys)) ≡ first_wide ys
-    by_test true x xs ys e h = absurd (cc)
-    by_test false x xs ys e h = h e
-
-pub first-append_some : (xs ys : List Operation) (o : Operation) → first_wide xs ≡ Some o → first_wide (xs ++ ys) ≡ Some o
-unfolding first_wide
-first-append_some [] ys o e = absurd (cc)
-first-append_some (x ∷ xs) ys o e = by_test (is_wide x.operator x.left x.right) x xs ys o e (first-append_some xs ys o)
-  where
-    by_test : (b : Bool) (x : Operation) (xs ys : List Operation) (o : Operation) → (if b then Some x else first_wide xs) ≡ Some o → (first_wide xs ≡ Some o → first_wide (xs ++ ys) ≡ Some o) → (if b then Some x else first_wide (xs ++ ys)) ≡ Some o
-    by_test true x xs ys o e h = e
-    by_test false x xs ys o e h = h e

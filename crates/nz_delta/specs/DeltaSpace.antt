@@ -7,7 +7,7 @@ use Rattle.std.specs.Cmp.{IsTotalOrder}
 use Rattle.std.proofs.Common.{ap₂}
 use Rattle.std.proofs.lemmas.Cmp.{on_total, then_total}
 use Rattle.nz_fractions.specs.Fraction.{Fraction, whole, fraction_cmp, outcome, Sum, Difference, Product, Operation}
-use Rattle.nz_spec.specs.Infinitesimal.{Infinitesimal}
+use Rattle.nz_spec.specs.numbers.Infinitesimal.{Infinitesimal}
 use Rattle.nz_fractions.proofs.Order.{fraction_cmp_total}
 use Rattle.nz_delta.specs.declared.delta.Delta.{Delta}
 use Rattle.nz_delta.specs.Space.{IsOrderedSpace}

@@ -1,5 +1,5 @@
 -- The pairs that `choose_delta` is handed, as pairs of infinitesimal numbers.
-use Rattle.nz_spec.specs.Infinitesimal.{Pair}
+use Rattle.nz_spec.specs.numbers.Infinitesimal.{Pair}
 use Rattle.nz_delta.specs.declared.delta.Delta.{Delta}
 use Rattle.nz_delta.specs.DeltaSpace.{infinitesimal_of}
 

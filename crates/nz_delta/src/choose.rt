@@ -1,7 +1,7 @@
 //! A fraction that can stand for δ.
 ghost use Rattle.std.specs.Prelude.{◌≡◌, IfOk, map, [], ◌∷◌, pos};
 ghost use Rattle.nz_fractions.specs.Fraction.{outcome, Difference, Quotient, Fraction, whole, first_wide, ◌<ℚ◌, ◌≤ℚ◌, fraction_min};
-ghost use Rattle.nz_spec.specs.Infinitesimal.{AreOrdered, AreOrderedAt, IsLeastLimit, limit, limits, limit_operations, least_from, chosen_delta, delta_operations};
+ghost use Rattle.nz_spec.specs.numbers.Infinitesimal.{AreOrdered, AreOrderedAt, IsLeastLimit, limit, limits, limit_operations, least_from, chosen_delta, delta_operations};
 ghost use Rattle.nz_delta.specs.Refused.{refused};
 ghost use Rattle.nz_delta.specs.Pairs.{pair_of};
 

@@ -1,7 +1,7 @@
 //! Infinitesimal numbers.
 ghost use Rattle.std.specs.Prelude.{◌≡◌};
 ghost use Rattle.nz_fractions.specs.Fraction.{Fraction};
-ghost use Rattle.nz_spec.specs.Infinitesimal.{◌=δ◌, ◌+δ◌, ◌-δ◌, scaled, infinitesimal_cmp};
+ghost use Rattle.nz_spec.specs.numbers.Infinitesimal.{◌=δ◌, ◌+δ◌, ◌-δ◌, scaled, infinitesimal_cmp};
 ghost use Rattle.nz_delta.specs.DeltaSpace.{infinitesimal_of, delta_plus, delta_minus, delta_scaled, delta_cmp};
 
 use crate::scalar::Scalar;

@@ -1,9 +1,11 @@
 -- Lemmas of what names stand for, alone and over arguments.
 use Rattle.std.proofs.Common.{[], ◌≡◌, ℕ, true, false, List, Option, None, Some, Result, Ok, Err, IfOk, option_and_then, is_some, refl, sym, ap, ◌∙◌, subst}
 use Rattle.std.specs.Prelude.{IsErrOf}
-use Rattle.nz_spec.specs.Term.{Constant, constant, Term, apply, Terms, no_terms}
-use Rattle.nz_spec.specs.Table.{Node}
-use Rattle.nz_spec.specs.Elaboration.{Operator, operator_named, applied, listed, constant_named, definition_named, Definition, RootFits, expansion, Scope, name_term, application}
+use Rattle.nz_spec.specs.terms.Term.{Constant, constant, Term, apply, Terms, no_terms}
+use Rattle.nz_spec.specs.terms.Table.{Node}
+use Rattle.nz_spec.specs.terms.Operators.{Operator, applied}
+use Rattle.nz_script.specs.commands.Elaboration.{operator_named, listed, constant_named, definition_named, Scope, name_term, application}
+use Rattle.nz_spec.specs.terms.Definitions.{Definition, RootFits, expansion}
 use Rattle.nz_elaborate.specs.declared.typed.Typed.{Typed}
 use Rattle.nz_elaborate.specs.declared.typed.ApplyError.{ApplyError}
 use Rattle.nz_elaborate.specs.declared.typed.ApplyError.TheVariants as errors

@@ -1,9 +1,11 @@
 -- Lemmas of the names in scope.
 use Rattle.std.proofs.Common.{[], ◌≡◌, ℕ, List, ◌∷◌, ◌++◌, Option, None, Some, true, false, bytes_eq, cond, refl, sym, ap, ◌∙◌, subst}
 use Rattle.std.specs.List.{AllByRecursion}
-use Rattle.nz_spec.specs.Term.{Constant, constant, Term, apply, no_terms}
-use Rattle.nz_spec.specs.Table.{Node}
-use Rattle.nz_spec.specs.Elaboration.{Operator, operator_named, listed, constant_named, definition_named, Scope, Definition, RootFits, binding}
+use Rattle.nz_spec.specs.terms.Term.{Constant, constant, Term, apply, no_terms}
+use Rattle.nz_spec.specs.terms.Table.{Node}
+use Rattle.nz_spec.specs.terms.Operators.{Operator}
+use Rattle.nz_script.specs.commands.Elaboration.{operator_named, listed, constant_named, definition_named, Scope, binding}
+use Rattle.nz_spec.specs.terms.Definitions.{Definition, RootFits}
 use Rattle.nz_elaborate.specs.declared.typed.Typed.{Typed}
 use Rattle.nz_elaborate.specs.declared.operators.Operator as operators
 use Rattle.nz_elaborate.specs.declared.names.Definition as code
@@ -12,7 +14,7 @@ use Rattle.nz_elaborate.specs.declared.names.Named.TheVariants as kinds
 use Rattle.nz_elaborate.specs.Operators.{operator_meaning}
 use Rattle.nz_elaborate.specs.Typed.{Grows}
 use Rattle.nz_elaborate.specs.Names.{named_by, bound_in, first_of, bound_by, IsDefined, SameTerm, SameNamed, IsScope}
-use Rattle.nz_elaborate.proofs.Staying.{typed_kept}
+use Rattle.nz_elaborate.proofs.TypedPreservation.{typed_kept}
 
 -- ---- In a table that has grown
 

@@ -1,6 +1,6 @@
 -- The parts of a term that is written are smaller than the term.
 use Rattle.std.proofs.Common.{[], ◌≡◌, ℕ, zero, suc, ◌<◌, ◌+◌, List, ◌∷◌, length, map, get_or, ap, arith}
-use Rattle.nz_spec.specs.Expression.{Expression, written_number, written_name, written_use, written_let, Expressions, no_expressions, expressions, Locals, no_locals, locals}
+use Rattle.nz_script.specs.commands.Expression.{Expression, written_number, written_name, written_use, written_let, Expressions, no_expressions, expressions, Locals, no_locals, locals}
 use Rattle.nz_command.specs.View.{expressions_from, locals_from}
 
 abbrev mutual

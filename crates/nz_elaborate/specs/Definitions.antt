@@ -3,13 +3,14 @@ use Rattle.std.specs.Prelude.{◌≡◌, ℕ, ◌||◌, Bool, List, [], ◌∷�
 use Rattle.std.specs.List.{list_any}
 use Rattle.nz_command.specs.declared.command.Parameter as code
 use Rattle.nz_command.specs.Requests.{parameter_view}
-use Rattle.nz_spec.specs.Expression.{Expression}
-use Rattle.nz_spec.specs.Request.{Parameter, WrittenSort}
-use Rattle.nz_spec.specs.Term.{Sort, parameter, Term, apply, no_terms}
-use Rattle.nz_spec.specs.Table.{Node}
-use Rattle.nz_spec.specs.Elaboration.{Scope, is_declared, placed, term_of}
-use Rattle.nz_spec.specs.Scoping.{has_unknown, clash, has_clash}
-use Rattle.nz_spec.specs.Script.{is_unknown_sort, sorts_written, sort_written, parameter_names, parameter_sorts, parameters_from}
+use Rattle.nz_script.specs.commands.Expression.{Expression}
+use Rattle.nz_script.specs.commands.Request.{Parameter, WrittenSort}
+use Rattle.nz_spec.specs.terms.Term.{Sort, parameter, Term, apply, no_terms}
+use Rattle.nz_spec.specs.terms.Table.{Node}
+use Rattle.nz_script.specs.commands.Elaboration.{Scope, is_declared, term_of}
+use Rattle.nz_spec.specs.terms.Operators.{placed}
+use Rattle.nz_script.specs.commands.Scoping.{has_unknown, clash, has_clash}
+use Rattle.nz_script.specs.commands.Script.{is_unknown_sort, sorts_written, sort_written, parameter_names, parameter_sorts, parameters_from}
 use Rattle.nz_term.specs.Constants.{sort_of}
 use Rattle.nz_elaborate.specs.declared.typed.Typed.{Typed}
 use Rattle.nz_term.specs.declared.heads.Sort as sort

@@ -1,12 +1,13 @@
 -- What elaboration makes of terms that are written: terms in the table.
 use Rattle.std.specs.Prelude.{◌≡◌, ℕ, ◌<◌, Bool, true, false, List, [], length, map, All, Option, Some, option_and_then}
-use Rattle.nz_spec.specs.Expression.{Expression, Expressions, Locals}
-use Rattle.nz_spec.specs.Term.{Sort, Head, Term, apply, Terms, no_terms}
-use Rattle.nz_spec.specs.Normal.{normal_of, normals_of}
-use Rattle.nz_spec.specs.Table.{Node, term_in, terms_at}
-use Rattle.nz_spec.specs.Elaboration.{Scope, is_declared, terms_of, application, bindings_of, all_placed}
-use Rattle.nz_spec.specs.Scoping.{has_unknown, have_unknown}
-use Rattle.nz_spec.specs.Script.{asked_expressions}
+use Rattle.nz_script.specs.commands.Expression.{Expression, Expressions, Locals}
+use Rattle.nz_spec.specs.terms.Term.{Sort, Head, Term, apply, Terms, no_terms}
+use Rattle.nz_spec.specs.terms.Normal.{normal_of, normals_of}
+use Rattle.nz_spec.specs.terms.Table.{Node, term_in, terms_at}
+use Rattle.nz_script.specs.commands.Elaboration.{Scope, is_declared, terms_of, application, bindings_of}
+use Rattle.nz_spec.specs.terms.Definitions.{all_placed}
+use Rattle.nz_script.specs.commands.Scoping.{has_unknown, have_unknown}
+use Rattle.nz_script.specs.commands.Script.{asked_expressions}
 use Rattle.nz_command.specs.declared.command.Question.{Question}
 use Rattle.nz_command.specs.Requests.{question_view}
 use Rattle.nz_elaborate.specs.declared.typed.Typed.{Typed}

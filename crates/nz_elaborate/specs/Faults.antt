@@ -1,7 +1,7 @@
 -- The first rule that a term breaks, by the order of the rules: a name that isn't in scope, names that clash, a sort that doesn't fit.
 use Rattle.std.specs.Prelude.{◌≡◌, ◌<◌, Bool, true, false, List, [], ◌∷◌, ◌++◌, length, Option, Some, None, Result, Ok, Err, ⊤}
-use Rattle.nz_spec.specs.Term.{Term}
-use Rattle.nz_spec.specs.Table.{Node}
+use Rattle.nz_spec.specs.terms.Term.{Term}
+use Rattle.nz_spec.specs.terms.Table.{Node}
 use Rattle.nz_base.specs.declared.reply_errors.Error.{Error}
 use Rattle.nz_base.specs.declared.reply_errors.Error.TheVariants as refusals
 use Rattle.nz_elaborate.specs.declared.typed.Typed.{Typed}

@@ -1,6 +1,6 @@
 -- What is written in chains.
-use Rattle.nz_spec.specs.Term.{equality, less, at_most, Term}
-use Rattle.nz_spec.specs.Normal.{paired, turned}
+use Rattle.nz_spec.specs.terms.Term.{equality, less, at_most, Term}
+use Rattle.nz_spec.specs.terms.Normal.{paired, turned}
 use Rattle.nz_elaborate.specs.declared.normal.Link.{Link}
 use Rattle.nz_elaborate.specs.declared.normal.Link.TheVariants.{Equal, Less, AtMost, Greater, AtLeast}
 

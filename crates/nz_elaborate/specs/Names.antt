@@ -2,11 +2,13 @@
 use Rattle.std.specs.Prelude.{◌≡◌, ℕ, ◌<◌, Bool, true, false, List, [], ◌∷◌, length, map, Option, Some, None, IfSome, is_some, ⊤}
 use Rattle.std.specs.Borrow.{Bor}
 use Rattle.std.specs.List.{AllByRecursion}
-use Rattle.nz_spec.specs.Term.{Constant, constant, Term, apply, no_terms}
-use Rattle.nz_spec.specs.Table.{Node}
-use Rattle.nz_spec.specs.Parse.{is_one_of}
-use Rattle.nz_spec.specs.Elaboration.{Operator, is_operator, operator_named, listed, constant_named, definition_named, Scope, RootFits}
-use Rattle.nz_spec.specs.Elaboration as terms
+use Rattle.nz_spec.specs.terms.Term.{Constant, constant, Term, apply, no_terms}
+use Rattle.nz_spec.specs.terms.Table.{Node}
+use Rattle.nz_script.specs.commands.Parse.{is_one_of}
+use Rattle.nz_spec.specs.terms.Operators.{Operator}
+use Rattle.nz_script.specs.commands.Elaboration.{is_operator, operator_named, listed, constant_named, definition_named, Scope}
+use Rattle.nz_spec.specs.terms.Definitions.{RootFits}
+use Rattle.nz_spec.specs.terms.Definitions as terms
 use Rattle.nz_term.specs.Constants.{sort_of}
 use Rattle.nz_elaborate.specs.declared.typed.Typed.{Typed}
 use Rattle.nz_elaborate.specs.declared.operators.Operator as operators

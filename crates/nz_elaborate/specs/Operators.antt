@@ -1,8 +1,8 @@
 -- What the operators of the code are.
 use Rattle.std.specs.Prelude.{ℕ, List}
 use Rattle.std.specs.Borrow.{Bor}
-use Rattle.nz_spec.specs.Elaboration as spec
-use Rattle.nz_spec.specs.Elaboration.{true_operator, false_operator, not_operator, and_operator, or_operator, implies_operator, xor_operator, equals_operator, distinct_operator, ite_operator, at_most_operator, less_operator, at_least_operator, greater_operator, plus_operator, times_operator, minus_operator, over_operator, div_operator, mod_operator, abs_operator, to_real_operator, to_int_operator, is_int_operator, bools, ints, reals, numbers, alike, branches}
+use Rattle.nz_spec.specs.terms.Operators as spec
+use Rattle.nz_spec.specs.terms.Operators.{true_operator, false_operator, not_operator, and_operator, or_operator, implies_operator, xor_operator, equals_operator, distinct_operator, ite_operator, at_most_operator, less_operator, at_least_operator, greater_operator, plus_operator, times_operator, minus_operator, over_operator, div_operator, mod_operator, abs_operator, to_real_operator, to_int_operator, is_int_operator, bools, ints, reals, numbers, alike, branches}
 use Rattle.nz_elaborate.specs.declared.operators.Operator.{Operator}
 use Rattle.nz_elaborate.specs.declared.operators.Operator.TheVariants as operators
 use Rattle.nz_elaborate.specs.declared.operators.Operands.{Operands}

@@ -1,10 +1,10 @@
 -- Terms of the code: the number of a normal term, and the sort of the term that it is the normal one of.
 use Rattle.std.specs.Prelude.{◌≡◌, ℕ, ◌<◌, List, [], ◌∷◌, length, All, Some, ⊤}
-use Rattle.nz_spec.specs.Term as spec
-use Rattle.nz_spec.specs.Term.{bool_sort, int_sort, real_sort, Term, Terms, no_terms, terms}
-use Rattle.nz_spec.specs.Normal.{normal_of, normals_of}
-use Rattle.nz_spec.specs.Table.{Node, term_in, terms_at}
-use Rattle.nz_spec.specs.Elaboration.{Operator, applied, as_real, read_at}
+use Rattle.nz_spec.specs.terms.Term as spec
+use Rattle.nz_spec.specs.terms.Term.{bool_sort, int_sort, real_sort, Term, Terms, no_terms, terms}
+use Rattle.nz_spec.specs.terms.Normal.{normal_of, normals_of}
+use Rattle.nz_spec.specs.terms.Table.{Node, term_in, terms_at}
+use Rattle.nz_spec.specs.terms.Operators.{Operator, applied, as_real, read_at}
 use Rattle.nz_term.specs.Constants.{sort_of}
 pub use Rattle.nz_term.specs.Growth.{IsOperator, Grows}
 use Rattle.nz_elaborate.specs.declared.typed.Typed.{Typed}

@@ -1,10 +1,10 @@
 //! Operators over arguments of the table: which they take, at which sort they are read, and what they make.
 ghost use Rattle.std.specs.Prelude.{◌≡◌, ◌<◌, List, length, All, IfOk, IsErrOf, None, option_map};
-ghost use Rattle.nz_spec.specs.Term as spec;
-ghost use Rattle.nz_spec.specs.Elaboration.{applied, all_terms, has_sort, is_number_term, operand_sort as spec_operand_sort, number_sort as spec_number_sort, alike_sort as spec_alike_sort, branches, operator_head, as_real as spec_as_real};
-ghost use Rattle.nz_spec.specs.Term.{head_sort};
-ghost use Rattle.nz_spec.specs.Normal.{normal_of};
-ghost use Rattle.nz_spec.specs.Table.{Node};
+ghost use Rattle.nz_spec.specs.terms.Term as spec;
+ghost use Rattle.nz_spec.specs.terms.Operators.{applied, all_terms, has_sort, is_number_term, operand_sort as spec_operand_sort, number_sort as spec_number_sort, alike_sort as spec_alike_sort, branches, operator_head, as_real as spec_as_real};
+ghost use Rattle.nz_spec.specs.terms.Term.{head_sort};
+ghost use Rattle.nz_spec.specs.terms.Normal.{normal_of};
+ghost use Rattle.nz_spec.specs.terms.Table.{Node};
 ghost use Rattle.nz_term.specs.Constants.{sort_of};
 ghost use Rattle.nz_elaborate.specs.Operators.{operator_meaning, operands_meaning};
 ghost use Rattle.nz_elaborate.specs.Typed.{Grows, StandsFor, IsTyped, AreTyped, HasApplied, HasRead, read_term};

@@ -3,11 +3,12 @@ ghost use Rattle.std.specs.Prelude.{◌≡◌, ℕ, ◌<◌, ◌||◌, Bool, tru
 ghost use Rattle.std.specs.List.{list_any};
 ghost use Rattle.nz_command.specs.View.{view};
 ghost use Rattle.nz_command.specs.Requests.{sort_view};
-ghost use Rattle.nz_spec.specs.Term as spec;
-ghost use Rattle.nz_spec.specs.Parse.{is_one_of};
-ghost use Rattle.nz_spec.specs.Script.{is_unknown_sort as is_unknown, parameter_names, parameter_sorts, sort_written, sorts_written};
-ghost use Rattle.nz_spec.specs.Scoping.{clash};
-ghost use Rattle.nz_spec.specs.Elaboration.{Scope, placed};
+ghost use Rattle.nz_spec.specs.terms.Term as spec;
+ghost use Rattle.nz_script.specs.commands.Parse.{is_one_of};
+ghost use Rattle.nz_script.specs.commands.Script.{is_unknown_sort as is_unknown, parameter_names, parameter_sorts, sort_written, sorts_written};
+ghost use Rattle.nz_script.specs.commands.Scoping.{clash};
+ghost use Rattle.nz_script.specs.commands.Elaboration.{Scope};
+ghost use Rattle.nz_spec.specs.terms.Operators.{placed};
 ghost use Rattle.nz_term.specs.Constants.{sort_of};
 ghost use Rattle.nz_elaborate.specs.Names.{IsScope, IsBoundWithin, HasOperators, bound_in, first_of, named_by, is_operator_entry};
 ghost use Rattle.nz_elaborate.specs.Typed.{Grows};
@@ -17,7 +18,7 @@ ghost use Rattle.nz_elaborate.specs.Definitions.{definition_unknown, definition_
 
 use crate::elaboration::expression_term;
 use crate::faults::{ElaborateError, Fault, Found};
-use crate::frames::Bound;
+use crate::frames::Binding;
 use crate::meanings::place;
 use crate::names::{Definition, Names};
 use crate::normal::make_leaf;
@@ -52,7 +53,7 @@ pub fn elaborate_body<'a>(
 {
     grows_twice();
     let Parameters { bound, sorts } = bind_parameters(alloc, names, terms, parameters)?;
-    let Bound { frame, fault } = bound;
+    let Binding { frame, fault } = bound;
     let mut frames = Vec::new(alloc);
     frames.push(frame)?;
     let found = expression_term(alloc, names, &mut frames, terms, body)?;
@@ -105,7 +106,7 @@ fn placed_term(terms: &mut Terms, sort: Sort, term: Typed) -> Result<Found, Memo
 /// The parameters of a definition, in the making: their names with their terms, and their sorts.
 #[derive(Drop)]
 struct Parameters<'a> {
-    bound: Bound<'a>,
+    bound: Binding<'a>,
     sorts: Vec<Sort>,
 }
 
@@ -140,7 +141,7 @@ fn bind_parameters<'a>(
 {
     grows_twice();
     let mut listed = Parameters {
-        bound: Bound::new(alloc),
+        bound: Binding::new(alloc),
         sorts: Vec::with_capacity(alloc, parameters.len())?,
     };
     for (place, parameter) in parameters.iter().enumerate() {

@@ -4,12 +4,12 @@
 //! same, so that its uses are told from names that aren't in scope.
 ghost use Rattle.std.specs.Prelude.{◌≡◌, ℕ, ◌||◌, ◌<◌, All, Bool, true, false, List, [], length, Option, None, Some, IfOk, OnOk, IfSome, IsErrOf, option_map, is_some, if◌then◌else◌};
 ghost use Rattle.nz_command.specs.View.{number_view, view, seen, seen_locals};
-ghost use Rattle.nz_spec.specs.Expression.{numeric_head, written_let, local_names};
-ghost use Rattle.nz_spec.specs.Term as spec;
-ghost use Rattle.nz_spec.specs.Term.{head_fits};
-ghost use Rattle.nz_spec.specs.Parse.{is_one_of};
-ghost use Rattle.nz_spec.specs.Scoping.{is_unknown, has_unknown, have_unknown, locals_have_unknown, clash, has_clash, have_clash, locals_have_clash};
-ghost use Rattle.nz_spec.specs.Elaboration.{Scope, term_of, terms_of, number_term as spec_number_term, bindings_of};
+ghost use Rattle.nz_script.specs.commands.Expression.{numeric_head, written_let, local_names};
+ghost use Rattle.nz_spec.specs.terms.Term as spec;
+ghost use Rattle.nz_spec.specs.terms.Term.{head_fits};
+ghost use Rattle.nz_script.specs.commands.Parse.{is_one_of};
+ghost use Rattle.nz_script.specs.commands.Scoping.{is_unknown, has_unknown, have_unknown, locals_have_unknown, clash, has_clash, have_clash, locals_have_clash};
+ghost use Rattle.nz_script.specs.commands.Elaboration.{Scope, term_of, terms_of, number_term as spec_number_term, bindings_of};
 ghost use Rattle.nz_term.specs.Heads.{head_of};
 ghost use Rattle.nz_elaborate.specs.Names.{IsScope, AreWithin, AreNames, IsBoundWithin, bound_in};
 ghost use Rattle.nz_elaborate.specs.Typed.{Grows, IsOperator};
@@ -17,7 +17,7 @@ ghost use Rattle.nz_elaborate.specs.Elaborate.{StandsAs, StandAs, Binds, Clashes
 ghost use Rattle.nz_elaborate.specs.Faults.{fault_in, TellsNames, IsFoundWithin, IsFound, Settles};
 
 use crate::faults::{ElaborateError, Fault, Found, FoundAll};
-use crate::frames::{Bound, Frame};
+use crate::frames::{Binding, Frame};
 use crate::meanings::{apply_name, name_term};
 use crate::names::Names;
 use crate::normal::make_leaf;
@@ -176,7 +176,7 @@ fn let_term<'a>(
     ensures found { IfOk result (λ f. (sc : Scope) → IsScope terms.old names.now frames.old.items sc → IsFound f (term_of sc (written_let (seen_locals locals.now) (view body.now))) terms.new) }
 {
     grows_twice();
-    let Bound { frame, fault } = bind_all(alloc, names, frames, terms, locals)?;
+    let Binding { frame, fault } = bind_all(alloc, names, frames, terms, locals)?;
     frames.push(frame)?;
     let found = expression_term(alloc, names, frames, terms, body)?;
     frames.pop();
@@ -191,7 +191,7 @@ fn bind_all<'a>(
     frames: &mut Vec<Frame<'a>>,
     terms: &mut Terms,
     locals: &[Local<'a>],
-) -> Result<Bound<'a>, Memory>
+) -> Result<Binding<'a>, Memory>
     requires within { AreWithin terms.old names.now frames.old.items }
     ensures grows { Grows terms.old terms.new }
     ensures frames { OnOk result (frames.new.items ≡ frames.old.items) }
@@ -201,7 +201,7 @@ fn bind_all<'a>(
     ensures found { IfOk result (λ b. (sc : Scope) → IsScope terms.old names.now frames.old.items sc → Settles b.fault (Binds sc (seen_locals locals.now) terms.new b.frame) (bindings_of sc (seen_locals locals.now) ≡ None)) }
 {
     grows_twice();
-    let mut bound = Bound::new(alloc);
+    let mut bound = Binding::new(alloc);
     for local in locals {
         let found = expression_term(alloc, names, frames, terms, &local.term)?;
         bound.bind(names, local.name, found)?;

@@ -69,17 +69,17 @@ pub(crate) fn bound_term<'a>(frames: &Vec<Frame<'a>>, name: &'a Text) -> Option<
 
 /// A frame in the making, and the first fault of what it binds.
 #[derive(Drop)]
-pub(crate) struct Bound<'a> {
+pub(crate) struct Binding<'a> {
     pub frame: Frame<'a>,
     pub fault: Option<Fault>,
 }
 
-impl<'a> Bound<'a> {
-    pub(crate) fn new(alloc: Global) -> Bound<'a>
+impl<'a> Binding<'a> {
+    pub(crate) fn new(alloc: Global) -> Binding<'a>
         ensures empty { result.frame ≡ [] }
         ensures fault { result.fault ≡ None }
     {
-        Bound {
+        Binding {
             frame: Frame::new(alloc),
             fault: None,
         }

@@ -1,9 +1,11 @@
 //! What names stand for, alone and over arguments.
 ghost use Rattle.std.specs.Prelude.{◌≡◌, ℕ, ◌<◌, All, Bool, false, List, length, map, None, Ok, Err, IfOk, IsErrOf};
-ghost use Rattle.nz_spec.specs.Term as spec;
-ghost use Rattle.nz_spec.specs.Table.{Node};
-ghost use Rattle.nz_spec.specs.Scoping.{is_unknown};
-ghost use Rattle.nz_spec.specs.Elaboration.{Definition as SpecDefinition, Scope, RootFits, name_term as spec_name_term, application as spec_application, expansion, placed, all_placed};
+ghost use Rattle.nz_spec.specs.terms.Term as spec;
+ghost use Rattle.nz_spec.specs.terms.Table.{Node};
+ghost use Rattle.nz_script.specs.commands.Scoping.{is_unknown};
+ghost use Rattle.nz_spec.specs.terms.Definitions.{Definition as SpecDefinition, RootFits, expansion, all_placed};
+ghost use Rattle.nz_script.specs.commands.Elaboration.{Scope, name_term as spec_name_term, application as spec_application};
+ghost use Rattle.nz_spec.specs.terms.Operators.{placed};
 ghost use Rattle.nz_term.specs.Constants.{sort_of};
 ghost use Rattle.nz_elaborate.specs.Names.{IsScope, IsDefined, AreWithin, AreNames};
 ghost use Rattle.nz_elaborate.specs.Typed.{Grows, IsTyped, AreTyped};
@@ -16,7 +18,7 @@ use crate::frames::{Frame, bound_term};
 use crate::names::{Definition, Named, Names};
 use crate::typed::{ApplyError, Typed};
 use nz_base::{Memory, Text};
-use nz_spec::elaboration::expansions_keep_sort;
+use nz_script::elaboration::expansions_keep_sort;
 use nz_spec::table::term_stays;
 use nz_spec::term::instance_keeps_normal;
 use nz_term::{Sort, TermId, Terms, grows_twice, instance};

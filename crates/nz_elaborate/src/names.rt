@@ -1,6 +1,6 @@
 //! The live names: those of the operators, which are declared from the start, and those of the constants and definitions.
 ghost use Rattle.std.specs.Prelude.{◌≡◌, List, [], ◌∷◌, ◌++◌, length, take, None, Some, IfOk, IfSome, IfNone, OnOk, OnErr};
-ghost use Rattle.nz_spec.specs.Table.{Node};
+ghost use Rattle.nz_spec.specs.terms.Table.{Node};
 ghost use Rattle.nz_elaborate.specs.Names.{named_by, is_operator_entry, nothing_declared, IsScope};
 
 use crate::operators::{OPERATORS, Operator};

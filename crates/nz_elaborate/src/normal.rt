@@ -1,9 +1,9 @@
 //! Normal terms, made in the table from the numbers of their arguments: what is chained, pairwise or grouped is written out.
 ghost use Rattle.std.specs.Prelude.{◌≡◌, ◌<◌, length, All, IfOk, IsTrue, OnOk};
-ghost use Rattle.nz_spec.specs.Term.{Terms as Arguments, apply, conjunction, head_fits, no_terms};
-ghost use Rattle.nz_spec.specs.Normal.{joined_by, disequations_onto, disequations_of, normal_node, grouped_by, chained_by, implication_of};
-ghost use Rattle.nz_spec.specs.Elaboration.{operator_head};
-ghost use Rattle.nz_spec.specs.Table.{term_in, terms_at};
+ghost use Rattle.nz_spec.specs.terms.Term.{Terms as Arguments, apply, conjunction, head_fits, no_terms};
+ghost use Rattle.nz_spec.specs.terms.Normal.{joined_by, disequations_onto, disequations_of, normal_node, grouped_by, chained_by, implication_of};
+ghost use Rattle.nz_spec.specs.terms.Operators.{operator_head};
+ghost use Rattle.nz_spec.specs.terms.Table.{term_in, terms_at};
 ghost use Rattle.nz_term.specs.Constants.{sort_of};
 ghost use Rattle.nz_term.specs.Heads.{head_of, operator_of};
 ghost use Rattle.nz_elaborate.specs.Typed.{Grows, IsOperator, StandsFor, terms_before};

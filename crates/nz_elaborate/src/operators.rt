@@ -1,6 +1,6 @@
 //! The operators of the theories Core and Reals_Ints (SMT-LIB 2.6): their names, and the arguments that they take.
 ghost use Rattle.std.specs.Prelude.{◌≡◌};
-ghost use Rattle.nz_spec.specs.Elaboration.{takes as may_take, operands_of as spec_operands};
+ghost use Rattle.nz_spec.specs.terms.Operators.{takes as may_take, operands_of as spec_operands};
 ghost use Rattle.nz_elaborate.specs.Operators.{operator_meaning, operands_meaning};
 
 /// An operator of the theories.

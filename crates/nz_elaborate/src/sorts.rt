@@ -1,7 +1,7 @@
 //! Sorts as they are written.
 ghost use Rattle.std.specs.Prelude.{◌≡◌, Some, None, option_map};
-ghost use Rattle.nz_spec.specs.Elaboration.{sort_named};
-ghost use Rattle.nz_spec.specs.Script as script;
+ghost use Rattle.nz_script.specs.commands.Elaboration.{sort_named};
+ghost use Rattle.nz_script.specs.commands.Script as script;
 ghost use Rattle.nz_term.specs.Constants.{sort_of};
 ghost use Rattle.nz_command.specs.Requests.{sort_view};
 

@@ -155,7 +155,7 @@ fn starts_as(alloc: Global, name: &[u8], operator: Option<Operator>) -> Result<b
 }
 
 #[test]
-fn operators_are_live(rt: HostRuntime) -> Result<(), Fail> {
+fn test_operators_are_live(rt: HostRuntime) -> Result<(), Fail> {
     const NAMES: &[(&[u8], Option<Operator>)] = &[(b"not", Some(Operator::Not)), (b"x", None)];
     for (place, (name, operator)) in NAMES.iter().enumerate() {
         if !starts_as(rt.alloc(), name, *operator)? {
@@ -166,7 +166,7 @@ fn operators_are_live(rt: HostRuntime) -> Result<(), Fail> {
 }
 
 #[test]
-fn terms_have_their_sorts(rt: HostRuntime) -> Result<(), Fail> {
+fn test_terms_have_their_sorts(rt: HostRuntime) -> Result<(), Fail> {
     const CASES: &[Case] = &[
         Case(b"(assert (not true))", Ok(&[Sort::Bool])),
         Case(b"(assert 2.5)", Ok(&[Sort::Real])),
@@ -181,7 +181,7 @@ fn terms_have_their_sorts(rt: HostRuntime) -> Result<(), Fail> {
 
 // `x` isn't in scope, `y` is bound twice, and a number is denied.
 #[test]
-fn an_unknown_name_comes_first(rt: HostRuntime) -> Result<(), Fail> {
+fn test_an_unknown_name_comes_first(rt: HostRuntime) -> Result<(), Fail> {
     const TERM: Case = Case(
         b"(assert (let ((y true) (y x)) (not 1)))",
         Err(ElaborateError::Unknown),
@@ -191,7 +191,7 @@ fn an_unknown_name_comes_first(rt: HostRuntime) -> Result<(), Fail> {
 
 // `y` is bound twice, and a number is denied.
 #[test]
-fn a_clash_comes_before_a_sort(rt: HostRuntime) -> Result<(), Fail> {
+fn test_a_clash_comes_before_a_sort(rt: HostRuntime) -> Result<(), Fail> {
     const TERM: Case = Case(
         b"(assert (let ((y true) (y true)) (not 1)))",
         Err(ElaborateError::Clash),
@@ -201,7 +201,7 @@ fn a_clash_comes_before_a_sort(rt: HostRuntime) -> Result<(), Fail> {
 
 // A name whose term has a fault isn't used.
 #[test]
-fn a_bindings_fault_counts(rt: HostRuntime) -> Result<(), Fail> {
+fn test_a_bindings_fault_counts(rt: HostRuntime) -> Result<(), Fail> {
     const TERM: Case = Case(
         b"(assert (let ((y (not 1)) (x true)) x))",
         Err(ElaborateError::Sort),
@@ -211,7 +211,7 @@ fn a_bindings_fault_counts(rt: HostRuntime) -> Result<(), Fail> {
 
 // A binding's term has the name of the one before.
 #[test]
-fn bindings_are_read_outside(rt: HostRuntime) -> Result<(), Fail> {
+fn test_bindings_are_read_outside(rt: HostRuntime) -> Result<(), Fail> {
     const TERM: Case = Case(
         b"(assert (let ((x true) (y x)) y))",
         Err(ElaborateError::Unknown),
@@ -220,7 +220,7 @@ fn bindings_are_read_outside(rt: HostRuntime) -> Result<(), Fail> {
 }
 
 #[test]
-fn a_body_is_read_at_its_sort(rt: HostRuntime) -> Result<(), Fail> {
+fn test_a_body_is_read_at_its_sort(rt: HostRuntime) -> Result<(), Fail> {
     const DEFINITION: Case = Case(
         b"(define-fun f ((x Int)) Real x)",
         Ok(&[Sort::Int, Sort::Real]),
@@ -229,7 +229,7 @@ fn a_body_is_read_at_its_sort(rt: HostRuntime) -> Result<(), Fail> {
 }
 
 #[test]
-fn questions_have_their_terms(rt: HostRuntime) -> Result<(), Fail> {
+fn test_questions_have_their_terms(rt: HostRuntime) -> Result<(), Fail> {
     const QUESTIONS: Case = Case(b"(get-value (true 7))", Ok(&[Sort::Bool, Sort::Int]));
     run(rt.alloc(), &[QUESTIONS])
 }

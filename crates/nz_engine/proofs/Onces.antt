@@ -1,12 +1,12 @@
 -- Lists of numbers in which none stands twice, and the Boolean ones of some terms.
 use Rattle.std.proofs.Common.{◌≡◌, ◌⊎◌, inl, inr, ℕ, zero, suc, Bool, true, false, true≢false, List, [], ◌∷◌, ◌++◌, map, Some, refl, sym, ap, subst, ◌∙◌, arith}
 use Rattle.std.specs.Prelude.{Contains, if◌then◌else◌, ⊤}
-use Rattle.nz_lists.proofs.Members.{has_cases, has_first, has_more, has_none, map_from}
-use Rattle.nz_spec.specs.Gates.{is_boolean_term}
-use Rattle.nz_spec.specs.Literal.{StandOnce}
-use Rattle.nz_spec.specs.Table.{Node, term_in}
+use Rattle.nz_lists.proofs.Members.{has_cases, has_first, has_more, has_none, map_from, has_found}
+use Rattle.nz_spec.specs.clauses.Gates.{is_boolean_term}
+use Rattle.nz_spec.specs.clauses.Literal.{StandOnce}
+use Rattle.nz_spec.specs.terms.Table.{Node, term_in}
 use Rattle.nz_engine.specs.Preparing.{boolean_terms}
-use Rattle.nz_engine.proofs.Placing.{place_of, stands_there}
+use Rattle.nz_engine.proofs.AssertionPlaces.{place_of}
 
 -- no number is among those behind it
 abbrev pub IsOnce : List ℕ → Type 0
@@ -25,10 +25,10 @@ stand_from_once [] h i j y a b = cc
 stand_from_once (x ∷ xs) h zero zero y a b = refl
 stand_from_once (x ∷ xs) h zero (suc j) y a b =
     let same : x ≡ y = cc in
-    absurd (h.0 (stands_there xs j x (b ∙ ap Some (sym same))))
+    absurd (h.0 (has_found xs j x (b ∙ ap Some (sym same))))
 stand_from_once (x ∷ xs) h (suc i) zero y a b =
     let same : x ≡ y = cc in
-    absurd (h.0 (stands_there xs i x (a ∙ ap Some (sym same))))
+    absurd (h.0 (has_found xs i x (a ∙ ap Some (sym same))))
 stand_from_once (x ∷ xs) h (suc i) (suc j) y a b = ap suc (stand_from_once xs h.1 i j y a b)
 
 in_either : (xs ys : List ℕ) (y : ℕ) → Contains (xs ++ ys) y → Contains xs y ⊎ Contains ys y

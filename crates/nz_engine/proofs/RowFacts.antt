@@ -1,26 +1,28 @@
 -- What the literals of rows of taken terms are: on Boolean terms, or bounds on sums without a coefficient 0.
 use Rattle.std.proofs.Common.{◌≡◌, ℕ, Bool, true, false, true≢false, List, [], ◌∷◌, ◌++◌, append-nil, map, Option, Some, None, option_map, refl, sym, ap, subst, ◌∙◌}
-use Rattle.std.specs.Prelude.{Contains, fold, if◌then◌else◌, nat_lt, slice_get}
-use Rattle.std.specs.List.{AllByRecursion, list_any}
-use Rattle.std.proofs.lemmas.List.Elements.{All-contains, All-contains_itself, All-from_recursion, Contains-append_left, Contains-append_right, recursion_from_All}
+use Rattle.std.specs.Prelude.{Contains, if◌then◌else◌, nat_lt, slice_get}
+use Rattle.std.specs.List.{AllByRecursion}
+use Rattle.std.proofs.lemmas.List.Elements.{All-contains, All-from_recursion, Contains-append_left, Contains-append_right}
 use Rattle.std.proofs.lemmas.Option.{same_Some}
-use Rattle.nz_lists.proofs.Elements.{AllByRecursion-append, AllByRecursion-map}
+use Rattle.nz_lists.proofs.Once.{once_from}
+use Rattle.nz_lists.proofs.Members.{has_found, map_has}
+use Rattle.nz_lists.proofs.Elements.{AllByRecursion-append}
 use Rattle.nz_fractions.specs.Fraction.{Fraction, outcome, Arithmetic, Sum, Difference, Product, Quotient}
-use Rattle.nz_spec.specs.Computation.{Computation, operated, at_once, turned_into, in_turn}
-use Rattle.nz_spec.specs.Term.{Head, verum, falsum, negation, conjunction, disjunction, exclusion, equality, choice, bool_sort, int_sort, real_sort, less, at_most, integer_quotient, modulus, magnitude, to_int, is_int, Term, apply, Terms, no_terms, terms, is_zero}
-use Rattle.nz_spec.specs.Same.{are_same_term}
-use Rattle.nz_spec.specs.Form.{Numbering, Part, with_part, part_alone, part_joined, parts_joined}
-use Rattle.nz_spec.specs.FormOf.{form_of, number_in, FormsAreSums}
-use Rattle.nz_spec.specs.Farkas.{is_linear_literal}
-use Rattle.nz_spec.specs.Gates.{holds, fails, list_of, is_boolean_term, gate_clauses}
-use Rattle.nz_spec.specs.Links.{minus, link_clauses}
-use Rattle.nz_spec.specs.Literal.{Literal, term_literal, is_at_most, is_below, are_same_literal, with_one, once, Clause, clause_of}
-use Rattle.nz_spec.specs.Steps as Steps
-use Rattle.nz_spec.specs.Steps.{step_clause}
-use Rattle.nz_spec.specs.Table.{Node, IsTable, term_in}
-use Rattle.nz_spec.specs.Taken.{IsTakenHead, IsTaken}
-use Rattle.nz_spec.specs.Units.{unit_clauses}
-use Rattle.nz_spec.specs.WellSorted.{AllAre, HaveOperands}
+use Rattle.nz_spec.specs.numbers.Computation.{Computation, operated, at_once, turned_into, in_turn}
+use Rattle.nz_spec.specs.terms.Term.{Head, verum, falsum, negation, conjunction, disjunction, exclusion, equality, choice, bool_sort, int_sort, real_sort, less, at_most, integer_quotient, modulus, magnitude, to_int, is_int, Term, apply, Terms, no_terms, terms, is_zero}
+use Rattle.nz_spec.specs.terms.Same.{are_same_term}
+use Rattle.nz_spec.specs.terms.Form.{Numbering, Part, with_part, part_alone, part_joined, parts_joined}
+use Rattle.nz_spec.specs.terms.FormOf.{form_of, number_in, FormsAreSums}
+use Rattle.nz_spec.specs.clauses.Farkas.{is_linear_literal}
+use Rattle.nz_spec.specs.clauses.Gates.{holds, fails, list_of, is_boolean_term, gate_clauses}
+use Rattle.nz_spec.specs.clauses.Links.{minus, link_clauses}
+use Rattle.nz_spec.specs.clauses.Literal.{Literal, term_literal, is_at_most, is_below, are_same_literal, Clause, clause_of}
+use Rattle.nz_spec.specs.clauses.Steps as Steps
+use Rattle.nz_spec.specs.clauses.Steps.{step_clause}
+use Rattle.nz_spec.specs.terms.Table.{Node, IsTable, term_in}
+use Rattle.nz_spec.specs.terms.Taken.{IsTakenHead, IsTaken}
+use Rattle.nz_spec.specs.clauses.Units.{unit_clauses}
+use Rattle.nz_spec.specs.terms.WellSorted.{AllAre, HaveOperands}
 use Rattle.nz_fractions.proofs.Identities.{neg-nonzero}
 use Rattle.nz_log.specs.declared.atoms.Atom.{Atom}
 use Rattle.nz_log.specs.declared.lits.Lit.{Lit}
@@ -29,7 +31,6 @@ use Rattle.nz_log.specs.Axioms.{Axiom, axiom_step, link_of, unit_of, farkas_of, 
 use Rattle.nz_log.specs.Logs.{Origin, assertion_of, gate_of, axiom_of, chain_of, row_term, Entry, LogState, entry_at, literals_at}
 use Rattle.nz_log.specs.Sound.{IsLog, IsMade}
 use Rattle.nz_cform.specs.Covering.{IsRowAt}
-use Rattle.nz_engine.proofs.Placing.{stands_there}
 use Rattle.nz_engine.specs.SearchLaws.{RowLaws}
 
 -- ---- Sums
@@ -172,23 +173,6 @@ gates_are (choice bool_sort) (terms c (terms u (terms v no_terms))) k o =
     ((refl, (o.0, (o.1.0, tt))), ((refl, (o.0, (o.1.1.0, tt))), ((refl, (o.0, (o.1.0, tt))), ((refl, (o.0, (o.1.1.0, tt))), tt))))
 gates_are h ts k o = tt
 
--- ---- Each literal once
-
-module _ {X : Type 0} (same : X → X → Bool) (P : X → Type 0) where
-  with_kept : (c : List X) (l : X) (b : Bool) → AllByRecursion P c → P l → AllByRecursion P (if b then c else c ++ l ∷ [])
-  with_kept c l true h q = h
-  with_kept c l false h q = AllByRecursion-append P c (l ∷ []) h (q, tt)
-
-  put_kept : (ls c : List X) → AllByRecursion P c → AllByRecursion P ls → AllByRecursion P (fold (with_one same) c ls)
-  put_kept [] c h k = h
-  put_kept (l ∷ ls) c h k = put_kept ls (with_one same c l) (with_kept c l (list_any (same l) c) h k.0) k.1
-
--- what is there once was there
-pub once_from : {X : Type 0} (same : X → X → Bool) (ls : List X) (l : X) → Contains (once same ls) l → Contains ls l
-once_from same ls l c =
-    All-contains (Contains ls) (once same ls) l
-    (All-from_recursion (Contains ls) (once same ls) (put_kept same (Contains ls) ls [] tt (recursion_from_All (Contains ls) ls (All-contains_itself ls)))) c
-
 -- ---- Rows of a log
 
 -- the literal is of a row of a term in the tables of arithmetic
@@ -210,12 +194,6 @@ boolean_of_row number t (is_below ps b) h = absurd h
 each_in : {X : Type 0} (P : X → Type 0) (xs : List X) (x : X) → AllByRecursion P xs → Contains xs x → P x
 each_in P xs x h c = All-contains P xs x (All-from_recursion P xs h) c
 
-pub contains_map : {X Y : Type 0} (f : X → Y) (xs : List X) (x : X) → Contains xs x → Contains (map f xs) (f x)
-contains_map f xs x c =
-    All-contains (λ y. Contains (map f xs) (f y)) xs x
-    (All-from_recursion (λ y. Contains (map f xs) (f y)) xs
-    (AllByRecursion-map (Contains (map f xs)) f xs (recursion_from_All (Contains (map f xs)) (map f xs) (All-contains_itself (map f xs))))) c
-
 module _ (laws : RowLaws) (number : Numbering) where
   gates_of : (t : Term) → IsTaken t → AllByRecursion AreBooleans (gate_clauses t)
   gates_of (apply h ts) k = gates_are h ts k.heads.0 (laws.operands h ts k.sorted.0)
@@ -231,7 +209,7 @@ taken_row : (rows : List Clause) (j : ℕ) (c : Clause) → option_map clause_of
 taken_row rows j c e =
     elim (slice_get rows j) as (λ o. slice_get rows j ≡ o → option_map clause_of o ≡ Some c → (row : Clause) × Contains rows row × (clause_of row ≡ c)) [
       | None ↦ λ at h. cc
-      | Some row ↦ λ at h. (row, stands_there rows j row at, same_Some (clause_of row) c h)
+      | Some row ↦ λ at h. (row, has_found rows j row at, same_Some (clause_of row) c h)
     ] refl e
 
 computed_row : (rows : List (Computation Clause)) (j : ℕ) (c : Clause) → (Steps.clause_at rows j).result ≡ Some c
@@ -240,7 +218,7 @@ computed_row rows j c e =
     elim (slice_get rows j) as (λ o. slice_get rows j ≡ o → (let made : Computation (Option Clause) = elim o [ None ↦ at_once None | Some d ↦ turned_into (λ x. Some (clause_of x)) d ] in made.result ≡ Some c)
     → (row : Computation Clause) × Contains rows row × (clause_of row.result ≡ c)) [
       | None ↦ λ at h. cc
-      | Some row ↦ λ at h. (row, stands_there rows j row at, same_Some (clause_of row.result) c h)
+      | Some row ↦ λ at h. (row, has_found rows j row at, same_Some (clause_of row.result) c h)
     ] refl e
 
 module _ (laws : RowLaws) (ns : List Node) (table : IsTable ns) (levels : List (List ℕ)) (log : LogState) (order : IsLog ns levels log) where
@@ -252,7 +230,7 @@ module _ (laws : RowLaws) (ns : List Node) (table : IsTable ns) (levels : List (
     in_row : (literals : List Lit) (row : Clause) → Contains literals l → clause_of row ≡ clause_in ns log.atoms literals → Contains row (literal_in ns log.atoms l)
     in_row literals row has is =
         once_from are_same_literal row (literal_in ns log.atoms l)
-        (subst (λ (c : Clause). Contains c (literal_in ns log.atoms l)) (sym is) (contains_map (literal_in ns log.atoms) literals l has))
+        (subst (λ (c : Clause). Contains c (literal_in ns log.atoms l)) (sym is) (map_has (literal_in ns log.atoms) literals l has))
 
     of_computed : (rows : List (Computation Clause)) (j : ℕ) (literals : List Lit) → AreRows rows
         → ((row : Computation Clause) → Contains rows row → Contains (link_clauses (number_in ns) (term_in ns t) ++ unit_clauses (number_in ns) (term_in ns t)) row)

@@ -1,36 +1,36 @@
 -- A check: its atoms, its answer, its work, and where it stopped.
 use Rattle.std.specs.Prelude.{◌≡◌, ℕ, ◌<◌, ◌≤◌, ◌++◌, Bool, List, [], ◌∷◌, length, All, Contains, Option, Some, None, IsSome, if◌then◌else◌, map, option_map, slice_get, slice_index_or, take, IfErr, OnOk, Result, ⊤}
-use Rattle.nz_spec.specs.Term as spec_term
-use Rattle.nz_spec.specs.Term.{Head, constant, Value, is_bool, truth}
-use Rattle.nz_spec.specs.Table.{Node, IsTable, term_in, assignment_by}
-use Rattle.nz_spec.specs.Bland.{Point}
-use Rattle.nz_spec.specs.Decide.{asserted_numbers, asserted_terms, AreModelValues}
-use Rattle.nz_spec.specs.Form as form
-use Rattle.nz_spec.specs.Literal as spec
-use Rattle.nz_spec.specs.Literal.{AreTrueLiterals, StandOnce}
-use Rattle.nz_spec.specs.Legal.{Task, at_first, IsAtom, IsDeadEnd, AreLegal, terms_known}
-use Rattle.nz_spec.specs.Places.{IsStoppedLegally}
-use Rattle.nz_spec.specs.Taken.{IsTakenBoolean}
-use Rattle.nz_spec.specs.Work.{WorkLine, NoteLine, WorkList, unit_count}
-use Rattle.nz_log.specs.declared.decide.Verdict.{Verdict}
-use Rattle.nz_log.specs.declared.decide.Verdict.TheVariants.{Sat, Unsat}
+use Rattle.nz_spec.specs.terms.Term as spec_term
+use Rattle.nz_spec.specs.terms.Term.{Head, constant, Value, is_bool, truth}
+use Rattle.nz_spec.specs.terms.Table.{Node, IsTable, term_in, assignment_by}
+use Rattle.nz_spec.specs.simplex.Bland.{Point}
+use Rattle.nz_spec.specs.search.Decide.{asserted_numbers, asserted_terms, AreModelValues}
+use Rattle.nz_spec.specs.terms.Form as form
+use Rattle.nz_spec.specs.clauses.Literal as spec
+use Rattle.nz_spec.specs.clauses.Literal.{AreTrueLiterals, StandOnce}
+use Rattle.nz_spec.specs.search.Legal.{Task, at_first, IsAtom, IsDeadEnd, AreLegal, terms_known}
+use Rattle.nz_spec.specs.search.Places.{IsStoppedLegally}
+use Rattle.nz_spec.specs.terms.Taken.{IsTakenBoolean}
+use Rattle.nz_spec.specs.search.Work.{WorkLine, NoteLine, WorkList, unit_count}
+use Rattle.nz_search.specs.declared.decide.Verdict.{Verdict}
+use Rattle.nz_search.specs.declared.decide.Verdict.TheVariants.{Sat, Unsat}
 use Rattle.nz_log.specs.declared.atoms.Atom as log
 use Rattle.nz_log.specs.declared.atoms.Atom.TheVariants.{Term, AtMost}
 use Rattle.nz_log.specs.declared.lits.Lit.{Lit}
-use Rattle.nz_log.specs.declared.place.Place.{Place}
-use Rattle.nz_log.specs.declared.place.Site.TheVariants as sites
-use Rattle.nz_log.specs.declared.stop.Stop.{Stop}
-use Rattle.nz_log.specs.declared.stop.Stop.TheVariants.{Wide, Spent, Memory}
-use Rattle.nz_log.specs.declared.term_lits.TermLit.{TermLit}
+use Rattle.nz_place.specs.declared.place.Place.{Place}
+use Rattle.nz_place.specs.declared.place.Site.TheVariants as sites
+use Rattle.nz_search.specs.declared.stop.Stop.{Stop}
+use Rattle.nz_search.specs.declared.stop.Stop.TheVariants.{Wide, Spent, Memory}
+use Rattle.nz_term.specs.declared.term_lits.TermLit.{TermLit}
 use Rattle.nz_log.specs.Atoms.{AreAtoms, HasTerm, lits_of, term_place}
 use Rattle.nz_log.specs.Logs.{LogState}
-use Rattle.nz_log.specs.Places.{IsPlaceIn, IsSiteWithin, place_of}
-use Rattle.nz_log.specs.Standing.{IsStoppedAt, Stands}
-use Rattle.nz_log.specs.TermLits.{literal_of, AreNegations}
-use Rattle.nz_log.specs.Verdicts.{task_in}
-use Rattle.nz_log.specs.declared.note.Note.{Note}
-use Rattle.nz_log.specs.declared.note.Note.TheVariants as notes
-use Rattle.nz_log.specs.Notes.{noted_list, AreNotedWithin}
+use Rattle.nz_place.specs.Places.{IsPlaceIn, IsSiteWithin, place_of}
+use Rattle.nz_search.specs.Standing.{IsStoppedAt, Stands}
+use Rattle.nz_term.specs.TermLits.{literal_of, AreNegations}
+use Rattle.nz_search.specs.Verdicts.{task_in}
+use Rattle.nz_search.specs.declared.note.Note.{Note}
+use Rattle.nz_search.specs.declared.note.Note.TheVariants as notes
+use Rattle.nz_search.specs.Notes.{noted_list, AreNotedWithin}
 use Rattle.nz_cform.specs.Forms.{covered_at}
 use Rattle.nz_cform.specs.Listings.{IsListing}
 use Rattle.nz_cform.specs.Stops.{IsStopIn}

@@ -1,18 +1,18 @@
 -- What an engine holds.
 use Rattle.std.specs.Prelude.{ℕ, List, [], ◌∷◌, Option, Some, None, option_map, slice_get}
 use Rattle.std.specs.declared.snapshot.Snapshot.{Snapshot}
-use Rattle.nz_spec.specs.Table.{Node, IsTable}
+use Rattle.nz_spec.specs.terms.Table.{Node, IsTable}
 use Rattle.nz_log.specs.declared.atoms.Atom.{Atom}
 use Rattle.nz_log.specs.declared.atoms.Atom.TheVariants.{Term, AtMost}
 use Rattle.nz_log.specs.declared.lits.Lit.{Lit}
-use Rattle.nz_log.specs.declared.term_lits.TermLit.{TermLit}
+use Rattle.nz_term.specs.declared.term_lits.TermLit.{TermLit}
 use Rattle.nz_log.specs.Logs.{LogState, empty_log, entry_at}
-use Rattle.nz_spec.specs.Term as spec
+use Rattle.nz_spec.specs.terms.Term as spec
 use Rattle.nz_reals.specs.Stands.{IsOver}
 use Rattle.nz_reals.specs.Starts.{MayRestart}
 use Rattle.nz_reals.specs.State.{Theory, empty_theory}
-use Rattle.nz_engine.specs.declared.check.Kept.{Kept}
-use Rattle.nz_engine.specs.declared.check.Kept.TheVariants as kept
+use Rattle.nz_engine.specs.declared.check.Retained.{Retained}
+use Rattle.nz_engine.specs.declared.check.Retained.TheVariants as kept
 use Rattle.nz_engine.specs.Preparing.{PreparedState, IsPrepared, IsStanding}
 
 pub record EngineState : Type 0 where
@@ -54,16 +54,16 @@ abbrev pub table_of : Option (Snapshot (List Node)) → List Node
 table_of None = []
 table_of (Some seen) = seen.value
 
-abbrev pub log_of : Kept → LogState
+abbrev pub log_of : Retained → LogState
 log_of (kept.Prepared p) = p.log
 log_of (kept.Theory t) = empty_log
 
-abbrev pub theory_of : Kept → Theory
+abbrev pub theory_of : Retained → Theory
 theory_of (kept.Prepared p) = p.sat.theory
 theory_of (kept.Theory t) = t
 
 -- a theory over no sum
-abbrev pub nothing_kept : Kept
+abbrev pub nothing_kept : Retained
 nothing_kept = kept.Theory empty_theory
 
 -- A search over the table may begin with the theory, where it stands, after searches that were asked of some terms.
@@ -79,7 +79,7 @@ pub record IsReadied (ns : List Node) (levels : List (List ℕ)) (p : PreparedSt
   pub standing : IsStanding ns levels more p
   pub rest : IsAtRest ns p.sat.theory
 
-abbrev pub IsKept : List Node → List (List ℕ) → Kept → Type 0
+abbrev pub IsKept : List Node → List (List ℕ) → Retained → Type 0
 IsKept ns levels (kept.Prepared p) = IsReadied ns levels p
 IsKept ns levels (kept.Theory t) = IsAtRest ns t
 
@@ -89,6 +89,6 @@ pub record IsSettled (ns : List Node) (levels : List (List ℕ)) (p : PreparedSt
   pub prepared : IsPrepared ns levels levels p
   pub rest : IsAtRest ns p.sat.theory
 
-abbrev pub IsLow : List Node → List (List ℕ) → Kept → Type 0
+abbrev pub IsLow : List Node → List (List ℕ) → Retained → Type 0
 IsLow ns levels (kept.Prepared p) = IsSettled ns levels p
 IsLow ns levels (kept.Theory t) = IsAtRest ns t

@@ -1,10 +1,10 @@
 -- What an engine keeps from check to check: clauses in a log, each held by a search.
 use Rattle.std.specs.Prelude.{◌≡◌, ℕ, ◌<◌, ◌≤◌, ◌++◌, Bool, true, false, List, [], ◌∷◌, length, map, flat_map, min, take, suc, All, Contains, Some, None, IsSome, if◌then◌else◌, slice_get}
-use Rattle.nz_spec.specs.Gates.{is_boolean_term}
-use Rattle.nz_spec.specs.Table.{Node, term_in}
-use Rattle.nz_spec.specs.Taken.{IsTaken}
-use Rattle.nz_spec.specs.Order.{post_order}
-use Rattle.nz_spec.specs.Decide.{asserted_numbers}
+use Rattle.nz_spec.specs.clauses.Gates.{is_boolean_term}
+use Rattle.nz_spec.specs.terms.Table.{Node, term_in}
+use Rattle.nz_spec.specs.terms.Taken.{IsTaken}
+use Rattle.nz_spec.specs.terms.Order.{post_order}
+use Rattle.nz_spec.specs.search.Decide.{asserted_numbers}
 use Rattle.nz_log.specs.declared.atoms.Atom.{Atom}
 use Rattle.nz_log.specs.declared.atoms.Atom.TheVariants.{Term, AtMost}
 use Rattle.nz_log.specs.declared.lits.Lit.{Lit}
@@ -12,8 +12,8 @@ use Rattle.nz_log.specs.Leveled.{IsLeveled}
 use Rattle.nz_log.specs.Atoms.{HasTerm, lit_of, term_place}
 use Rattle.nz_log.specs.Logs.{LogState, empty_log, literals_at, told_level, Drops}
 use Rattle.nz_log.specs.Sound.{IsLog, live_at}
-use Rattle.nz_log.specs.Theories.{Grows}
-use Rattle.nz_log.specs.TermLits.{yes}
+use Rattle.nz_log.specs.Growth.{Grows}
+use Rattle.nz_term.specs.TermLits.{yes}
 use Rattle.nz_cform.specs.Covering.{AreAdded, Covers, IsRowAt, Keeps}
 use Rattle.nz_cform.specs.Forms as form
 use Rattle.nz_cform.specs.Forms.{FormState, Cuts, covered_at, empty_form}

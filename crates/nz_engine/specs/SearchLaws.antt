@@ -1,6 +1,6 @@
 -- The laws that a search over what is prepared rests on.
-use Rattle.nz_spec.specs.FormOf.{FormsAreSums}
-use Rattle.nz_spec.specs.WellSorted.{OperandsAreSorted}
+use Rattle.nz_spec.specs.terms.FormOf.{FormsAreSums}
+use Rattle.nz_spec.specs.terms.WellSorted.{OperandsAreSorted}
 use Rattle.nz_log.specs.Atoms.{AtomsOfTerms}
 use Rattle.nz_cform.specs.Laws.{CoversStay}
 use Rattle.nz_reals.specs.Starts.{TheoriesRestart}

@@ -1,19 +1,20 @@
 //! A check, over what is kept from the one before.
 ghost use Rattle.std.specs.Prelude.{◌≡◌, ◌++◌, ℕ, [], All, List, length, map, take, IfErr, IfOk};
-ghost use Rattle.nz_spec.specs.Decide.{AreInTable, AreModelValues, IsFrontOfTable, asserted_numbers, asserted_terms};
-ghost use Rattle.nz_spec.specs.Legal.{AreLegal, terms_known};
-ghost use Rattle.nz_spec.specs.Literal.{AreTrueLiterals};
-ghost use Rattle.nz_spec.specs.Order.{HasCompanions};
-ghost use Rattle.nz_spec.specs.Table.{Node, assignment_by, term_in};
-ghost use Rattle.nz_spec.specs.Taken.{IsTakenBoolean};
-ghost use Rattle.nz_spec.specs.Term as spec;
-ghost use Rattle.nz_spec.specs.Work.{IsSpent};
-ghost use Rattle.nz_log.specs.declared.term_lits.TermLit.{TermLit};
-ghost use Rattle.nz_log.specs.declared.stop.Stop.TheVariants as stop;
-ghost use Rattle.nz_log.specs.Notes.{noted_list};
-ghost use Rattle.nz_log.specs.Places.{IsSiteWithin, OnWide};
-ghost use Rattle.nz_log.specs.TermLits.{AreConsistent, AreOfTerms, literal_of};
-ghost use Rattle.nz_log.specs.Verdicts.{OnSpent, task_in};
+ghost use Rattle.nz_spec.specs.search.Decide.{AreInTable, AreModelValues, IsFrontOfTable, asserted_numbers, asserted_terms};
+ghost use Rattle.nz_spec.specs.search.Legal.{AreLegal, terms_known};
+ghost use Rattle.nz_spec.specs.clauses.Literal.{AreTrueLiterals};
+ghost use Rattle.nz_spec.specs.terms.Order.{HasCompanions};
+ghost use Rattle.nz_spec.specs.terms.Table.{Node, assignment_by, term_in};
+ghost use Rattle.nz_spec.specs.terms.Taken.{IsTakenBoolean};
+ghost use Rattle.nz_spec.specs.terms.Term as spec;
+ghost use Rattle.nz_spec.specs.search.Work.{IsSpent};
+ghost use Rattle.nz_term.specs.declared.term_lits.TermLit.{TermLit};
+ghost use Rattle.nz_search.specs.declared.stop.Stop.TheVariants as stop;
+ghost use Rattle.nz_search.specs.Notes.{noted_list};
+ghost use Rattle.nz_place.specs.Places.{IsSiteWithin};
+ghost use Rattle.nz_search.specs.Places.{OnWide};
+ghost use Rattle.nz_term.specs.TermLits.{AreConsistent, AreOfTerms, literal_of};
+ghost use Rattle.nz_search.specs.Verdicts.{OnSpent, task_in};
 ghost use Rattle.nz_cform.specs.Covering.{Covers};
 ghost use Rattle.nz_reals.specs.Starts.{MayRestart};
 ghost use Rattle.nz_engine.specs.Checking.{HasFound, IsAnswer, IsPosed, IsRootStop, IsStop, IsStopOf, Works, terms_named};
@@ -25,40 +26,40 @@ use crate::prepared::Prepared;
 use nz_base::{Memory, Work};
 use nz_cform::laws::{covers_stay, rows_meet_tables};
 use nz_log::laws::{atoms_of_terms, clauses_are_true, logs_stay, logs_stay_leveled};
-use nz_log::{Note, Stop, TermLit, Verdict};
 use nz_reals::Reals;
 use nz_reals::laws::theories_restart;
+use nz_search::{Note, Stop, Verdict};
 use nz_spec::deciding::tables_decide;
 use nz_spec::form::term_has_its_number;
 use nz_spec::table::{assigns_by_number, term_of_node, term_stays};
-use nz_term::{Assign, Terms, known_table};
+use nz_term::{Assign, TermLit, Terms, known_table};
 use std::alloc::Global;
 use std::mem;
 
 /// What is kept from check to check: all that was prepared, or the theory alone.
 #[derive(Debug, Drop)]
-pub enum Kept {
+pub enum Retained {
     Prepared(Prepared),
     Theory(Reals),
 }
 
 /// What a check comes to: its answer, and what is kept.
 #[derive(Debug, Drop)]
-pub struct Found {
+pub struct CheckOutcome {
     pub verdict: Verdict,
     pub prepared: Prepared,
 }
 
 /// Takes out what is kept, and leaves a theory over no sum. Takes no memory.
-pub fn take_kept(alloc: Global, kept: &mut Kept) -> Kept
+pub fn take_kept(alloc: Global, kept: &mut Retained) -> Retained
     ensures taken { result ≡ kept.old }
     ensures left { kept.new ≡ nothing_kept }
 {
-    mem::replace(kept, Kept::Theory(Reals::new(alloc)))
+    mem::replace(kept, Retained::Theory(Reals::new(alloc)))
 }
 
 /// What is prepared up to the last of these levels. Takes no memory.
-fn cut_to(mut prepared: Prepared, levels: &Levels) -> Kept
+fn cut_to(mut prepared: Prepared, levels: &Levels) -> Retained
     ensures low { (ns : List Node) (old : List (List ℕ)) → take (length levels.now) old ≡ levels.now → IsReadied ns old prepared → IsLow ns levels.now result }
     ensures theory { theory_of result ≡ prepared.sat.theory }
 {
@@ -68,45 +69,45 @@ fn cut_to(mut prepared: Prepared, levels: &Levels) -> Kept
         Some(last) => {
             // What was learned may have bounds that are listed no more: then the clauses are made anew, over the same theory.
             if prepared.cut(last, levels) {
-                Kept::Prepared(prepared)
+                Retained::Prepared(prepared)
             } else {
-                Kept::Theory(prepared.take_theory())
+                Retained::Theory(prepared.take_theory())
             }
         }
-        None => Kept::Theory(prepared.take_theory()),
+        None => Retained::Theory(prepared.take_theory()),
     }
 }
 
 /// What is prepared, if anything is, up to the last of these levels. Takes no memory.
-pub fn cut_kept(kept: Kept, levels: &Levels) -> Kept
+pub fn cut_kept(kept: Retained, levels: &Levels) -> Retained
     ensures low { (ns : List Node) (old : List (List ℕ)) → take (length levels.now) old ≡ levels.now → IsKept ns old kept → IsLow ns levels.now result }
     ensures theory { theory_of result ≡ theory_of kept }
 {
     match kept {
-        Kept::Prepared(prepared) => cut_to(prepared, levels),
-        Kept::Theory(theory) => Kept::Theory(theory),
+        Retained::Prepared(prepared) => cut_to(prepared, levels),
+        Retained::Theory(theory) => Retained::Theory(theory),
     }
 }
 
 /// What is prepared, without what is covered for assumed literals alone. Takes no memory.
-pub fn lowered(kept: Kept, levels: &Levels) -> Kept
+pub fn lowered(kept: Retained, levels: &Levels) -> Retained
     ensures low { (ns : List Node) → IsKept ns levels.now kept → IsLow ns levels.now result }
     ensures theory { theory_of result ≡ theory_of kept }
 {
     match kept {
-        Kept::Prepared(prepared) => {
+        Retained::Prepared(prepared) => {
             if prepared.is_above() {
                 cut_to(prepared, levels)
             } else {
-                Kept::Prepared(prepared)
+                Retained::Prepared(prepared)
             }
         }
-        Kept::Theory(theory) => Kept::Theory(theory),
+        Retained::Theory(theory) => Retained::Theory(theory),
     }
 }
 
 /// What is prepared for these levels, or nothing yet.
-fn begun(alloc: Global, kept: Kept, levels: &Levels) -> Result<Prepared, Memory>
+fn begun(alloc: Global, kept: Retained, levels: &Levels) -> Result<Prepared, Memory>
     ensures stands { IfOk result (λ p. (front ns : List Node) → IsFrontOfTable front ns → IsKept front levels.now kept → IsPrepared ns levels.now levels.now p) }
     ensures theory { IfOk result (λ p. p.sat.theory ≡ theory_of kept) }
 {
@@ -115,15 +116,15 @@ fn begun(alloc: Global, kept: Kept, levels: &Levels) -> Result<Prepared, Memory>
     logs_stay_leveled();
     term_stays();
     match lowered(kept, levels) {
-        Kept::Prepared(prepared) => Ok(prepared),
-        Kept::Theory(theory) => Prepared::new(alloc, theory),
+        Retained::Prepared(prepared) => Ok(prepared),
+        Retained::Theory(theory) => Prepared::new(alloc, theory),
     }
 }
 
 /// The clauses of what is asserted and assumed.
 fn posed(
     alloc: Global,
-    kept: Kept,
+    kept: Retained,
     levels: &Levels,
     terms: &Terms,
     assumed: &[TermLit],
@@ -172,12 +173,12 @@ fn model(alloc: Global, terms: &Terms, prepared: &Prepared) -> Result<Assign, St
 /// dropped.
 pub fn decide(
     alloc: Global,
-    kept: Kept,
+    kept: Retained,
     levels: &Levels,
     terms: &Terms,
     assumed: &[TermLit],
     work: &mut Work<Note>,
-) -> Result<Found, Stop>
+) -> Result<CheckOutcome, Stop>
     requires known { AreInTable terms.now levels.now }
     requires within { AreOfTerms terms.now assumed.now }
     requires no_steps { work.old.lines ≡ [] }
@@ -203,12 +204,12 @@ pub fn decide(
     let mut prepared = posed(alloc, kept, levels, terms, assumed)?;
     let refuted = prepared.solve(terms, assumed, work)?;
     match refuted {
-        Some(clause) => Ok(Found {
+        Some(clause) => Ok(CheckOutcome {
             verdict: Verdict::Unsat(clause),
             prepared,
         }),
         None => match model(alloc, terms, &prepared) {
-            Ok(values) => Ok(Found {
+            Ok(values) => Ok(CheckOutcome {
                 verdict: Verdict::Sat(values),
                 prepared,
             }),

@@ -1,18 +1,19 @@
 //! The engine as its callers see it.
 ghost use Rattle.std.specs.Prelude.{◌≡◌, IfOk, List};
-ghost use Rattle.nz_spec.specs.Term as spec;
+ghost use Rattle.nz_spec.specs.terms.Term as spec;
 ghost use Rattle.nz_engine.specs.Engines.{Begins, empty_engine};
 
-use crate::check::{Found, Kept, cut_kept, decide, lowered, take_kept};
+use crate::check::{CheckOutcome, Retained, cut_kept, decide, lowered, take_kept};
 use crate::levels::Levels;
 use nz_base::{Memory, Work};
 use nz_log::laws::logs_stay;
-use nz_log::{ClauseId, Decide, Note, Step, Stop, TermLit, Verdict};
+use nz_log::{ClauseId, Step};
 use nz_reals::Reals;
 use nz_reals::laws::theories_restart;
+use nz_search::{Decide, Note, Stop, Verdict};
 use nz_spec::derivation::derivations_grow;
 use nz_spec::table::term_stays;
-use nz_term::{TermId, Terms, known_table};
+use nz_term::{TermId, TermLit, Terms, known_table};
 use std::alloc::Global;
 use std::marker::Model;
 use std::snapshot::Snapshot;
@@ -25,7 +26,7 @@ pub struct Engine {
     levels: Levels,
     // The table of the last check.
     seen: Option<Snapshot<Terms>>,
-    kept: Kept,
+    kept: Retained,
 }
 
 impl Model for Engine {
@@ -49,7 +50,7 @@ impl Engine {
             alloc,
             levels: Levels::new(alloc),
             seen: None,
-            kept: Kept::Theory(Reals::new(alloc)),
+            kept: Retained::Theory(Reals::new(alloc)),
         })
     }
 }
@@ -96,7 +97,7 @@ impl Decide for Engine {
         theories_restart();
         let kept = take_kept(self.alloc, &mut self.kept);
         self.seen = Some(Snapshot::of(terms));
-        let Found { verdict, prepared } = decide(
+        let CheckOutcome { verdict, prepared } = decide(
             self.alloc,
             kept,
             &self.levels,
@@ -104,14 +105,14 @@ impl Decide for Engine {
             assumed,
             work,
         )?;
-        self.kept = Kept::Prepared(prepared);
+        self.kept = Retained::Prepared(prepared);
         Ok(verdict)
     }
 
     fn steps(&self, id: ClauseId) -> Result<Vec<Step<'_>>, Memory> {
         derivations_grow();
         // A clause that can be asked for is of a log.
-        let Kept::Prepared(prepared) = &self.kept else {
+        let Retained::Prepared(prepared) = &self.kept else {
             unreachable!()
         };
         prepared.steps(id)

@@ -1,6 +1,6 @@
 //! The asserted terms by level.
 ghost use Rattle.std.specs.Prelude.{◌≡◌, ◌-◌, ◌<◌, ◌≤◌, [], ◌∷◌, ◌++◌, length, min, take, None, IfSome, OnOk, OnErr};
-ghost use Rattle.nz_spec.specs.Decide.{with_number};
+ghost use Rattle.nz_spec.specs.search.Decide.{with_number};
 ghost use Rattle.nz_engine.specs.Levels.{IsPlaced, count_of, numbers_by_level};
 
 use nz_base::Memory;

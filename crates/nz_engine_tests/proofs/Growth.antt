@@ -4,9 +4,9 @@ use Rattle.std.specs.Prelude.{All}
 use Rattle.std.proofs.lemmas.List.{append-nil}
 use Rattle.std.proofs.Math.Seq.{take-append_seam}
 use Rattle.nz_lists.proofs.Fronts.{front_of_more}
-use Rattle.nz_spec.specs.Decide.{IsFrontOfTable}
-use Rattle.nz_spec.specs.Gates.{is_boolean_term}
-use Rattle.nz_spec.specs.Table.{Node}
+use Rattle.nz_spec.specs.search.Decide.{IsFrontOfTable}
+use Rattle.nz_spec.specs.clauses.Gates.{is_boolean_term}
+use Rattle.nz_spec.specs.terms.Table.{Node}
 use Rattle.nz_engine.specs.Engines.{EngineState}
 use Rattle.nz_term.specs.Growth.{Grows, KeepsTerms}
 use Rattle.nz_engine_tests.specs.Benches.{Extends, IsFormula, IsInOrder, IsReady}

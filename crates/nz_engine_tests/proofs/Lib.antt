@@ -1,3 +1,3 @@
-mod Assuming
+mod ConsistentLiterals
 mod Growth
-mod Telling
+mod ToldLevels

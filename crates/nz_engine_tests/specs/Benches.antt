@@ -1,9 +1,9 @@
 -- What an engine may be asked about, over a table that grows.
 use Rattle.std.specs.Prelude.{◌≡◌, ℕ, ◌<◌, ◌++◌, true, List, length, All}
-use Rattle.nz_spec.specs.Decide.{asserted_numbers, IsFrontOfTable}
-use Rattle.nz_spec.specs.Gates.{is_boolean_term}
-use Rattle.nz_spec.specs.Table.{Node, term_in}
-use Rattle.nz_log.specs.declared.term_lits.TermLit.{TermLit}
+use Rattle.nz_spec.specs.search.Decide.{asserted_numbers, IsFrontOfTable}
+use Rattle.nz_spec.specs.clauses.Gates.{is_boolean_term}
+use Rattle.nz_spec.specs.terms.Table.{Node, term_in}
+use Rattle.nz_term.specs.declared.term_lits.TermLit.{TermLit}
 use Rattle.nz_engine.specs.Engines.{EngineState}
 
 -- The number is one of the table, and its term is of sort Bool.

@@ -2,21 +2,21 @@
 //! is known to no other file.
 ghost use Rattle.std.specs.Prelude.{◌≡◌, All, IsTrue, OnOk, length};
 ghost use Rattle.std.specs.Bool.{OnTrue};
-ghost use Rattle.nz_spec.specs.Decide.{IsFrontOfTable};
-ghost use Rattle.nz_spec.specs.Order.{HasCompanions};
-ghost use Rattle.nz_spec.specs.Table.{HasItsArguments};
-ghost use Rattle.nz_spec.specs.Term.{head_fits};
+ghost use Rattle.nz_spec.specs.search.Decide.{IsFrontOfTable};
+ghost use Rattle.nz_spec.specs.terms.Order.{HasCompanions};
+ghost use Rattle.nz_spec.specs.terms.Table.{HasItsArguments};
+ghost use Rattle.nz_spec.specs.terms.Term.{head_fits};
 ghost use Rattle.nz_term.specs.Heads.{head_of};
-ghost use Rattle.nz_log.specs.TermLits.{AreConsistent};
+ghost use Rattle.nz_term.specs.TermLits.{AreConsistent};
 ghost use Rattle.nz_taken_samples.specs.Sorted.{AreTaken};
 ghost use Rattle.nz_engine_tests.specs.Benches.{AreFormulaLits, IsFormula, IsReady};
 
 use nz_base::{Memory, Text, Work};
 use nz_engine::Engine;
-use nz_log::{Decide, Stop, TermLit, Verdict};
+use nz_search::{Decide, Stop, Verdict};
 use nz_taken_samples::need_taken;
 use nz_term::{
-    Constant, Head, Operator, Sort, TermId, Terms, add_companions, operators_are_no_leaves,
+    Constant, Head, Operator, Sort, TermId, TermLit, Terms, add_companions, operators_are_no_leaves,
 };
 use nz_term_samples::are_below;
 use std::alloc::Global;

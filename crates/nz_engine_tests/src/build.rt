@@ -3,8 +3,7 @@
 use crate::bench::Bench;
 use crate::formula::Part;
 use nz_base::Memory;
-use nz_log::TermLit;
-use nz_term::{NumberSort, Operator, Sort, TermId};
+use nz_term::{NumberSort, Operator, Sort, TermId, TermLit};
 use std::alloc::Global;
 
 /// How many arguments a part has.

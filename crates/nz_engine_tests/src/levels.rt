@@ -65,7 +65,7 @@ const LEVELS: &[Act] = &[
 ];
 
 #[test]
-fn what_is_popped_is_no_longer_asserted(rt: HostRuntime) -> Result<(), Fail> {
+fn test_what_is_popped_is_no_longer_asserted(rt: HostRuntime) -> Result<(), Fail> {
     run(rt.alloc(), LEVELS)
 }
 
@@ -83,7 +83,7 @@ const SPENT: &[Act] = &[
 ];
 
 #[test]
-fn a_spent_check_leaves_the_engine_as_it_was(rt: HostRuntime) -> Result<(), Fail> {
+fn test_a_spent_check_leaves_the_engine_as_it_was(rt: HostRuntime) -> Result<(), Fail> {
     run(rt.alloc(), SPENT)
 }
 
@@ -106,7 +106,7 @@ const BOUNDS: &[Act] = &[
 ];
 
 #[test]
-fn what_is_popped_bounds_no_longer(rt: HostRuntime) -> Result<(), Fail> {
+fn test_what_is_popped_bounds_no_longer(rt: HostRuntime) -> Result<(), Fail> {
     run(rt.alloc(), BOUNDS)
 }
 
@@ -175,7 +175,7 @@ fn do_seeded(trial: &mut Trial, count: usize) -> Result<(), Fail> {
 }
 
 #[test]
-fn an_engine_answers_as_one_that_is_new(rt: HostRuntime) -> Result<(), Fail> {
+fn test_an_engine_answers_as_one_that_is_new(rt: HostRuntime) -> Result<(), Fail> {
     let mut trial = Trial::new(rt.alloc(), 6)?;
     do_seeded(&mut trial, 150)
 }

@@ -200,11 +200,11 @@ fn run(alloc: Global, rows: &'static [Row]) -> Result<(), Fail> {
 }
 
 #[test]
-fn each_row_is_answered(rt: HostRuntime) -> Result<(), Fail> {
+fn test_each_row_is_answered(rt: HostRuntime) -> Result<(), Fail> {
     run(rt.alloc(), ROWS)
 }
 
 #[test]
-fn each_row_over_reals_is_answered(rt: HostRuntime) -> Result<(), Fail> {
+fn test_each_row_over_reals_is_answered(rt: HostRuntime) -> Result<(), Fail> {
     run(rt.alloc(), NUMBERS)
 }

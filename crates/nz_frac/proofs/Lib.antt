@@ -1,4 +1,4 @@
-pub mod Carrying
+pub mod OperationOutcomes
 pub mod OrderLemmas
 pub mod PartLemmas
 pub mod ProductLemmas

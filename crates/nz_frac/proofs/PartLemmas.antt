@@ -19,10 +19,6 @@ pub unsigned_abs-with_sign : (b : Bool) (n : ℕ) → unsigned_abs (with_sign b 
 unsigned_abs-with_sign true n = unsigned_abs-neg (pos n)
 unsigned_abs-with_sign false n = refl
 
-pub with_sign-abs : (z : ℤ) → with_sign (int_lt z (pos 0)) (unsigned_abs z) ≡ z
-with_sign-abs (pos n) = ap (λ (b : Bool). with_sign b n) (le-ltb n 0 (omega arith))
-with_sign-abs (negsuc n) = refl
-
 pub with_sign-div : (z : ℤ) (g : ℕ) → with_sign (int_lt z (pos 0)) (unsigned_abs z / g) ≡ int_div z (pos g)
 with_sign-div (pos n) g = ap (λ (b : Bool). with_sign b (n / g)) (le-ltb n 0 (omega arith))
 with_sign-div (negsuc n) g = refl
@@ -51,15 +47,6 @@ number-from_parts n d q parts v =
 
 pub lowest-from_parts : (n : ℤ) (d : ℕ) (q : Fraction) → AreParts n d → value_of n d ≡ q → IsLowest q
 lowest-from_parts n d q parts v = record { lowest = (number-from_parts n d q parts v).lowest }
-
-pub parts-from_number : (q : Fraction) → IsNumber q → AreParts q.numerator (denominator q)
-unfolding denominator
-parts-from_number q h = record {
-  lowest = h.lowest;
-  num_fits = h.numerator_fits;
-  den_positive = omega arith;
-  den_fits = h.denominator_fits;
-}
 
 -- ---- negation and the reciprocal
 

@@ -8,7 +8,7 @@ use Rattle.nz_ints.proofs.Products.{mul-one}
 use Rattle.nz_ints.proofs.Sizes.{abs_pos, cast-back, unsigned_abs-neg}
 use Rattle.nz_ints.proofs.Ring.{Atom, ◌⊗◌, Minus, solve}
 use Rattle.nz_ints.proofs.Divisors.{gcd-dvd_left, gcd-dvd_right, gcd_comm, gcd_pos, gcd-one, gcd-left, gcd-right, coprime-rests, coprime-mul, coprime-dvd}
-use Rattle.nz_ints.proofs.Rounding.{int_div-mul_cancel, unsigned_abs-int_div}
+use Rattle.nz_ints.proofs.FloorDivision.{int_div-mul_cancel, unsigned_abs-int_div}
 use Rattle.nz_fractions.specs.Fraction.{Fraction, denominator, over, whole, gcd, largest, exceeds, ◌=ℚ◌, ◌*ℚ◌, ◌/ℚ◌, flipped, reciprocal, reduce, ratio, is_wide_product, outcome, exact, Product, IsNumber}
 use Rattle.nz_fractions.proofs.Arithmetic.{numerator-product, denominator-product}
 use Rattle.nz_fractions.proofs.Laws.{denominator_pos, denominator-over, numerator-over, reduce-is, reduce-lowest, IsLowest}

@@ -9,7 +9,7 @@ use Rattle.nz_ints.proofs.Sizes.{cast-back}
 use Rattle.nz_ints.proofs.Ring.{Atom, ◌⊕◌, ◌⊗◌, Minus, solve}
 use Rattle.nz_ints.proofs.Divisors.{gcd-dvd_left, gcd-dvd_right, dvd-gcd, gcd_comm, gcd_pos, gcd-one, gcd-left, gcd-right, coprime-rests, coprime-mul, coprime-dvd, gcd-mul_coprime}
 use Rattle.nz_ints.proofs.Multiples.{lcm-div_left, lcm-div_right}
-use Rattle.nz_ints.proofs.Rounding.{int_div-mul_cancel, unsigned_abs-int_div}
+use Rattle.nz_ints.proofs.FloorDivision.{int_div-mul_cancel, unsigned_abs-int_div}
 use Rattle.nz_fractions.specs.Fraction.{Fraction, denominator, over, gcd, lcm, largest, exceeds, ◌=ℚ◌, ◌+ℚ◌, reduce, is_wide_sum, outcome, exact, Sum}
 use Rattle.nz_fractions.proofs.Arithmetic.{numerator-sum, denominator-sum}
 use Rattle.nz_fractions.proofs.Laws.{denominator_pos, denominator-over, numerator-over, reduce-alike, reduce-lowest, IsLowest}
@@ -282,12 +282,12 @@ pub no_top : {p q : Fraction} {a c : ℤ} {d g m n : ℕ} → At p q a c d g m n
 no_top {p} {q} h x y l r none f = none (rw (top_at h x y l r) (fits-from_wide p q f).top_fits)
 
 -- all four fit: t is the sum over the multiple k
-pub record Found (p q : Fraction) (t : ℤ) (k : ℕ) : Type 0 where
+pub record FoundSum (p q : Fraction) (t : ℤ) (k : ℕ) : Type 0 where
   pub fits : Fits p q
   pub top_is : t ≡ top p q
   pub multiple_is : k ≡ multiple p q
 
-pub found : {p q : Fraction} {a c : ℤ} {d g m n : ℕ} → At p q a c d g m n → (k : ℕ) (x y t : ℤ) → (m * d ≤ largest) × (k ≡ m * d) → (unsigned_abs (a *ℤ pos n) ≤ largest) × (x ≡ a *ℤ pos n) → (unsigned_abs (c *ℤ pos m) ≤ largest) × (y ≡ c *ℤ pos m) → (unsigned_abs (to_z w128 (of_z w128 x) +ℤ to_z w128 (of_z w128 y)) ≤ largest) × (t ≡ to_z w128 (of_z w128 x) +ℤ to_z w128 (of_z w128 y)) → Found p q t k
+pub found : {p q : Fraction} {a c : ℤ} {d g m n : ℕ} → At p q a c d g m n → (k : ℕ) (x y t : ℤ) → (m * d ≤ largest) × (k ≡ m * d) → (unsigned_abs (a *ℤ pos n) ≤ largest) × (x ≡ a *ℤ pos n) → (unsigned_abs (c *ℤ pos m) ≤ largest) × (y ≡ c *ℤ pos m) → (unsigned_abs (to_z w128 (of_z w128 x) +ℤ to_z w128 (of_z w128 y)) ≤ largest) × (t ≡ to_z w128 (of_z w128 x) +ℤ to_z w128 (of_z w128 y)) → FoundSum p q t k
 found h k x y t i l r s = record {
   fits = record {
     multiple_fits = rw (← multiple_at h) i.0;
@@ -304,7 +304,7 @@ unfolding outcome
 outcome-lowest p q = reduce-lowest (exact Sum p q)
 
 -- what the code answers after it took out s
-pub sum_answers : {p q : Fraction} {a c : ℤ} {d g m n : ℕ} → At p q a c d g m n → (t : ℤ) (k s : ℕ) (r : ℤ) (e : ℕ) → Found p q t k → s ≡ gcd (unsigned_abs t) g → r ≡ int_div t (pos s) → e ≡ k / s → Answers (outcome Sum p q) r e
+pub sum_answers : {p q : Fraction} {a c : ℤ} {d g m n : ℕ} → At p q a c d g m n → (t : ℤ) (k s : ℕ) (r : ℤ) (e : ℕ) → FoundSum p q t k → s ≡ gcd (unsigned_abs t) g → r ≡ int_div t (pos s) → e ≡ k / s → Answers (outcome Sum p q) r e
 sum_answers {p} {q} {a} {c} {d} {g} h t k s r e f es er ee =
     let i = top p q in
     let j = multiple p q in
@@ -330,21 +330,21 @@ int_div-one (pos n) = ap pos (div-one n)
 int_div-one (negsuc n) = ap (λ (m : ℕ). neg_ℤ (pos m)) (div-one (suc n))
 
 -- with nothing in common there is nothing to take out
-pub sum_answers_apart : {p q : Fraction} {a c : ℤ} {d g m n : ℕ} → At p q a c d g m n → (t : ℤ) (k : ℕ) → Found p q t k → g ≡ 1 → Answers (outcome Sum p q) t k
+pub sum_answers_apart : {p q : Fraction} {a c : ℤ} {d g m n : ℕ} → At p q a c d g m n → (t : ℤ) (k : ℕ) → FoundSum p q t k → g ≡ 1 → Answers (outcome Sum p q) t k
 sum_answers_apart h t k f one =
     sum_answers h t k 1 t k f
     (sym (gcd-one (unsigned_abs t)) ∙ ap (λ (x : ℕ). gcd (unsigned_abs t) x) (sym one))
     (sym (int_div-one t))
     (sym (div-one k))
 
-pub top_back : {p q : Fraction} (t : ℤ) {k : ℕ} → Found p q t k → to_z w128 (of_z w128 t) ≡ t
+pub top_back : {p q : Fraction} (t : ℤ) {k : ℕ} → FoundSum p q t k → to_z w128 (of_z w128 t) ≡ t
 top_back t f = cast-back t (rw f.top_is f.fits.top_fits)
 
-pub top_fits_back : {p q : Fraction} (t : ℤ) {k : ℕ} → Found p q t k → unsigned_abs (to_z w128 (of_z w128 t)) ≤ largest
+pub top_fits_back : {p q : Fraction} (t : ℤ) {k : ℕ} → FoundSum p q t k → unsigned_abs (to_z w128 (of_z w128 t)) ≤ largest
 top_fits_back t f = rw (top_back t f) (rw f.top_is f.fits.top_fits)
 
 -- the same where the code reads t through its bits
-pub sum_answers_back : {p q : Fraction} {a c : ℤ} {d g m n : ℕ} → At p q a c d g m n → (t : ℤ) (k i s : ℕ) (r : ℤ) (e : ℕ) → Found p q t k → i ≡ unsigned_abs (to_z w128 (of_z w128 t)) → s ≡ gcd i g → r ≡ int_div (to_z w128 (of_z w128 t)) (pos s) → e ≡ k / s → Answers (outcome Sum p q) r e
+pub sum_answers_back : {p q : Fraction} {a c : ℤ} {d g m n : ℕ} → At p q a c d g m n → (t : ℤ) (k i s : ℕ) (r : ℤ) (e : ℕ) → FoundSum p q t k → i ≡ unsigned_abs (to_z w128 (of_z w128 t)) → s ≡ gcd i g → r ≡ int_div (to_z w128 (of_z w128 t)) (pos s) → e ≡ k / s → Answers (outcome Sum p q) r e
 sum_answers_back {p} {q} {a} {c} {d} {g} h t k i s r e f ei es er ee =
     sum_answers h t k s r e f
     (es ∙ ap (λ (x : ℕ). gcd x g) (ei ∙ ap unsigned_abs (top_back t f)))
@@ -370,7 +370,7 @@ whole_top {p} {q} {a} {c} h =
 pub no_whole_top : {p q : Fraction} {a c : ℤ} {d : ℕ} → At p q a c d 1 1 1 → (unsigned_abs (a +ℤ c) ≤ largest → ⊥) → IsFalse (is_wide_sum p q) → ⊥
 no_whole_top {p} {q} h none f = none (rw (whole_top h) (fits-from_wide p q f).top_fits)
 
-pub found_top : {p q : Fraction} {a c : ℤ} {d : ℕ} → At p q a c d 1 1 1 → d ≡ 1 → unsigned_abs a ≤ largest → unsigned_abs c ≤ largest → (t : ℤ) → (unsigned_abs (a +ℤ c) ≤ largest) × (t ≡ a +ℤ c) → Found p q t 1
+pub found_top : {p q : Fraction} {a c : ℤ} {d : ℕ} → At p q a c d 1 1 1 → d ≡ 1 → unsigned_abs a ≤ largest → unsigned_abs c ≤ largest → (t : ℤ) → (unsigned_abs (a +ℤ c) ≤ largest) × (t ≡ a +ℤ c) → FoundSum p q t 1
 found_top {p} {q} {a} {c} {d} h ed fa fc t s =
     let k : 1 ≡ multiple p q = ap (λ (i : ℕ). 1 * i) (sym ed) ∙ multiple_at h in
     record {

@@ -3,7 +3,7 @@ use Rattle.std.proofs.Common.{◌≡◌, suc, false, pos, ◌*ℤ◌, sym, ap, �
 use Rattle.std.proofs.Math.IntN.{zero-*ℤ}
 use Rattle.std.proofs.lemmas.Bool.Decides.{Decides-int_eq}
 use Rattle.nz_fractions.specs.Fraction.{Fraction, denominator, fraction_eq}
-use Rattle.nz_spec.specs.Term.{is_zero}
+use Rattle.nz_spec.specs.terms.Term.{is_zero}
 
 -- a number whose numerator is 0 is zero
 pub is_not_zero : (q : Fraction) → is_zero q ≡ false → q.numerator ≡ pos 0 → ⊥

@@ -2,8 +2,8 @@
 use Rattle.std.specs.Prelude.{◌≡◌, Some, None}
 use Rattle.nz_fractions.specs.Fraction as fraction
 use Rattle.nz_fractions.specs.Fraction.{Fraction, Arithmetic, first_wide}
-use Rattle.nz_spec.specs.Operations.{operation_on}
-use Rattle.nz_spec.specs.Term.{carried_out, number}
+use Rattle.nz_spec.specs.terms.Operations.{operation_on}
+use Rattle.nz_spec.specs.terms.Term.{carried_out, number}
 use Rattle.nz_frac.specs.declared.frac.Op.{Op}
 use Rattle.nz_frac.specs.declared.frac.Op.TheVariants as op
 use Rattle.nz_frac.specs.declared.frac.Wide.{Wide}

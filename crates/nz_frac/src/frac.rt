@@ -2,7 +2,7 @@
 ghost use Rattle.std.specs.Prelude.{◌≡◌, ◌≢◌, ◌*◌, ◌<◌, ◌≤◌, ◌↔◌, IsTrue, IsFalse, IsSome, IfSome, IfOk, false, IsErr, IfErr, pos, ◌+ℤ◌, ◌*ℤ◌, unsigned_abs, int_div};
 ghost use Rattle.std.specs.Option.{SomeIff};
 ghost use Rattle.nz_fractions.specs.Fraction.{floor_div, largest, denominator, over, whole, neg_ℚ, floor, ceiling, ratio, reciprocal, IsNumber, fraction_cmp, Sum, Difference, Product, Quotient, outcome, is_wide, is_wide_sum, is_wide_product};
-ghost use Rattle.nz_spec.specs.Term.{is_zero};
+ghost use Rattle.nz_spec.specs.terms.Term.{is_zero};
 ghost use Rattle.nz_frac.specs.Parts.{with_sign, differ};
 
 use crate::magnitude::{LARGEST, cmp_products, greatest_divisor, product_within, quotient};

@@ -1,6 +1,6 @@
 //! Operations by their names.
 ghost use Rattle.std.specs.Prelude.{◌≡◌, IfOk, IfErr};
-ghost use Rattle.nz_spec.specs.Term.{is_undefined};
+ghost use Rattle.nz_spec.specs.terms.Term.{is_undefined};
 ghost use Rattle.nz_frac.specs.Operations.{IsCarriedOut, IsStopped, operator_of};
 
 use crate::frac::{Frac, Op, Wide};

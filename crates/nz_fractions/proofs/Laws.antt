@@ -6,8 +6,8 @@ use Rattle.std.proofs.lemmas.Int.{ints, unsigned_abs-mul, by_lt_z}
 use Rattle.nz_ints.proofs.Sizes.{factor_pos}
 use Rattle.nz_ints.proofs.Products as products
 use Rattle.nz_ints.proofs.Divisors.{gcd-dvd_left, gcd-dvd_right, gcd_pos, coprime-rests, lowest-unique}
-use Rattle.nz_ints.proofs.Rounding.{int_div-mul_cancel, unsigned_abs-int_div}
-use Rattle.nz_fractions.specs.Fraction.{Fraction, denominator, over, whole, ◌=ℚ◌, ◌≤ℚ◌, ◌<ℚ◌, gcd, reduce}
+use Rattle.nz_ints.proofs.FloorDivision.{int_div-mul_cancel, unsigned_abs-int_div}
+use Rattle.nz_fractions.specs.Fraction.{Fraction, denominator, over, ◌=ℚ◌, ◌≤ℚ◌, ◌<ℚ◌, gcd, reduce}
 
 -- ---- the parts of a fraction
 
@@ -23,14 +23,6 @@ denominator-over n (suc d) p = refl
 pub numerator-over : (n : ℤ) (d : ℕ) → (over n d).numerator ≡ n
 unfolding over
 numerator-over n d = refl
-
-pub over-parts : (q : Fraction) → over q.numerator (denominator q) ≡ q
-unfolding denominator over
-over-parts q = refl
-
-pub denominator-whole : (n : ℤ) → denominator (whole n) ≡ 1
-unfolding denominator
-denominator-whole n = refl
 
 -- ---- equality and order
 
@@ -219,6 +211,3 @@ reduce-alike {p} {q} h = reduce-is (=ℚ_trans h (=ℚ_sym (reduce-same q))) (re
 
 pub reduce-lowest_is : (q : Fraction) → IsLowest q → reduce q ≡ q
 reduce-lowest_is q l = reduce-is (=ℚ_refl q) l
-
-pub reduce-reduce : (q : Fraction) → reduce (reduce q) ≡ reduce q
-reduce-reduce q = reduce-lowest_is (reduce q) (reduce-lowest q)

@@ -1,10 +1,11 @@
 pub mod Arithmetic
 pub mod Bounds
+pub mod FirstOperations
+pub mod FloorsAndCeilings
 pub mod Identities
 pub mod Laws
 pub mod Order
 pub mod Quotients
-pub mod Rounding
 pub mod Signs
 pub mod Solver
 pub mod Zeros

@@ -47,9 +47,6 @@ gcd-one a = eq-one_of_dvd-one (gcd-dvd_right a 1)
 pub gcd_pos : (a b : ℕ) → 0 < b → 0 < gcd a b
 gcd_pos a b p = pos_of_dvd_of_pos (gcd-dvd_right a b) p
 
-pub gcd_pos_left : (a b : ℕ) → 0 < a → 0 < gcd a b
-gcd_pos_left a b p = pos_of_dvd_of_pos (gcd-dvd_left a b) p
-
 -- a common factor comes out
 gcd-mul_pos : (k a b : ℕ) → 0 < k → gcd (k * a) (k * b) ≡ k * gcd a b
 gcd-mul_pos k a b p =

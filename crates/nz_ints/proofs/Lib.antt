@@ -1,6 +1,6 @@
 pub mod Divisors
+pub mod FloorDivision
 pub mod Multiples
 pub mod Products
 pub mod Ring
-pub mod Rounding
 pub mod Sizes

@@ -93,13 +93,6 @@ mul-neg a b =
 pub neg-mul : (a b : ℤ) → neg_ℤ a *ℤ b ≡ neg_ℤ (a *ℤ b)
 neg-mul a b = rw (*ℤ_comm (neg_ℤ a) b, *ℤ_comm a b) (mul-neg b a)
 
-pub mul-le-mul_neg : (a b c : ℤ) → c ≤ℤ pos 0 → a ≤ℤ b → (b *ℤ c) ≤ℤ (a *ℤ c)
-mul-le-mul_neg a b c n h =
-    let q : pos 0 ≤ℤ neg_ℤ c = omega (arith, ints) in
-    let m = mul-le-mul_right a b (neg_ℤ c) q h in
-    let s : neg_ℤ (a *ℤ c) ≤ℤ neg_ℤ (b *ℤ c) = rw (← mul-neg a c, ← mul-neg b c) m in
-    omega (arith, ints)
-
 pub mul-lt-mul_neg : (a b c : ℤ) → c <ℤ pos 0 → a <ℤ b → (b *ℤ c) <ℤ (a *ℤ c)
 mul-lt-mul_neg a b c n h =
     let q : pos 0 <ℤ neg_ℤ c = omega (arith, ints) in

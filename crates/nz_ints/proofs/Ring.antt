@@ -1,6 +1,6 @@
 -- A solver for equations between polynomials over the integers: both sides are written as expressions over numbered atoms,
 -- their difference is multiplied out, and the equation holds where each coefficient that is left is 0.
-use Rattle.std.proofs.Common.{◌≡◌, ℕ, zero, suc, Bool, true, false, ◌&&◌, eqb, leb, List, [], ◌∷◌, ℤ, pos, negsuc, ◌+ℤ◌, ◌-ℤ◌, ◌*ℤ◌, neg_ℤ, refl, arith, sym, ap, ap₂, ◌∙◌, true≢false, eqb-true}
+use Rattle.std.proofs.Common.{◌≡◌, ℕ, zero, suc, Bool, true, false, ◌&&◌, eqb, leb, List, [], ◌∷◌, ℤ, pos, negsuc, ◌+ℤ◌, ◌*ℤ◌, neg_ℤ, refl, arith, sym, ap, ap₂, ◌∙◌, true≢false, eqb-true}
 use Rattle.std.proofs.Math.IntN.{*ℤ_comm, +ℤ_comm, +ℤ_assoc, zero-*ℤ, *ℤ-zero, +ℤ_idl}
 use Rattle.std.proofs.lemmas.Int.{ints}
 use Rattle.std.proofs.lemmas.Bool.{and_parts}
@@ -204,9 +204,3 @@ solve xs e f t =
     sym (multiplied_out-total xs (e ⊕ Minus f)) ∙ vanishes-total xs (multiplied_out (e ⊕ Minus f)) t
     in
     omega (arith, ints)
-
-square : (a b : ℤ) → (a +ℤ b) *ℤ (a -ℤ b) ≡ a *ℤ a -ℤ b *ℤ b
-square a b =
-    let x = Atom 0 in
-    let y = Atom 1 in
-    solve (a ∷ b ∷ []) ((x ⊕ y) ⊗ (x ⊕ Minus y)) (x ⊗ x ⊕ Minus (y ⊗ y)) refl

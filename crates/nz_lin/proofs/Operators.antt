@@ -1,22 +1,23 @@
 -- Products and quotients, one argument after another.
 use Rattle.std.proofs.Common.{◌≡◌, ℕ, ◌&&◌, Bool, true, false, not, List, [], ◌∷◌, Option, Some, None, Result, refl, sym, ap, subst, ◌∙◌, true≢false}
-use Rattle.std.specs.Prelude.{IsSome, IsTrue, pos, unwrap_or}
+use Rattle.std.specs.Prelude.{IsTrue, pos, unwrap_or}
 use Rattle.std.proofs.lemmas.Option.{same_Some}
-use Rattle.nz_spec.specs.Computation.{Computation, operated, at_once}
-use Rattle.nz_spec.specs.Form as spec
-use Rattle.nz_spec.specs.FormOf.{product_onto, constants_product, open_form, divided_by, divided_by_each}
+use Rattle.nz_spec.specs.numbers.Computation.{Computation, operated, at_once, IsSame}
+use Rattle.nz_spec.specs.terms.Form as spec
+use Rattle.nz_spec.specs.terms.FormOf.{product_onto, constants_product, open_form, divided_by, divided_by_each}
 use Rattle.nz_fractions.specs.Fraction.{Fraction, Arithmetic, Operation, whole, Product, Quotient, first_wide}
-use Rattle.nz_spec.specs.Linear.{are_divisors}
-use Rattle.nz_spec.specs.Table.{Node}
-use Rattle.nz_spec.specs.Term.{is_zero}
-use Rattle.nz_lin.specs.declared.form.LinStop.{LinStop}
-use Rattle.nz_lin.specs.declared.form.LinStop.TheVariants as stops
+use Rattle.nz_spec.specs.terms.Linear.{are_divisors}
+use Rattle.nz_spec.specs.terms.Table.{Node}
+use Rattle.nz_spec.specs.terms.Term.{is_zero}
+use Rattle.nz_term.specs.declared.stops.ArithmeticStop.{ArithmeticStop}
+use Rattle.nz_term.specs.declared.stops.ArithmeticStop.TheVariants as stops
 use Rattle.nz_lin.specs.declared.form.Side.TheVariants.{Left, Right}
-use Rattle.nz_lin.specs.Stops.{IsStopAt}
+use Rattle.nz_term.specs.Stops.{IsStopAt}
 use Rattle.nz_lin.specs.Forms.{Numbered, form_over, AreUnits}
 use Rattle.nz_lin.specs.Comes.{IsDone, IsFormed, times}
 use Rattle.nz_lin.specs.Making.{Made, constants_at, factor_onto, joined_forms, made_forms, product_of, quotient_of}
-use Rattle.nz_lin.proofs.Computing.{IsSame, at_once_done, no_operation, one_step, same_done, same_formed, same_more, same_stop, stop_first}
+use Rattle.nz_fractions.proofs.FirstOperations.{no_operation}
+use Rattle.nz_lin.proofs.ComputationSequences.{at_once_done, one_step, same_done, same_formed, same_more, same_stop, stop_first}
 
 -- ---- Products of constants
 
@@ -30,13 +31,13 @@ pub passed_over : (o : Option Fraction) (d : Option Fraction) (cs : List (Option
 passed_over None d cs e = ap (λ x. constants_product (x ∷ cs)) e
 passed_over (Some p) d cs e = ap (λ x. product_onto p (x ∷ cs)) e
 
-none_at : (p : Option Operation) (s : LinStop) → IsStopAt None s → IsStopAt p s
+none_at : (p : Option Operation) (s : ArithmeticStop) → IsStopAt None s → IsStopAt p s
 none_at p (stops.Wide w) e = absurd cc
 none_at p stops.Memory e = tt
 
 module _ (whole_product : Computation Fraction) where
   pub factor_stop : (o : Option Fraction) (c : Fraction) (cs : List (Option Fraction)) → IsSame (rest_product o (Some c ∷ cs)) whole_product
-      → (s : LinStop) → IsStopAt (first_wide (factor_onto o c).operations) s → IsStopAt (first_wide whole_product.operations) s
+      → (s : ArithmeticStop) → IsStopAt (first_wide (factor_onto o c).operations) s → IsStopAt (first_wide whole_product.operations) s
   factor_stop None c cs h s stop = none_at (first_wide whole_product.operations) s (subst (λ o. IsStopAt o s) no_operation stop)
   factor_stop (Some p) c cs h s stop = same_stop (product_onto p (Some c ∷ cs)) whole_product s h (stop_first (operated Product p c) (λ e. product_onto e cs) s stop)
 
@@ -55,18 +56,14 @@ module _ (whole_product : Computation Fraction) where
 pub open_here : (d : Option Fraction) (cs : List (Option Fraction)) (f : spec.Form) (fs : List spec.Form) → d ≡ None → open_form (d ∷ cs) (f ∷ fs) ≡ f
 open_here d cs f fs e = ap (λ x. open_form (x ∷ cs) (f ∷ fs)) e
 
-pub open_later : (d : Option Fraction) (cs : List (Option Fraction)) (f : spec.Form) (fs : List spec.Form) → IsSome d → open_form (d ∷ cs) (f ∷ fs) ≡ open_form cs fs
-open_later None cs f fs some = absurd (true≢false (sym some))
-open_later (Some c) cs f fs some = refl
-
-pub product_formed : (ns : List Node) (cs : List (Option Fraction)) (fs : List spec.Form) (p : Fraction) (g : spec.Form) (r : Result Numbered LinStop) → IsDone (constants_product cs) p → g ≡ open_form cs fs
+pub product_formed : (ns : List Node) (cs : List (Option Fraction)) (fs : List spec.Form) (p : Fraction) (g : spec.Form) (r : Result Numbered ArithmeticStop) → IsDone (constants_product cs) p → g ≡ open_form cs fs
     → IsFormed ns (spec.scaled (times Left p) g) r → IsFormed ns (product_of cs fs) r
 product_formed ns cs fs p g r done same h =
     same_formed ns (spec.scaled (times Left p) (open_form cs fs)) (product_of cs fs) r
     (one_step (constants_product cs) (λ x. spec.scaled (λ c. operated Product x c) (open_form cs fs)) p done)
     (subst (λ (f : spec.Form). IsFormed ns (spec.scaled (times Left p) f) r) same h)
 
-pub product_stop : (cs : List (Option Fraction)) (fs : List spec.Form) (s : LinStop) → IsStopAt (first_wide (constants_product cs).operations) s → IsStopAt (first_wide (product_of cs fs).operations) s
+pub product_stop : (cs : List (Option Fraction)) (fs : List spec.Form) (s : ArithmeticStop) → IsStopAt (first_wide (constants_product cs).operations) s → IsStopAt (first_wide (product_of cs fs).operations) s
 product_stop cs fs s stop = stop_first (constants_product cs) (λ p. spec.scaled (λ c. operated Product p c) (open_form cs fs)) s stop
 
 -- ---- Divisors
@@ -90,7 +87,7 @@ pub later_divisors : (d : Option Fraction) (cs : List (Option Fraction)) → IsT
 later_divisors d cs e = (first_divisor d cs e).1.2
 
 module _ (f : spec.Form) (k : Fraction) (cs : List (Option Fraction)) (whole_form : Computation spec.Form) (h : IsSame (divided_by_each f (Some k ∷ cs)) whole_form) where
-  pub divide_stop : (s : LinStop) → IsStopAt (first_wide (divided_by k f).operations) s → IsStopAt (first_wide whole_form.operations) s
+  pub divide_stop : (s : ArithmeticStop) → IsStopAt (first_wide (divided_by k f).operations) s → IsStopAt (first_wide whole_form.operations) s
   divide_stop s stop = same_stop (divided_by_each f (Some k ∷ cs)) whole_form s h (stop_first (divided_by k f) (λ g. divided_by_each g cs) s stop)
 
   pub divide_more : (g : spec.Form) → IsDone (divided_by k f) g → IsSame (divided_by_each g cs) whole_form
@@ -98,10 +95,10 @@ module _ (f : spec.Form) (k : Fraction) (cs : List (Option Fraction)) (whole_for
 
 -- a form times 1/k
 module _ (k : Fraction) (f : spec.Form) where
-  pub inverse_stop : (s : LinStop) → IsStopAt (first_wide (operated Quotient (whole (pos 1)) k).operations) s → IsStopAt (first_wide (divided_by k f).operations) s
+  pub inverse_stop : (s : ArithmeticStop) → IsStopAt (first_wide (operated Quotient (whole (pos 1)) k).operations) s → IsStopAt (first_wide (divided_by k f).operations) s
   inverse_stop s stop = stop_first (operated Quotient (whole (pos 1)) k) (λ r. spec.scaled (λ c. operated Product c r) f) s stop
 
-  pub divided_formed : (ns : List Node) (r : Fraction) → IsDone (operated Quotient (whole (pos 1)) k) r → (result : Result Numbered LinStop) → IsFormed ns (spec.scaled (times Right r) f) result
+  pub divided_formed : (ns : List Node) (r : Fraction) → IsDone (operated Quotient (whole (pos 1)) k) r → (result : Result Numbered ArithmeticStop) → IsFormed ns (spec.scaled (times Right r) f) result
       → IsFormed ns (divided_by k f) result
   divided_formed ns r done result h =
       same_formed ns (spec.scaled (times Right r) f) (divided_by k f) result (one_step (operated Quotient (whole (pos 1)) k) (λ x. spec.scaled (λ c. operated Product c x) f) r done) h

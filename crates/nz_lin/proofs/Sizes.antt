@@ -2,8 +2,8 @@
 use Rattle.std.proofs.Common.{◌≡◌, ℕ, suc, ◌+◌, ◌*◌, ◌<◌, List, [], ◌∷◌, ◌++◌, map, Some, None, slice_get, refl, sym, ap, subst, ◌∙◌, arith, if◌then◌else◌}
 use Rattle.std.specs.Prelude.{Bool, true, false, is_some, reverse}
 use Rattle.std.proofs.lemmas.List.{map-append, reverse-append}
-use Rattle.nz_spec.specs.Term.{Term, apply, Terms, no_terms, terms}
-use Rattle.nz_spec.specs.Table.{IsTable, Node, TermOfNode, term_in, terms_at}
+use Rattle.nz_spec.specs.terms.Term.{Term, apply, Terms, no_terms, terms}
+use Rattle.nz_spec.specs.terms.Table.{IsTable, Node, TermOfNode, term_in, terms_at}
 use Rattle.nz_lin.specs.declared.linear.Step.{Step}
 use Rattle.nz_lin.specs.declared.linear.Step.TheVariants.{Enter, Leave}
 use Rattle.nz_lin.specs.Making.{entries, opened_kids, opening_in, steps_of}

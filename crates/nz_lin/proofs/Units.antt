@@ -4,8 +4,8 @@ use Rattle.std.specs.List.{AllByRecursion, AllWithin}
 use Rattle.std.proofs.lemmas.List.{get_or-take, get_or-drop, length-take-le, length-drop}
 use Rattle.std.proofs.lemmas.List.Elements.{All-from_recursion, recursion_from_All}
 use Rattle.nz_fractions.specs.Fraction.{Fraction, neg_ℚ}
-use Rattle.nz_spec.specs.Form as spec
-use Rattle.nz_spec.specs.Table.{Node}
+use Rattle.nz_spec.specs.terms.Form as spec
+use Rattle.nz_spec.specs.terms.Table.{Node}
 use Rattle.nz_lin.specs.declared.form.Part.{Part}
 use Rattle.nz_lin.specs.Forms.{NamesUnit, AreInOrder, AreUnits, form_over, negated, part_over, parts_over}
 

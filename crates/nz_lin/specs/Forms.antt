@@ -2,11 +2,11 @@
 use Rattle.std.specs.Prelude.{◌≡◌, ℕ, ◌<◌, List, [], ◌∷◌, ◌++◌, map, length, set, remove, slice_get, ⊤, Some, None, pos, if◌then◌else◌}
 use Rattle.std.specs.List.{AllByRecursion}
 use Rattle.nz_fractions.specs.Fraction.{Fraction, whole, neg_ℚ, Arithmetic, first_wide}
-use Rattle.nz_spec.specs.Computation.{Computation, operated}
-use Rattle.nz_spec.specs.Form as spec
-use Rattle.nz_spec.specs.FormOf.{form_of, number_in}
-use Rattle.nz_spec.specs.Table.{Node, term_in}
-use Rattle.nz_spec.specs.Term.{sort_of, is_zero}
+use Rattle.nz_spec.specs.numbers.Computation.{Computation, operated}
+use Rattle.nz_spec.specs.terms.Form as spec
+use Rattle.nz_spec.specs.terms.FormOf.{form_of, number_in}
+use Rattle.nz_spec.specs.terms.Table.{Node, term_in}
+use Rattle.nz_spec.specs.terms.Term.{sort_of, is_zero}
 use Rattle.nz_term.specs.Constants as sorts
 use Rattle.nz_lin.specs.declared.form.Part.{Part}
 

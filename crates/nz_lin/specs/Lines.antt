@@ -1,10 +1,10 @@
 -- What lines and families of the code are: over a table, whose numbers name their constants.
 use Rattle.std.specs.Prelude.{ℕ, List, [], map, flat_map, Some, None, slice_get}
-use Rattle.nz_spec.specs.Climb as spec
-use Rattle.nz_spec.specs.Climb.{steady, along, up_to, naturals}
-use Rattle.nz_spec.specs.Decide.{constants_of_head}
-use Rattle.nz_spec.specs.Table.{Node}
-use Rattle.nz_spec.specs.Term.{Constant}
+use Rattle.nz_spec.specs.simplex.Climb as spec
+use Rattle.nz_spec.specs.simplex.Climb.{steady, along, up_to, naturals}
+use Rattle.nz_spec.specs.search.Decide.{constants_of_head}
+use Rattle.nz_spec.specs.terms.Table.{Node}
+use Rattle.nz_spec.specs.terms.Term.{Constant}
 use Rattle.nz_lin.specs.declared.line.Course.{Course}
 use Rattle.nz_lin.specs.declared.line.Course.TheVariants.{Truth, Number}
 use Rattle.nz_lin.specs.declared.line.Line.{Line}

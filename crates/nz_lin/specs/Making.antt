@@ -1,13 +1,13 @@
 -- How the form of a term is made of those of its arguments.
 use Rattle.std.specs.Prelude.{◌≡◌, ℕ, List, [], ◌∷◌, map, reverse, All, Option, Some, None, IsSome, is_some, slice_get, unwrap_or, pos, if◌then◌else◌}
 use Rattle.nz_fractions.specs.Fraction.{Fraction, whole, Arithmetic, Sum, Difference, Product}
-use Rattle.nz_spec.specs.Computation.{Computation, operated, at_once, and_then}
-use Rattle.nz_spec.specs.Form as spec
-use Rattle.nz_spec.specs.FormOf.{constants_product, open_form, divided_by_each}
-use Rattle.nz_spec.specs.Linear.{constant_value}
-use Rattle.nz_spec.specs.Table.{Node, term_in}
-use Rattle.nz_spec.specs.Term as term
-use Rattle.nz_spec.specs.Term.{Head, Term, apply}
+use Rattle.nz_spec.specs.numbers.Computation.{Computation, operated, at_once, and_then}
+use Rattle.nz_spec.specs.terms.Form as spec
+use Rattle.nz_spec.specs.terms.FormOf.{constants_product, open_form, divided_by_each}
+use Rattle.nz_spec.specs.terms.Linear.{constant_value}
+use Rattle.nz_spec.specs.terms.Table.{Node, term_in}
+use Rattle.nz_spec.specs.terms.Term as term
+use Rattle.nz_spec.specs.terms.Term.{Head, Term, apply}
 use Rattle.nz_lin.specs.declared.linear.Opening.{Opening}
 use Rattle.nz_lin.specs.declared.linear.Opening.TheVariants.{Sum as Adds, Difference as Subtracts, Product as Multiplies, Quotient as Divides, ToReal}
 use Rattle.nz_lin.specs.declared.linear.Step.{Step}

@@ -1,22 +1,23 @@
 //! Bounds on sums of units: the literals of linear arithmetic, and sums of their multiples.
 ghost use Rattle.std.specs.Prelude.{◌≡◌, ◌&&◌, ◌||◌, IfOk, List, OnOk, pos};
 ghost use Rattle.std.specs.List.{AllByRecursion};
-ghost use Rattle.nz_spec.specs.Computation.{and_then};
-ghost use Rattle.nz_spec.specs.Farkas as farkas;
-ghost use Rattle.nz_spec.specs.Farkas.{bound_scaled, bounds_joined, empty_bound};
-ghost use Rattle.nz_spec.specs.FormOf.{number_in};
+ghost use Rattle.nz_spec.specs.numbers.Computation.{and_then};
+ghost use Rattle.nz_spec.specs.clauses.Farkas as farkas;
+ghost use Rattle.nz_spec.specs.clauses.Farkas.{bound_scaled, bounds_joined, empty_bound};
+ghost use Rattle.nz_spec.specs.terms.FormOf.{number_in};
 ghost use Rattle.nz_fractions.specs.Fraction.{fraction_lt, whole};
-ghost use Rattle.nz_spec.specs.LinearLiteral.{is_at_most_zero, is_below_zero};
-ghost use Rattle.nz_spec.specs.Literal.{negation_of};
-ghost use Rattle.nz_spec.specs.Table.{IsTable, Node};
-ghost use Rattle.nz_spec.specs.Term.{is_zero};
+ghost use Rattle.nz_spec.specs.clauses.LinearLiteral.{is_at_most_zero, is_below_zero};
+ghost use Rattle.nz_spec.specs.clauses.Literal.{negation_of};
+ghost use Rattle.nz_spec.specs.terms.Table.{IsTable, Node};
+ghost use Rattle.nz_spec.specs.terms.Term.{is_zero};
 ghost use Rattle.nz_lin.specs.Bounds.{HasUnits, IsBounded, bound_over, literal_over, multiples_over};
 ghost use Rattle.nz_lin.specs.Comes.{Comes};
 ghost use Rattle.nz_lin.specs.Forms.{form_over};
 
-use crate::form::{Form, LinStop, Part, Side, Sign};
+use crate::form::{Form, Part, Side, Sign};
 use nz_base::Memory;
 use nz_frac::Frac;
+use nz_term::ArithmeticStop;
 use std::alloc::Global;
 
 /// A linear literal: a sum of units is at most a number, or below it.
@@ -29,7 +30,7 @@ pub struct Bound {
 
 /// A linear literal, and a number above 0 by which it is multiplied.
 #[derive(Debug, Drop)]
-pub struct Multiple {
+pub struct BoundMultiple {
     pub bound: Bound,
     pub multiplier: Frac,
 }
@@ -120,7 +121,7 @@ impl Bound {
     }
 
     /// A multiple: each coefficient, and then the limit, as a product with the number, which stands on the left.
-    pub fn scaled(&self, alloc: Global, multiplier: Frac) -> Result<Bound, LinStop>
+    pub fn scaled(&self, alloc: Global, multiplier: Frac) -> Result<Bound, ArithmeticStop>
         ensures bounded { (ns : List Node) → HasUnits ns self.now → IsBounded ns (bound_scaled multiplier (bound_over ns self.now)) result }
     {
         let sides = self.sides.multiplied(alloc, Side::Left, multiplier)?;
@@ -131,7 +132,7 @@ impl Bound {
     }
 
     /// Adds a bound: unit by unit, and the limit last. The sum is strict where one of them is.
-    pub fn join(&mut self, other: &Bound) -> Result<(), LinStop>
+    pub fn join(&mut self, other: &Bound) -> Result<(), ArithmeticStop>
         ensures comes { (ns : List Node) → IsTable ns → HasUnits ns self.old → HasUnits ns other.now → Comes (bounds_joined (number_in ns) (bound_over ns self.old) (bound_over ns other.now)) (bound_over ns self.new) result }
         ensures units { OnOk result ((ns : List Node) → HasUnits ns self.old → HasUnits ns other.now → HasUnits ns self.new) }
     {
@@ -146,7 +147,7 @@ impl Bound {
         alloc: Global,
         multiplier: Frac,
         other: &Bound,
-    ) -> Result<(), LinStop>
+    ) -> Result<(), ArithmeticStop>
         ensures comes { (ns : List Node) → IsTable ns → HasUnits ns self.old → HasUnits ns other.now → Comes (and_then (bound_scaled multiplier (bound_over ns other.now)) (λ y. bounds_joined (number_in ns) (bound_over ns self.old) y)) (bound_over ns self.new) result }
         ensures units { OnOk result ((ns : List Node) → HasUnits ns self.old → HasUnits ns other.now → HasUnits ns self.new) }
     {
@@ -175,7 +176,7 @@ impl Bound {
 /// # Errors
 ///
 /// `Wide` with the first operation that leaves the numbers; `Memory`.
-pub fn sum_of_multiples(alloc: Global, multiples: &[Multiple]) -> Result<Bound, LinStop>
+pub fn sum_of_multiples(alloc: Global, multiples: &[BoundMultiple]) -> Result<Bound, ArithmeticStop>
     ensures bounded { (ns : List Node) → IsTable ns → AllByRecursion (λ m. HasUnits ns m.bound) multiples.now → IsBounded ns (farkas.sum_of_multiples (number_in ns) (multiples_over ns multiples.now)) result }
 {
     let mut sum = Bound::empty(alloc);

@@ -1,21 +1,21 @@
 //! Forms and bounds that are made of others, as the kernel's rules need them.
 ghost use Rattle.std.specs.Prelude.{◌≡◌, IfOk, List, false};
-ghost use Rattle.nz_spec.specs.Computation.{at_once};
-ghost use Rattle.nz_spec.specs.Form.{joined};
-ghost use Rattle.nz_spec.specs.FormOf.{number_in};
+ghost use Rattle.nz_spec.specs.numbers.Computation.{at_once};
+ghost use Rattle.nz_spec.specs.terms.Form.{joined};
+ghost use Rattle.nz_spec.specs.terms.FormOf.{number_in};
 ghost use Rattle.nz_fractions.specs.Fraction.{Difference, Sum};
-ghost use Rattle.nz_spec.specs.Literal.{is_at_most};
-ghost use Rattle.nz_spec.specs.Table.{IsTable, Node, term_in};
-ghost use Rattle.nz_spec.specs.Units.{at_most_number, below_number, times_unit};
+ghost use Rattle.nz_spec.specs.clauses.Literal.{is_at_most};
+ghost use Rattle.nz_spec.specs.terms.Table.{IsTable, Node, term_in};
+ghost use Rattle.nz_spec.specs.clauses.Units.{at_most_number, below_number, times_unit};
 ghost use Rattle.nz_lin.specs.Bounds.{HasUnits, IsLiteral, literal_over};
 ghost use Rattle.nz_lin.specs.Comes.{IsFormed};
 ghost use Rattle.nz_lin.specs.Forms.{AreUnits, NamesUnit, form_over, parts_over};
 
 use crate::bound::Bound;
-use crate::form::{Form, LinStop, Part, Sign};
+use crate::form::{Form, Part, Sign};
 use nz_base::Memory;
 use nz_frac::Frac;
-use nz_term::{Sort, TermId};
+use nz_term::{ArithmeticStop, Sort, TermId};
 use std::alloc::Global;
 
 impl Form {
@@ -41,7 +41,7 @@ impl Form {
     /// # Errors
     ///
     /// `Wide` with the first operation that leaves the numbers; `Memory`.
-    pub fn plus(self, other: &Form) -> Result<Form, LinStop>
+    pub fn plus(self, other: &Form) -> Result<Form, ArithmeticStop>
         ensures formed { (ns : List Node) → IsTable ns → AreUnits ns self.parts → AreUnits ns other.now.parts → IsFormed ns (joined (number_in ns) Sum (form_over ns self) (form_over ns other.now)) result }
     {
         let mut sum = self;
@@ -54,7 +54,7 @@ impl Form {
     /// # Errors
     ///
     /// `Wide` with the first operation that leaves the numbers; `Memory`.
-    pub fn minus(self, other: &Form) -> Result<Form, LinStop>
+    pub fn minus(self, other: &Form) -> Result<Form, ArithmeticStop>
         ensures formed { (ns : List Node) → IsTable ns → AreUnits ns self.parts → AreUnits ns other.now.parts → IsFormed ns (joined (number_in ns) Difference (form_over ns self) (form_over ns other.now)) result }
     {
         let mut difference = self;
@@ -82,7 +82,7 @@ impl Bound {
     ///
     /// `Wide` where that leaves the numbers.
     #[tactic(auto, unfolding(nz_fractions::specs::Fraction::first_wide))]
-    pub fn at_most(form: Form, number: Frac) -> Result<Bound, LinStop>
+    pub fn at_most(form: Form, number: Frac) -> Result<Bound, ArithmeticStop>
         ensures literal { (ns : List Node) → AreUnits ns form.parts → IsLiteral ns (at_most_number number (at_once (form_over ns form))) result }
     {
         let limit = number.sub(form.offset())?;
@@ -98,7 +98,7 @@ impl Bound {
     ///
     /// `Wide` where the number less what the form adds leaves the numbers.
     #[tactic(auto, unfolding(nz_fractions::specs::Fraction::first_wide))]
-    pub fn below(form: Form, number: Frac) -> Result<Bound, LinStop>
+    pub fn below(form: Form, number: Frac) -> Result<Bound, ArithmeticStop>
         ensures literal { (ns : List Node) → AreUnits ns form.parts → IsLiteral ns (below_number number (at_once (form_over ns form))) result }
     {
         let limit = number.sub(form.offset())?;

@@ -1,11 +1,11 @@
 //! Forms, and how they are added, subtracted, negated and multiplied.
 ghost use Rattle.std.specs.Prelude.{◌≡◌, ◌<◌, List, [], IfOk, OnOk, map, vec_len};
-ghost use Rattle.nz_spec.specs.Computation.{operated};
-ghost use Rattle.nz_spec.specs.Form as spec;
-ghost use Rattle.nz_spec.specs.Form.{negated_form, joined, part_joined, scaled, unit_form};
-ghost use Rattle.nz_spec.specs.FormOf.{number_in};
+ghost use Rattle.nz_spec.specs.numbers.Computation.{operated};
+ghost use Rattle.nz_spec.specs.terms.Form as spec;
+ghost use Rattle.nz_spec.specs.terms.Form.{negated_form, joined, part_joined, scaled, unit_form};
+ghost use Rattle.nz_spec.specs.terms.FormOf.{number_in};
 ghost use Rattle.nz_fractions.specs.Fraction.{Fraction};
-ghost use Rattle.nz_spec.specs.Table.{IsTable, Node, term_in};
+ghost use Rattle.nz_spec.specs.terms.Table.{IsTable, Node, term_in};
 ghost use Rattle.nz_lin.specs.Comes.{AreFormed, Comes, IsFormed, IsOperated, alone, arithmetic_of, times};
 ghost use Rattle.nz_lin.specs.Forms.{AreUnits, NamesUnit, form_over, meeting, negated, part_over, parts_over, with_last, with_met};
 
@@ -13,8 +13,8 @@ use nz_base::Memory;
 use nz_frac::{Frac, Wide};
 use nz_spec::derivation::tells_literals;
 use nz_spec::form::{joins_at_its_place, term_has_its_number};
-use nz_term::{Sort, TermId};
-use std::alloc::{AllocError, AllocFailed, Global};
+use nz_term::{ArithmeticStop, Sort, TermId};
+use std::alloc::{AllocError, Global};
 use std::marker::Model;
 
 /// A unit with its coefficient.
@@ -47,55 +47,6 @@ impl Part {
             Sign::Plus => self,
             Sign::Minus => self.neg(),
         }
-    }
-}
-
-/// Why a form was not made.
-#[derive(Clone, Copy, Debug)]
-pub enum LinStop {
-    /// The first operation that leaves the numbers.
-    Wide(Wide),
-    /// Memory was wanted and refused.
-    Memory,
-}
-
-impl From<Wide> for LinStop {
-    ghost use Rattle.nz_lin.specs.declared.form.LinStop.TheVariants as stops;
-
-    ghost from_gives = { λ wide r. r ≡ stops.Wide wide };
-
-    fn from(wide: Wide) -> LinStop {
-        LinStop::Wide(wide)
-    }
-}
-
-impl From<Memory> for LinStop {
-    ghost use Rattle.nz_lin.specs.declared.form.LinStop.TheVariants as stops;
-
-    ghost from_gives = { λ _ r. r ≡ stops.Memory };
-
-    fn from(_memory: Memory) -> LinStop {
-        LinStop::Memory
-    }
-}
-
-impl From<AllocError> for LinStop {
-    ghost use Rattle.nz_lin.specs.declared.form.LinStop.TheVariants as stops;
-
-    ghost from_gives = { λ _ r. r ≡ stops.Memory };
-
-    fn from(_error: AllocError) -> LinStop {
-        LinStop::Memory
-    }
-}
-
-impl<T: Drop> From<AllocFailed<T>> for LinStop {
-    ghost use Rattle.nz_lin.specs.declared.form.LinStop.TheVariants as stops;
-
-    ghost from_gives = { λ _ r. r ≡ stops.Memory };
-
-    fn from(_error: AllocFailed<T>) -> LinStop {
-        LinStop::Memory
     }
 }
 
@@ -167,7 +118,11 @@ impl Form {
     }
 
     /// The same form once more.
-    pub(crate) fn copied(&self, alloc: Global) -> Result<Form, Memory>
+    ///
+    /// # Errors
+    ///
+    /// `Memory`.
+    pub fn copied(&self, alloc: Global) -> Result<Form, Memory>
         ensures same { IfOk result (λ f. f ≡ self.now) }
     {
         Ok(Form {
@@ -193,7 +148,7 @@ impl Form {
 
     /// Adds a form, or subtracts it: unit by unit, and what is added last. Each part of `other` costs a search among the
     /// parts, and moves those behind it where its unit is new or goes.
-    pub(crate) fn join(&mut self, sign: Sign, other: &Form) -> Result<(), LinStop>
+    pub(crate) fn join(&mut self, sign: Sign, other: &Form) -> Result<(), ArithmeticStop>
         ensures comes { (ns : List Node) → IsTable ns → AreUnits ns self.old.parts → AreUnits ns other.now.parts → Comes (joined (number_in ns) (arithmetic_of sign) (form_over ns self.old) (form_over ns other.now)) (form_over ns self.new) result }
         ensures units { OnOk result ((ns : List Node) → AreUnits ns self.old.parts → AreUnits ns other.now.parts → AreUnits ns self.new.parts) }
     {
@@ -208,7 +163,7 @@ impl Form {
         alloc: Global,
         side: Side,
         factor: Frac,
-    ) -> Result<Form, LinStop>
+    ) -> Result<Form, ArithmeticStop>
         ensures formed { (ns : List Node) → AreUnits ns self.now.parts → IsFormed ns (scaled (times side factor) (form_over ns self.now)) result }
     {
         let parts = multiplied_parts(alloc, side, factor, self.parts.as_slice())?;
@@ -270,7 +225,7 @@ fn multiplied_parts(
     side: Side,
     factor: Frac,
     parts: &[Part],
-) -> Result<Vec<Part>, LinStop>
+) -> Result<Vec<Part>, ArithmeticStop>
     ensures scaled { (ns : List Node) → AreFormed ns (spec.parts_scaled (times side factor) (parts_over ns parts.now)) result }
     ensures units { IfOk result (λ new. (ns : List Node) → AreUnits ns parts.now → AreUnits ns new.items) }
 {
@@ -299,7 +254,7 @@ fn put(parts: &mut Vec<Part>, part: Part) -> Result<(), Memory>
 }
 
 /// Adds parts, or subtracts them, one after another.
-fn join_parts(parts: &mut Vec<Part>, sign: Sign, others: &[Part]) -> Result<(), LinStop>
+fn join_parts(parts: &mut Vec<Part>, sign: Sign, others: &[Part]) -> Result<(), ArithmeticStop>
     ensures joined { (ns : List Node) → IsTable ns → AreUnits ns parts.old.items → AreUnits ns others.now → Comes (spec.parts_joined (number_in ns) (arithmetic_of sign) (parts_over ns parts.old.items) (parts_over ns others.now)) (parts_over ns parts.new.items) result }
     ensures units { OnOk result ((ns : List Node) → AreUnits ns parts.old.items → AreUnits ns others.now → AreUnits ns parts.new.items) }
 {
@@ -310,7 +265,7 @@ fn join_parts(parts: &mut Vec<Part>, sign: Sign, others: &[Part]) -> Result<(), 
 }
 
 /// Adds a part, or subtracts it, at its place.
-fn join_part(parts: &mut Vec<Part>, sign: Sign, part: Part) -> Result<(), LinStop>
+fn join_part(parts: &mut Vec<Part>, sign: Sign, part: Part) -> Result<(), ArithmeticStop>
     ensures joined { (ns : List Node) → IsTable ns → AreUnits ns parts.old.items → NamesUnit ns part → Comes (part_joined (number_in ns) (arithmetic_of sign) (parts_over ns parts.old.items) (part_over ns part)) (parts_over ns parts.new.items) result }
     ensures units { OnOk result ((ns : List Node) → AreUnits ns parts.old.items → NamesUnit ns part → AreUnits ns parts.new.items) }
 {
@@ -327,7 +282,12 @@ fn join_part(parts: &mut Vec<Part>, sign: Sign, part: Part) -> Result<(), LinSto
 }
 
 /// Adds to the coefficient at a place, or subtracts from it; with the coefficient 0 the part goes.
-fn meet(parts: &mut Vec<Part>, sign: Sign, place: usize, coefficient: Frac) -> Result<(), LinStop>
+fn meet(
+    parts: &mut Vec<Part>,
+    sign: Sign,
+    place: usize,
+    coefficient: Frac,
+) -> Result<(), ArithmeticStop>
     requires within { place < vec_len parts.old }
     ensures met { OnOk result (parts.new.items ≡ with_met parts.old.items place (meeting parts.old.items (arithmetic_of sign) place coefficient).result) }
     ensures comes { Comes (meeting parts.old.items (arithmetic_of sign) place coefficient) (meeting parts.old.items (arithmetic_of sign) place coefficient).result result }

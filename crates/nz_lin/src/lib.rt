@@ -7,13 +7,14 @@
 mod bound;
 mod combine;
 mod form;
+pub mod laws;
 mod line;
 mod linear;
 mod subtract;
 mod tight;
 
-pub use bound::{Bound, Multiple, sum_of_multiples};
-pub use form::{Form, LinStop, Part};
+pub use bound::{Bound, BoundMultiple, sum_of_multiples};
+pub use form::{Form, Part};
 pub use line::{Course, Family, Line, Range};
 pub use linear::lin;
 pub use subtract::lin_difference;

@@ -1,25 +1,25 @@
 //! The forms of terms.
 ghost use Rattle.std.specs.Prelude.{◌≡◌, ◌<◌, ◌++◌, All, IfOk, IfErr, IsTrue, List, OnOk, Some, false, length, nat_eq, pos};
 ghost use Rattle.std.specs.HashMap.{get};
-ghost use Rattle.nz_spec.specs.Computation.{at_once, operated};
-ghost use Rattle.nz_spec.specs.Form.{all_joined, unit_form};
-ghost use Rattle.nz_spec.specs.FormOf as forms_of;
-ghost use Rattle.nz_spec.specs.FormOf.{first_wide_in_form, number_in};
+ghost use Rattle.nz_spec.specs.numbers.Computation.{at_once, operated};
+ghost use Rattle.nz_spec.specs.terms.Form.{all_joined, unit_form};
+ghost use Rattle.nz_spec.specs.terms.FormOf as forms_of;
+ghost use Rattle.nz_spec.specs.terms.FormOf.{first_wide_in_form, number_in};
 ghost use Rattle.nz_fractions.specs.Fraction.{Quotient, whole};
-ghost use Rattle.nz_spec.specs.Linear.{are_divisors, divides_by_constants, is_linear};
-ghost use Rattle.nz_spec.specs.Table.{IsTable, Node, term_in};
-ghost use Rattle.nz_spec.specs.Term.{is_zero};
+ghost use Rattle.nz_spec.specs.terms.Linear.{are_divisors, divides_by_constants, is_linear};
+ghost use Rattle.nz_spec.specs.terms.Table.{IsTable, Node, term_in};
+ghost use Rattle.nz_spec.specs.terms.Term.{is_zero};
 ghost use Rattle.nz_term.specs.Heads.{head_of};
 ghost use Rattle.nz_lin.specs.Comes.{IsFormed, IsNumbered, IsOperated, arithmetic_of};
 ghost use Rattle.nz_lin.specs.Forms.{AreUnits, IsFormOf, form_over};
 ghost use Rattle.nz_lin.specs.Making.{AreMade, HaveForms, HaveUnits, constants_at, difference_of, factor_onto, joined_forms, made_forms, opened_by, opened_kids, opening_in, opening_of, product_of, quotient_of, steps_of};
-ghost use Rattle.nz_lin.specs.Stops.{IsStopAt};
+ghost use Rattle.nz_term.specs.Stops.{IsStopAt};
 
-use crate::form::{Form, LinStop, Side, Sign};
+use crate::form::{Form, Side, Sign};
 use nz_base::Memory;
 use nz_frac::{Frac, Wide};
 use nz_spec::table::term_of_node;
-use nz_term::{Head, Operator, TermId, Terms, known_table};
+use nz_term::{ArithmeticStop, Head, Operator, TermId, Terms, known_table};
 use std::alloc::Global;
 use std::collections::HashMap;
 
@@ -49,7 +49,7 @@ enum Opening {
 ///
 /// `Wide` with the first operation that leaves the numbers: those of the arguments, from the left, and then the term's own;
 /// `Memory`.
-pub fn lin(alloc: Global, terms: &Terms, id: TermId) -> Result<Form, LinStop>
+pub fn lin(alloc: Global, terms: &Terms, id: TermId) -> Result<Form, ArithmeticStop>
     requires within { id < length terms.now }
     requires linear { IsTrue (is_linear (term_in terms.now id)) }
     ensures form { IfOk result (λ f. IsFormOf terms.now id f) }
@@ -126,7 +126,7 @@ fn form_over(
     terms: &Terms,
     id: TermId,
     forms: &HashMap<TermId, Form>,
-) -> Result<Form, LinStop>
+) -> Result<Form, ArithmeticStop>
     requires within { id < length terms.now }
     requires linear { IsTrue (is_linear (term_in terms.now id)) }
     requires made { AreMade terms.now (get nat_eq forms.now) }
@@ -145,7 +145,7 @@ fn form_over(
 }
 
 /// The form of a unit.
-fn unit(alloc: Global, terms: &Terms, id: TermId) -> Result<Form, LinStop>
+fn unit(alloc: Global, terms: &Terms, id: TermId) -> Result<Form, ArithmeticStop>
     requires within { id < length terms.now }
     ensures formed { IsFormed terms.now (at_once (unit_form (term_in terms.now id))) result }
 {
@@ -162,7 +162,7 @@ fn opened(
     opening: Opening,
     kids: &[TermId],
     forms: &HashMap<TermId, Form>,
-) -> Result<Form, LinStop>
+) -> Result<Form, ArithmeticStop>
     requires term { id < length terms.now }
     requires within { All (λ k. k < length terms.now) kids.now }
     requires forms { HaveForms (get nat_eq forms.now) kids.now }
@@ -189,7 +189,7 @@ fn joined(
     sign: Sign,
     kids: &[TermId],
     forms: &HashMap<TermId, Form>,
-) -> Result<Form, LinStop>
+) -> Result<Form, ArithmeticStop>
     requires forms { HaveForms (get nat_eq forms.now) kids.now }
     ensures formed { (ns : List Node) → IsTable ns → HaveUnits ns (get nat_eq forms.now) kids.now → IsFormed ns (joined_forms (number_in ns) (arithmetic_of sign) (made_forms ns (get nat_eq forms.now) kids.now)) result }
 {
@@ -206,7 +206,7 @@ fn all_joined(
     mut sum: Form,
     kids: &[TermId],
     forms: &HashMap<TermId, Form>,
-) -> Result<Form, LinStop>
+) -> Result<Form, ArithmeticStop>
     requires forms { HaveForms (get nat_eq forms.now) kids.now }
     ensures formed { (ns : List Node) → IsTable ns → AreUnits ns sum.parts → HaveUnits ns (get nat_eq forms.now) kids.now → IsFormed ns (all_joined (number_in ns) (arithmetic_of sign) (form_over ns sum) (made_forms ns (get nat_eq forms.now) kids.now)) result }
 {
@@ -221,7 +221,7 @@ fn difference(
     alloc: Global,
     kids: &[TermId],
     forms: &HashMap<TermId, Form>,
-) -> Result<Form, LinStop>
+) -> Result<Form, ArithmeticStop>
     requires forms { HaveForms (get nat_eq forms.now) kids.now }
     ensures formed { (ns : List Node) → IsTable ns → HaveUnits ns (get nat_eq forms.now) kids.now → IsFormed ns (difference_of (number_in ns) (made_forms ns (get nat_eq forms.now) kids.now)) result }
 {
@@ -237,7 +237,7 @@ fn product(
     terms: &Terms,
     kids: &[TermId],
     forms: &HashMap<TermId, Form>,
-) -> Result<Form, LinStop>
+) -> Result<Form, ArithmeticStop>
     requires within { All (λ k. k < length terms.now) kids.now }
     requires forms { HaveForms (get nat_eq forms.now) kids.now }
     ensures formed { HaveUnits terms.now (get nat_eq forms.now) kids.now → IsFormed terms.now (product_of (constants_at terms.now kids.now) (made_forms terms.now (get nat_eq forms.now) kids.now)) result }
@@ -252,7 +252,7 @@ fn product(
 }
 
 /// The product of the constants among these terms, from the left; of none it is 1.
-fn constants_product(terms: &Terms, kids: &[TermId]) -> Result<Frac, LinStop>
+fn constants_product(terms: &Terms, kids: &[TermId]) -> Result<Frac, ArithmeticStop>
     requires within { All (λ k. k < length terms.now) kids.now }
     ensures product { IsNumbered (forms_of.constants_product (constants_at terms.now kids.now)) result }
 {
@@ -282,7 +282,7 @@ fn quotient(
     terms: &Terms,
     kids: &[TermId],
     forms: &HashMap<TermId, Form>,
-) -> Result<Form, LinStop>
+) -> Result<Form, ArithmeticStop>
     requires within { All (λ k. k < length terms.now) kids.now }
     requires forms { HaveForms (get nat_eq forms.now) kids.now }
     requires divisors { IsTrue (divides_by_constants (constants_at terms.now kids.now)) }
@@ -301,7 +301,7 @@ fn all_divided(
     terms: &Terms,
     mut form: Form,
     divisors: &[TermId],
-) -> Result<Form, LinStop>
+) -> Result<Form, ArithmeticStop>
     requires within { All (λ k. k < length terms.now) divisors.now }
     requires divisors { IsTrue (are_divisors (constants_at terms.now divisors.now)) }
     ensures formed { AreUnits terms.now form.parts → IsFormed terms.now (forms_of.divided_by_each (form_over terms.now form) (constants_at terms.now divisors.now)) result }
@@ -314,7 +314,7 @@ fn all_divided(
 }
 
 /// A form times 1/k.
-fn divided(alloc: Global, form: &Form, k: Frac) -> Result<Form, LinStop>
+fn divided(alloc: Global, form: &Form, k: Frac) -> Result<Form, ArithmeticStop>
     requires nonzero { is_zero k ≡ false }
     ensures formed { (ns : List Node) → AreUnits ns form.now.parts → IsFormed ns (forms_of.divided_by k (form_over ns form.now)) result }
 {

@@ -1,14 +1,14 @@
 //! The form of one term less that of another.
 ghost use Rattle.std.specs.Prelude.{◌<◌, IsTrue, length};
-ghost use Rattle.nz_spec.specs.FormOf.{form_of, number_in};
-ghost use Rattle.nz_spec.specs.Linear.{is_linear};
-ghost use Rattle.nz_spec.specs.Links.{minus};
-ghost use Rattle.nz_spec.specs.Table.{term_in};
+ghost use Rattle.nz_spec.specs.terms.FormOf.{form_of, number_in};
+ghost use Rattle.nz_spec.specs.terms.Linear.{is_linear};
+ghost use Rattle.nz_spec.specs.clauses.Links.{minus};
+ghost use Rattle.nz_spec.specs.terms.Table.{term_in};
 ghost use Rattle.nz_lin.specs.Comes.{IsFormed};
 
-use crate::form::{Form, LinStop, Sign};
+use crate::form::{Form, Sign};
 use crate::linear::lin;
-use nz_term::{TermId, Terms, known_table};
+use nz_term::{ArithmeticStop, TermId, Terms, known_table};
 use std::alloc::Global;
 
 /// The form of a linear term less that of another.
@@ -22,7 +22,7 @@ pub fn lin_difference(
     terms: &Terms,
     left: TermId,
     right: TermId,
-) -> Result<Form, LinStop>
+) -> Result<Form, ArithmeticStop>
     requires left { left < length terms.now }
     requires right { right < length terms.now }
     requires left_linear { IsTrue (is_linear (term_in terms.now left)) }

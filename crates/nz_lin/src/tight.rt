@@ -1,19 +1,19 @@
 //! Tight bounds: those over integers, with coefficients that have no common divisor and an integer as limit.
 ghost use Rattle.std.specs.Prelude.{◌≡◌, ◌≤◌, ◌&&◌, IfOk, List, not, unsigned_abs};
 ghost use Rattle.std.specs.List.{list_all};
-ghost use Rattle.nz_spec.specs.Cuts as cuts;
+ghost use Rattle.nz_spec.specs.clauses.Cuts as cuts;
 ghost use Rattle.nz_fractions.specs.Fraction.{floor, gcd, largest};
-ghost use Rattle.nz_spec.specs.LinearLiteral as linear;
-ghost use Rattle.nz_spec.specs.LinearLiteral.{tight_form};
-ghost use Rattle.nz_spec.specs.Table.{Node};
+ghost use Rattle.nz_spec.specs.clauses.LinearLiteral as linear;
+ghost use Rattle.nz_spec.specs.clauses.LinearLiteral.{tight_form};
+ghost use Rattle.nz_spec.specs.terms.Table.{Node};
 ghost use Rattle.nz_lin.specs.Bounds.{HasUnits, IsLiteral, bound_over, is_integral, literal_over, rounded_bound};
 ghost use Rattle.nz_lin.specs.Comes.{IsOperated};
 ghost use Rattle.nz_lin.specs.Forms.{AreUnits, parts_over};
 
 use crate::bound::Bound;
-use crate::form::{LinStop, Part};
+use crate::form::Part;
 use nz_frac::{Frac, Wide, greatest_divisor};
-use nz_term::Sort;
+use nz_term::{ArithmeticStop, Sort};
 use std::alloc::Global;
 
 impl Bound {
@@ -23,7 +23,7 @@ impl Bound {
     /// # Errors
     ///
     /// `Wide` with the first operation that leaves the numbers; `Memory`.
-    pub fn tight(&self, alloc: Global) -> Result<Bound, LinStop>
+    pub fn tight(&self, alloc: Global) -> Result<Bound, ArithmeticStop>
         ensures tight { (ns : List Node) → HasUnits ns self.now → IsLiteral ns (tight_form (literal_over ns self.now)) result }
     {
         let parts = self.sides.parts();
@@ -35,7 +35,7 @@ impl Bound {
     }
 
     /// The bound times a number, with the greatest integer within its limit then.
-    fn rounded(&self, alloc: Global, multiplier: Frac) -> Result<Bound, LinStop>
+    fn rounded(&self, alloc: Global, multiplier: Frac) -> Result<Bound, ArithmeticStop>
         ensures rounded { (ns : List Node) → HasUnits ns self.now → IsLiteral ns (rounded_bound multiplier (bound_over ns self.now)) result }
     {
         let scaled = self.scaled(alloc, multiplier)?;

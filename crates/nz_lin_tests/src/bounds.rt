@@ -3,8 +3,8 @@ use crate::terms::{Wrong, form};
 use Relation::{AtMost, Below};
 use nz_base::Memory;
 use nz_frac::Frac;
-use nz_lin::{Bound, Form, LinStop, Multiple, sum_of_multiples};
-use nz_term::{NumberSort, Operator, Sort, TermId, Terms};
+use nz_lin::{Bound, BoundMultiple, Form, sum_of_multiples};
+use nz_term::{ArithmeticStop, NumberSort, Operator, Sort, TermId, Terms};
 use nz_term_samples::{constant, integer, operation};
 use std::alloc::Global;
 use std::test::Fail;
@@ -49,14 +49,19 @@ fn row_term(alloc: Global, terms: &mut Terms, sort: Sort, row: &Row) -> Result<T
 }
 
 /// The row's bound over two constants of a sort.
-fn bound_in(alloc: Global, terms: &mut Terms, sort: Sort, row: &Row) -> Result<Bound, LinStop> {
+fn bound_in(
+    alloc: Global,
+    terms: &mut Terms,
+    sort: Sort,
+    row: &Row,
+) -> Result<Bound, ArithmeticStop> {
     let difference = row_term(alloc, terms, sort, row)?;
     let form = form(alloc, terms, difference)?;
     Ok(bound_on(form, row.is_strict()))
 }
 
 /// The same over terms of its own.
-fn bound_of(alloc: Global, sort: Sort, row: &Row) -> Result<Bound, LinStop> {
+fn bound_of(alloc: Global, sort: Sort, row: &Row) -> Result<Bound, ArithmeticStop> {
     let mut terms = Terms::new(alloc)?;
     bound_in(alloc, &mut terms, sort, row)
 }
@@ -93,13 +98,13 @@ fn expect(holds: bool, place: usize) -> Result<(), Fail> {
 }
 
 /// Whether a bound's tight one is that of the row.
-fn has_tight(alloc: Global, bound: &Bound, tight: &Row) -> Result<bool, LinStop> {
+fn has_tight(alloc: Global, bound: &Bound, tight: &Row) -> Result<bool, ArithmeticStop> {
     let made = bound.tight(alloc)?;
     Ok(is_row(&made, tight))
 }
 
 /// Whether the tight bound of one row is that of the other.
-fn is_tight(alloc: Global, sort: Sort, row: &Row, tight: &Row) -> Result<bool, LinStop> {
+fn is_tight(alloc: Global, sort: Sort, row: &Row, tight: &Row) -> Result<bool, ArithmeticStop> {
     let bound = bound_of(alloc, sort, row)?;
     has_tight(alloc, &bound, tight)
 }
@@ -127,7 +132,7 @@ const OF_INTEGERS: &[(Row, Row)] = &[
 ];
 
 #[test]
-fn a_bound_over_integers_is_rounded(rt: HostRuntime) -> Result<(), Fail> {
+fn test_a_bound_over_integers_is_rounded(rt: HostRuntime) -> Result<(), Fail> {
     are_tight(rt.alloc(), Sort::Int, OF_INTEGERS)
 }
 
@@ -137,18 +142,18 @@ const OF_REALS: &[(Row, Row)] = &[
 ];
 
 #[test]
-fn a_bound_over_reals_stays(rt: HostRuntime) -> Result<(), Fail> {
+fn test_a_bound_over_reals_stays(rt: HostRuntime) -> Result<(), Fail> {
     are_tight(rt.alloc(), Sort::Real, OF_REALS)
 }
 
 /// Whether a bound's negation is that of the row.
-fn has_negation(alloc: Global, bound: &Bound, negation: &Row) -> Result<bool, LinStop> {
+fn has_negation(alloc: Global, bound: &Bound, negation: &Row) -> Result<bool, ArithmeticStop> {
     let made = bound.not(alloc)?;
     Ok(is_row(&made, negation))
 }
 
 /// Whether the negation of one row's bound is that of the other.
-fn is_not(alloc: Global, row: &Row, negation: &Row) -> Result<bool, LinStop> {
+fn is_not(alloc: Global, row: &Row, negation: &Row) -> Result<bool, ArithmeticStop> {
     let bound = bound_of(alloc, Sort::Int, row)?;
     has_negation(alloc, &bound, negation)
 }
@@ -159,7 +164,7 @@ const NEGATIONS: &[(Row, Row)] = &[
 ];
 
 #[test]
-fn a_negation_is_strict_where_the_bound_is_not(rt: HostRuntime) -> Result<(), Fail> {
+fn test_a_negation_is_strict_where_the_bound_is_not(rt: HostRuntime) -> Result<(), Fail> {
     for (place, (row, negation)) in NEGATIONS.iter().enumerate() {
         expect(is_not(rt.alloc(), row, negation)?, place)?;
     }
@@ -174,35 +179,35 @@ struct Sum {
 }
 
 /// Whether twice a bound and then another is that of the row, where they are joined one after the other.
-fn joins(alloc: Global, left: &Bound, right: &Bound, sum: &Row) -> Result<bool, LinStop> {
+fn joins(alloc: Global, left: &Bound, right: &Bound, sum: &Row) -> Result<bool, ArithmeticStop> {
     let mut twice = left.scaled(alloc, Frac::whole(2))?;
     twice.join(right)?;
     Ok(is_row(&twice, sum))
 }
 
 /// Whether the sum of multiples is the bound of the row.
-fn sums(alloc: Global, multiples: &[Multiple], sum: &Row) -> Result<bool, LinStop> {
+fn sums(alloc: Global, multiples: &[BoundMultiple], sum: &Row) -> Result<bool, ArithmeticStop> {
     let made = sum_of_multiples(alloc, multiples)?;
     Ok(is_row(&made, sum))
 }
 
 /// So many times a bound.
-fn multiple(bound: Bound, number: i64) -> Multiple {
-    Multiple {
+fn multiple(bound: Bound, number: i64) -> BoundMultiple {
+    BoundMultiple {
         bound,
         multiplier: Frac::whole(number),
     }
 }
 
 /// Whether twice a bound and then another is that of the row, also as a sum of multiples.
-fn are_summed(alloc: Global, left: Bound, right: Bound, sum: &Row) -> Result<bool, LinStop> {
+fn are_summed(alloc: Global, left: Bound, right: Bound, sum: &Row) -> Result<bool, ArithmeticStop> {
     let are_joined = joins(alloc, &left, &right, sum)?;
     let multiples = [multiple(left, 2), multiple(right, 1)];
     Ok(are_joined && sums(alloc, &multiples, sum)?)
 }
 
 /// Whether it is so of a row's bounds.
-fn is_sum(alloc: Global, row: &Sum) -> Result<bool, LinStop> {
+fn is_sum(alloc: Global, row: &Sum) -> Result<bool, ArithmeticStop> {
     let left = bound_of(alloc, Sort::Int, &row.left)?;
     let right = bound_of(alloc, Sort::Int, &row.right)?;
     are_summed(alloc, left, right, &row.sum)
@@ -222,7 +227,7 @@ const SUMS: &[Sum] = &[
 ];
 
 #[test]
-fn a_sum_of_multiples_is_strict_where_one_of_them_is(rt: HostRuntime) -> Result<(), Fail> {
+fn test_a_sum_of_multiples_is_strict_where_one_of_them_is(rt: HostRuntime) -> Result<(), Fail> {
     for (place, row) in SUMS.iter().enumerate() {
         expect(is_sum(rt.alloc(), row)?, place)?;
     }
@@ -230,13 +235,13 @@ fn a_sum_of_multiples_is_strict_where_one_of_them_is(rt: HostRuntime) -> Result<
 }
 
 /// Whether twice a bound and then another is a false bound on 0.
-fn clash(alloc: Global, left: &Bound, mut right: Bound) -> Result<bool, LinStop> {
+fn clash(alloc: Global, left: &Bound, mut right: Bound) -> Result<bool, ArithmeticStop> {
     right.join_multiple(alloc, Frac::whole(2), left)?;
     Ok(right.is_contradiction())
 }
 
 /// Whether it is so of two rows' bounds.
-fn is_clash(alloc: Global, left: &Row, right: &Row) -> Result<bool, LinStop> {
+fn is_clash(alloc: Global, left: &Row, right: &Row) -> Result<bool, ArithmeticStop> {
     let left = bound_of(alloc, Sort::Real, left)?;
     let right = bound_of(alloc, Sort::Real, right)?;
     clash(alloc, &left, right)
@@ -251,7 +256,7 @@ const CLASHES: &[(Row, Row, bool)] = &[
 ];
 
 #[test]
-fn a_false_bound_on_nothing_is_a_contradiction(rt: HostRuntime) -> Result<(), Fail> {
+fn test_a_false_bound_on_nothing_is_a_contradiction(rt: HostRuntime) -> Result<(), Fail> {
     for (place, (left, right, wanted)) in CLASHES.iter().enumerate() {
         expect(is_clash(rt.alloc(), left, right)? == *wanted, place)?;
     }

@@ -3,8 +3,8 @@ use crate::terms::Term::{self, Constant, Number, Over};
 use crate::terms::{Wrong, form, form_among, make_all};
 use nz_base::Memory;
 use nz_frac::Frac;
-use nz_lin::{Form, LinStop, Part, lin_difference};
-use nz_term::{NumberSort, Operator, Sort, TermId, Terms};
+use nz_lin::{Form, Part, lin_difference};
+use nz_term::{ArithmeticStop, NumberSort, Operator, Sort, TermId, Terms};
 use nz_term_samples::{constant, operation};
 use std::alloc::Global;
 use std::test::Fail;
@@ -89,7 +89,7 @@ const SUM: Row = Row {
 };
 
 #[test]
-fn a_sum_has_each_unit_once(rt: HostRuntime) -> Result<(), Fail> {
+fn test_a_sum_has_each_unit_once(rt: HostRuntime) -> Result<(), Fail> {
     makes(rt.alloc(), &SUM)
 }
 
@@ -101,7 +101,7 @@ const DIFFERENCE: Row = Row {
 };
 
 #[test]
-fn a_unit_goes_with_the_coefficient_0(rt: HostRuntime) -> Result<(), Fail> {
+fn test_a_unit_goes_with_the_coefficient_0(rt: HostRuntime) -> Result<(), Fail> {
     makes(rt.alloc(), &DIFFERENCE)
 }
 
@@ -127,7 +127,7 @@ const CHOICE: Row = Row {
 };
 
 #[test]
-fn a_choice_is_a_unit(rt: HostRuntime) -> Result<(), Fail> {
+fn test_a_choice_is_a_unit(rt: HostRuntime) -> Result<(), Fail> {
     makes(rt.alloc(), &CHOICE)
 }
 
@@ -139,7 +139,7 @@ const NEGATED: Row = Row {
 };
 
 #[test]
-fn a_constant_term_is_a_number(rt: HostRuntime) -> Result<(), Fail> {
+fn test_a_constant_term_is_a_number(rt: HostRuntime) -> Result<(), Fail> {
     makes(rt.alloc(), &NEGATED)
 }
 
@@ -153,13 +153,13 @@ fn chain(alloc: Global, terms: &mut Terms, depth: usize) -> Result<TermId, Memor
 }
 
 /// The form of such a chain.
-fn form_of_chain(alloc: Global, terms: &mut Terms, depth: usize) -> Result<Form, LinStop> {
+fn form_of_chain(alloc: Global, terms: &mut Terms, depth: usize) -> Result<Form, ArithmeticStop> {
     let last = chain(alloc, terms, depth)?;
     form(alloc, terms, last)
 }
 
 #[test]
-fn a_shared_term_is_opened_once(rt: HostRuntime) -> Result<(), Fail> {
+fn test_a_shared_term_is_opened_once(rt: HostRuntime) -> Result<(), Fail> {
     let mut terms = Terms::new(rt.alloc())?;
     let form = form_of_chain(rt.alloc(), &mut terms, 100)?;
     is_made(&form, &[Wanted(0, Sort::Real, 1 << 100, 1)], (0, 1))
@@ -173,16 +173,16 @@ const TWICE: &[Term] = &[
 ];
 
 /// The form of `x` less `2 * x`.
-fn difference(alloc: Global, terms: &mut Terms) -> Result<Form, LinStop> {
+fn difference(alloc: Global, terms: &mut Terms) -> Result<Form, ArithmeticStop> {
     make_all(alloc, terms, TWICE)?;
     if terms.len() <= 2 || !terms.is_linear(0) || !terms.is_linear(2) {
-        return Err(LinStop::Memory);
+        return Err(ArithmeticStop::Memory);
     }
     lin_difference(alloc, terms, 0, 2)
 }
 
 #[test]
-fn a_term_less_another_has_their_units(rt: HostRuntime) -> Result<(), Fail> {
+fn test_a_term_less_another_has_their_units(rt: HostRuntime) -> Result<(), Fail> {
     let mut terms = Terms::new(rt.alloc())?;
     let form = difference(rt.alloc(), &mut terms)?;
     is_made(&form, &[Wanted(0, Sort::Int, -1, 1)], (0, 1))

@@ -2,8 +2,8 @@
 use crate::terms::Term::{self, Constant, Number, Over};
 use crate::terms::{MOST, form_among};
 use nz_frac::{Op, Wide};
-use nz_lin::{Form, LinStop};
-use nz_term::{NumberSort, Operator, Sort, TermId, Terms};
+use nz_lin::Form;
+use nz_term::{ArithmeticStop, NumberSort, Operator, Sort, TermId, Terms};
 use std::alloc::Global;
 use std::test::Fail;
 
@@ -17,9 +17,9 @@ struct Row {
 }
 
 /// Whether making a form stopped at the operation of the row.
-fn is_wide(made: &Result<Form, LinStop>, row: &Row) -> bool {
+fn is_wide(made: &Result<Form, ArithmeticStop>, row: &Row) -> bool {
     match made {
-        Err(LinStop::Wide(wide)) => is_at(*wide, row),
+        Err(ArithmeticStop::Wide(wide)) => is_at(*wide, row),
         _ => false,
     }
 }
@@ -70,7 +70,7 @@ const SUM: Row = Row {
 };
 
 #[test]
-fn a_wide_sum_is_told_with_its_operands(rt: HostRuntime) -> Result<(), Fail> {
+fn test_a_wide_sum_is_told_with_its_operands(rt: HostRuntime) -> Result<(), Fail> {
     stop(rt.alloc(), &SUM)
 }
 
@@ -83,7 +83,7 @@ const BOTH: Row = Row {
 };
 
 #[test]
-fn the_first_of_two_is_told(rt: HostRuntime) -> Result<(), Fail> {
+fn test_the_first_of_two_is_told(rt: HostRuntime) -> Result<(), Fail> {
     stop(rt.alloc(), &BOTH)
 }
 
@@ -99,6 +99,6 @@ const SQUARE: Row = Row {
 };
 
 #[test]
-fn a_product_of_constants_may_stop(rt: HostRuntime) -> Result<(), Fail> {
+fn test_a_product_of_constants_may_stop(rt: HostRuntime) -> Result<(), Fail> {
     stop(rt.alloc(), &SQUARE)
 }

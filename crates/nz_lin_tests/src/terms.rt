@@ -1,7 +1,7 @@
 //! Terms to try and their forms: terms are told by tables, so that one loop makes them, and a test is cheap to prove.
 use nz_base::Memory;
-use nz_lin::{Form, LinStop, lin};
-use nz_term::{Operator, Sort, TermId, Terms};
+use nz_lin::{Form, lin};
+use nz_term::{ArithmeticStop, Operator, Sort, TermId, Terms};
 use nz_term_samples::{constant, numeral, operation};
 use std::alloc::Global;
 
@@ -45,9 +45,9 @@ pub(crate) fn make_all(alloc: Global, terms: &mut Terms, list: &[Term]) -> Resul
 }
 
 /// The form of a linear term. One that isn't linear fails the test.
-pub(crate) fn form(alloc: Global, terms: &Terms, id: TermId) -> Result<Form, LinStop> {
+pub(crate) fn form(alloc: Global, terms: &Terms, id: TermId) -> Result<Form, ArithmeticStop> {
     if terms.len() <= id || !terms.is_linear(id) {
-        return Err(LinStop::Memory);
+        return Err(ArithmeticStop::Memory);
     }
     lin(alloc, terms, id)
 }
@@ -58,7 +58,7 @@ pub(crate) fn form_among(
     terms: &mut Terms,
     list: &[Term],
     id: TermId,
-) -> Result<Form, LinStop> {
+) -> Result<Form, ArithmeticStop> {
     make_all(alloc, terms, list)?;
     form(alloc, terms, id)
 }

@@ -2,6 +2,7 @@ pub mod Elements
 pub mod Fronts
 pub mod Members
 pub mod Numbers
+pub mod Once
 pub mod Options
 pub mod Places
 pub mod Results

@@ -1,14 +1,9 @@
 -- Tests joined by `and` and `or`, and what an equivalence tells of a test.
-use Rattle.std.proofs.Common.{◌≡◌, Bool, true, false, not, ◌&&◌, ◌||◌, IsTrue, ◌⊎◌, inl, inr, refl, sym, true≢false}
+use Rattle.std.proofs.Common.{◌≡◌, Bool, true, false, not, ◌&&◌, ◌||◌, IsTrue, refl, sym, true≢false}
 use Rattle.std.specs.Prelude.{◌↔◌}
 use Rattle.std.proofs.Math.Bool.{or-false}
 
 -- ---- Joined tests
-
-pub either_true : (a b : Bool) → (a ≡ true) ⊎ (b ≡ true) → (a || b) ≡ true
-either_true true b e = refl
-either_true false b (inl e) = absurd (true≢false (sym e))
-either_true false b (inr e) = e
 
 pub or_again : (a b : Bool) → ((a || b) || a) ≡ (a || b)
 or_again true b = refl

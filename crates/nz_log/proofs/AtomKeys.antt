@@ -4,7 +4,7 @@ use Rattle.std.specs.Cmp.{signed_Decides}
 use Rattle.std.specs.Ordering.{int_eq}
 use Rattle.nz_lists.proofs.Tests.{same_tests}
 use Rattle.nz_fractions.specs.Fraction.{Fraction, denominator}
-use Rattle.nz_spec.specs.Same.{are_same_fraction}
+use Rattle.nz_spec.specs.terms.Same.{are_same_fraction}
 use Rattle.nz_lin.specs.declared.form.Part.{Part}
 use Rattle.nz_log.specs.Keys.{are_same_part, are_same_units}
 

@@ -5,10 +5,10 @@ use Rattle.std.specs.Prelude.{slice_get, IfOk, OnOk}
 use Rattle.std.specs.List.{AllByRecursion}
 use Rattle.nz_lists.proofs.Elements.{AllByRecursion-append}
 use Rattle.nz_fractions.specs.Fraction.{Fraction, neg_ℚ}
-use Rattle.nz_spec.specs.Form as form
-use Rattle.nz_spec.specs.Form.{negated_part}
-use Rattle.nz_spec.specs.Literal.{Literal, is_at_most, is_below, negation_of}
-use Rattle.nz_spec.specs.Table.{Node}
+use Rattle.nz_spec.specs.terms.Form as form
+use Rattle.nz_spec.specs.terms.Form.{negated_part}
+use Rattle.nz_spec.specs.clauses.Literal.{Literal, is_at_most, is_below, negation_of}
+use Rattle.nz_spec.specs.terms.Table.{Node}
 use Rattle.nz_lin.specs.declared.bound.Bound.{Bound}
 use Rattle.nz_lin.specs.Bounds.{HasUnits, bounded, literal_over}
 use Rattle.nz_lin.specs.Forms.{parts_over}
@@ -16,13 +16,13 @@ use Rattle.nz_log.specs.declared.atoms.Atom.{Atom}
 use Rattle.nz_log.specs.declared.atoms.Atom.TheVariants.{Term, AtMost}
 use Rattle.nz_log.specs.declared.lits.Lit.{Lit}
 use Rattle.nz_log.specs.declared.origins.Stored.{Stored}
-use Rattle.nz_log.specs.declared.term_lits.TermLit.{TermLit}
+use Rattle.nz_term.specs.declared.term_lits.TermLit.{TermLit}
 use Rattle.nz_log.specs.Atoms.{AreAtoms, HasTerm, IsLitIn, Stay, lit_of, literal_in, lits_of, term_place}
 use Rattle.nz_log.specs.Logs.{JoinsAtoms}
 use Rattle.nz_log.specs.Stored.{log_of}
-use Rattle.nz_log.proofs.Agreeing.{negated_twice}
+use Rattle.nz_log.proofs.LiteralAgreement.{negated_twice}
 use Rattle.nz_log.proofs.AtomTables.{place_is, place_stays, place_there}
-use Rattle.nz_log.proofs.Extending.{literal_at}
+use Rattle.nz_log.proofs.LiteralPreservation.{literal_at}
 
 -- ---- Of the log
 

@@ -3,27 +3,27 @@ use Rattle.std.proofs.Common.{◌≡◌, ℕ, ◌<◌, Bool, List, [], ◌∷◌
 use Rattle.std.specs.Prelude.{IsTrue, IfOk, IsSome, OnErr}
 use Rattle.std.proofs.lemmas.Bool.Decides.{eqb_tells}
 use Rattle.nz_lists.proofs.Elements.{AllByRecursion-put}
-use Rattle.nz_spec.specs.Computation.{at_once, turned_into}
-use Rattle.nz_spec.specs.Farkas as farkas
-use Rattle.nz_spec.specs.Farkas.{farkas_clause, is_contradiction, negations_of}
-use Rattle.nz_spec.specs.FormOf.{number_in}
+use Rattle.nz_spec.specs.numbers.Computation.{at_once, turned_into}
+use Rattle.nz_spec.specs.clauses.Farkas as farkas
+use Rattle.nz_spec.specs.clauses.Farkas.{farkas_clause, is_contradiction, negations_of}
+use Rattle.nz_spec.specs.terms.FormOf.{number_in}
 use Rattle.nz_fractions.specs.Fraction.{first_wide}
-use Rattle.nz_spec.specs.Literal.{Clause, clause_of, once}
-use Rattle.nz_spec.specs.Steps.{farkas_step, step_clause, IsSortedStep}
-use Rattle.nz_spec.specs.Table.{Node, IsTable, TermStays}
+use Rattle.nz_spec.specs.clauses.Literal.{Clause, clause_of, once}
+use Rattle.nz_spec.specs.clauses.Steps.{farkas_step, step_clause, IsSortedStep}
+use Rattle.nz_spec.specs.terms.Table.{Node, IsTable, TermStays}
 use Rattle.nz_lin.specs.Comes.{IsDone}
 use Rattle.nz_log.specs.declared.atoms.Atom.{Atom}
 use Rattle.nz_log.specs.declared.lits.Lit.{Lit}
-use Rattle.nz_log.specs.declared.multiples.Multiple.{Multiple}
+use Rattle.nz_log.specs.declared.multiples.LitMultiple.{LitMultiple}
 use Rattle.nz_log.specs.Atoms.{AreAtoms, AreWithin, IsLitIn, LiteralsAgree, clause_in}
 use Rattle.nz_log.specs.Axioms.{AreMultiples, AreMultiplesIn, Axiom, IsAxiom, IsAxiomIn, IsClauseOf, axiom_step, farkas_of, multiples_in, negated_lits, sum_in}
 use Rattle.nz_log.specs.Leveled.{AreTold}
 use Rattle.nz_log.specs.Lits.{are_same_lit}
 use Rattle.nz_log.specs.Logs.{Entry, JoinsAtoms, LogState, Puts, axiom_entry, axiom_of, entry_at, row_term}
 use Rattle.nz_log.specs.Sound.{IsLog}
-use Rattle.nz_log.specs.Theories.{Grows}
-use Rattle.nz_log.proofs.Agreeing.{clause_named, literal_turned}
-use Rattle.nz_log.proofs.Extending.{all_wider, axiom_in_wider, clause_stays, step_stays}
+use Rattle.nz_log.specs.Growth.{Grows}
+use Rattle.nz_log.proofs.LiteralAgreement.{clause_named, literal_turned}
+use Rattle.nz_log.proofs.LiteralPreservation.{all_wider, axiom_in_wider, clause_stays, step_stays}
 use Rattle.nz_log.proofs.Leveled.{logs_stay_leveled}
 use Rattle.nz_log.proofs.Soundness.{rule_in_order}
 
@@ -75,21 +75,21 @@ axiom_grows old new id a c no_row puts told =
 -- ---- Sums that are contradictions
 
 module _ (ns : List Node) (atoms : List Atom) where
-  pub negations_within : (ms : List Multiple) → AreMultiplesIn ns atoms ms → AreWithin ns atoms (negated_lits ms)
+  pub negations_within : (ms : List LitMultiple) → AreMultiplesIn ns atoms ms → AreWithin ns atoms (negated_lits ms)
   negations_within [] h = tt
   negations_within (m ∷ ms) h = (record { atom = h.0.atom; at = h.0.at; within = h.0.within }, negations_within ms h.1)
 
-  pub negations_named : (ms : List Multiple) → AreMultiplesIn ns atoms ms → clause_in ns atoms (negated_lits ms) ≡ negations_of (multiples_in ns atoms ms)
+  pub negations_named : (ms : List LitMultiple) → AreMultiplesIn ns atoms ms → clause_in ns atoms (negated_lits ms) ≡ negations_of (multiples_in ns atoms ms)
   negations_named [] h = refl
   negations_named (m ∷ ms) h = λ i. literal_turned ns atoms m.literal h.0 i ∷ negations_named ms h.1 i
 
-  abbrev pub refuted : List Multiple → List Lit
+  abbrev pub refuted : List LitMultiple → List Lit
   refuted ms = once are_same_lit (negated_lits ms)
 
-  pub refuted_within : (ms : List Multiple) → AreMultiplesIn ns atoms ms → AreWithin ns atoms (refuted ms)
+  pub refuted_within : (ms : List LitMultiple) → AreMultiplesIn ns atoms ms → AreWithin ns atoms (refuted ms)
   refuted_within ms h = AllByRecursion-put (IsLitIn ns atoms) are_same_lit (negated_lits ms) [] tt (negations_within ms h)
 
-  module _ (agree : LiteralsAgree ns atoms) (ms : List Multiple) (within : AreMultiplesIn ns atoms ms) (multiples : AreMultiples ns atoms ms) where
+  module _ (agree : LiteralsAgree ns atoms) (ms : List LitMultiple) (within : AreMultiplesIn ns atoms ms) (multiples : AreMultiples ns atoms ms) where
     pub farkas_gives : IsTrue (is_contradiction (sum_in ns atoms ms).result)
         → step_clause (number_in ns) [] [] (farkas_step (multiples_in ns atoms ms)) ≡ Some (clause_in ns atoms (refuted ms))
     farkas_gives contradiction =

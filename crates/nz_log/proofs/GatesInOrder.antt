@@ -5,22 +5,23 @@ use Rattle.std.specs.List.{AllByRecursion}
 use Rattle.std.proofs.lemmas.Option.{slice_get-get_or, slice_get-map, unwrap_or-slice_get}
 use Rattle.std.proofs.lemmas.List.Elements.{recursion_from_All}
 use Rattle.nz_lists.proofs.Elements.{AllByRecursion-put}
-use Rattle.nz_spec.specs.Term.{falsum}
-use Rattle.nz_spec.specs.Table.{Node, IsTable, term_in, OneNumber, TermOfNode}
-use Rattle.nz_spec.specs.Literal.{term_literal, clause_of, once, TellsLiterals}
-use Rattle.nz_spec.specs.Gates.{clauses_over, HasBooleanArguments}
+use Rattle.nz_spec.specs.terms.Term.{falsum}
+use Rattle.nz_spec.specs.terms.Table.{Node, IsTable, term_in, OneNumber, TermOfNode}
+use Rattle.nz_spec.specs.clauses.Literal.{term_literal, clause_of, once, TellsLiterals}
+use Rattle.nz_spec.specs.clauses.Gates.{clauses_over, HasBooleanArguments}
 use Rattle.nz_log.specs.declared.atoms.Atom.{Atom}
 use Rattle.nz_log.specs.declared.atoms.Atom.TheVariants.{Term}
-use Rattle.nz_log.specs.declared.term_lits.TermLit.{TermLit}
+use Rattle.nz_term.specs.declared.term_lits.TermLit.{TermLit}
 use Rattle.nz_log.specs.Atoms.{AreAtoms, AreWithin, HasTerm, IsLitIn, clause_in, lit_of, literal_in, lits_of, with_sign}
 use Rattle.nz_log.specs.Lits.{are_same_lit}
 use Rattle.nz_log.specs.Logs.{gate_of, LogState}
 use Rattle.nz_log.specs.Sound.{IsEntry}
-use Rattle.nz_log.specs.TermLits.{yes, no, AreOfTerms, clause_of_terms, gates_at, is_boolean_at, literal_of}
-use Rattle.nz_log.proofs.Agreeing.{clause_named, literals_agree}
-use Rattle.nz_log.proofs.Extending.{literal_at}
+use Rattle.nz_rows.specs.GateRows.{gates_at, is_boolean_at}
+use Rattle.nz_term.specs.TermLits.{yes, no, AreOfTerms, clause_of_terms, literal_of}
+use Rattle.nz_log.proofs.LiteralAgreement.{clause_named, literals_agree}
+use Rattle.nz_log.proofs.LiteralPreservation.{literal_at}
 use Rattle.nz_log.proofs.Members.{each-at, each-gate}
-use Rattle.nz_log.proofs.Naming.{gates_named}
+use Rattle.nz_log.proofs.NamedGates.{gates_named}
 
 -- ---- Literals on terms
 

@@ -5,11 +5,11 @@ use Rattle.std.specs.List.{list_any}
 use Rattle.std.proofs.lemmas.List.{reverse-append}
 use Rattle.std.proofs.lemmas.List.Folds.{list_any-append}
 use Rattle.nz_lists.proofs.Tests.{same_tests}
-use Rattle.nz_spec.specs.Literal.{without}
+use Rattle.nz_spec.specs.clauses.Literal.{without}
 use Rattle.nz_log.specs.declared.lits.Lit.{Lit}
 use Rattle.nz_log.specs.Lits.{are_same_lit}
-use Rattle.nz_log.specs.Marked.{AreListed, AreNone, last_marked}
-use Rattle.nz_log.proofs.Gathering.{lit_same, same_lit}
+use Rattle.nz_log.specs.Marked.{AreListed, last_marked}
+use Rattle.nz_log.proofs.LiteralSets.{lit_same, same_lit}
 
 same_turned : (l m : Lit) → are_same_lit l m ≡ are_same_lit m l
 same_turned l m =
@@ -51,12 +51,6 @@ marks_tell has xs are l = both_there (has l) (list_any (are_same_lit l) xs) (are
 not_true : (b : Bool) → (b ≡ true → ⊥) → b ≡ false
 not_true true f = absurd (f refl)
 not_true false f = refl
-
-pub none_listed : (has : Lit → Bool) → AreListed has [] → AreNone has
-none_listed has are l = not_true (has l) (λ e. true≢false (sym (are l e)))
-
-pub listed_none : (has : Lit → Bool) (xs : List Lit) → AreNone has → AreListed has xs
-listed_none has xs none l e = absurd (true≢false (sym e ∙ none l))
 
 -- ---- One more at the end
 
@@ -110,10 +104,6 @@ pub listed_more : (has now : Lit → Bool) (x : Lit) (xs : List Lit) → AreList
 listed_more has now x xs are more l e =
     list_any-append (are_same_lit l) xs (x ∷ []) ∙ more_at (are_same_lit l x) (list_any (are_same_lit l) xs) (has l) (now l) (more l) (are l) e
 
-pub listed_behind : (has : Lit → Bool) (x : Lit) (xs : List Lit) → AreListed has xs → AreListed has (xs ++ x ∷ [])
-listed_behind has x xs are l e =
-    list_any-append (are_same_lit l) xs (x ∷ []) ∙ ap (λ (b : Bool). b || list_any (are_same_lit l) (x ∷ [])) (are l e)
-
 -- ---- One less
 
 first_out : (s b a : Bool) (x y : Lit) (us vs : List Lit) → us ≡ without are_same_lit x vs → s ≡ are_same_lit x y
@@ -136,9 +126,6 @@ last_without has now x less (y ∷ ys) =
 less_at : (s b c : Bool) → c ≡ (not s && b) → c ≡ true → (s ≡ false) × (b ≡ true)
 less_at true b c e h = absurd (true≢false (sym h ∙ e))
 less_at false b c e h = (refl, sym e ∙ h)
-
-pub listed_less : (has now : Lit → Bool) (x : Lit) (xs : List Lit) → AreListed has xs → ((l : Lit) → now l ≡ (not (are_same_lit l x) && has l)) → AreListed now xs
-listed_less has now x xs are less l e = are l (less_at (are_same_lit l x) (has l) (now l) (less l) e).1
 
 -- ---- The last one taken off
 

@@ -11,14 +11,15 @@ use Rattle.nz_lists.proofs.Places.{slice_get-same}
 use Rattle.nz_log.specs.declared.atoms.Atom.TheVariants.{Term}
 use Rattle.nz_log.specs.declared.lits.Lit.{Lit}
 use Rattle.nz_log.specs.declared.origins.Link.{Link}
-use Rattle.nz_log.specs.declared.term_lits.TermLit.{TermLit}
+use Rattle.nz_term.specs.declared.term_lits.TermLit.{TermLit}
 use Rattle.nz_log.specs.Atoms.{HasTerm, Stay, lit_of, lits_of, terms_at, terms_of}
 use Rattle.nz_log.specs.Lits.{are_same_lit, lit_resolvent}
 use Rattle.nz_log.specs.Leveled.{AreTold, IsLeveled, IsToldWithin, LevelsReach, LogsStayLeveled, Names}
 use Rattle.nz_log.specs.Logs.{Entry, LogState, axiom_entry, chain_entry, gate_entry, given_entry, entry_at, level_at, literals_at, level_of_links, level_of_terms, level_with, told_of, told_level, told_below, lowest, chained, Puts}
-use Rattle.nz_log.specs.TermLits.{gates_at, yes}
-use Rattle.nz_spec.specs.Literal.{once}
-use Rattle.nz_log.proofs.Dropping.{kept_is}
+use Rattle.nz_rows.specs.GateRows.{gates_at}
+use Rattle.nz_term.specs.TermLits.{yes}
+use Rattle.nz_spec.specs.clauses.Literal.{once}
+use Rattle.nz_log.proofs.DroppedLevels.{kept_is}
 use Rattle.nz_log.proofs.Members.{each-resolvent}
 use Rattle.nz_log.proofs.Soundness.{level_grows, terms_grow}
 

@@ -7,14 +7,15 @@ use Rattle.std.proofs.lemmas.List.Elements.{All-from_recursion, All-get_or}
 use Rattle.std.proofs.lemmas.Option.{get_or_from_slice_get, slice_get_within}
 use Rattle.nz_lists.proofs.Elements.{AllByRecursion-append, AllByRecursion-put}
 use Rattle.nz_lists.proofs.Members.{by_each, each_of, has_first, has_more}
-use Rattle.nz_spec.specs.Term.{Head, verum, falsum, negation, conjunction, disjunction, exclusion, equality, choice, bool_sort}
-use Rattle.nz_spec.specs.Literal.{without}
-use Rattle.nz_spec.specs.Gates.{clauses_over}
+use Rattle.nz_spec.specs.terms.Term.{Head, verum, falsum, negation, conjunction, disjunction, exclusion, equality, choice, bool_sort}
+use Rattle.nz_spec.specs.clauses.Literal.{without}
+use Rattle.nz_spec.specs.clauses.Gates.{clauses_over}
 use Rattle.nz_log.specs.declared.lits.Lit.{Lit}
-use Rattle.nz_log.specs.declared.term_lits.TermLit.{TermLit}
+use Rattle.nz_term.specs.declared.term_lits.TermLit.{TermLit}
 use Rattle.nz_log.specs.Lits.{negated_lit, are_same_lit, lit_resolvent}
 use Rattle.nz_log.specs.Sound.{GatesNameArguments}
-use Rattle.nz_log.specs.TermLits.{yes, no, is_boolean_at, gates_at}
+use Rattle.nz_rows.specs.GateRows.{is_boolean_at, gates_at}
+use Rattle.nz_term.specs.TermLits.{yes, no}
 
 module _ {X : Type 0} (P : X → Type 0) where
   pub each-at : (xs : List X) (i : ℕ) (x : X) → AllByRecursion P xs → slice_get xs i ≡ Some x → P x

@@ -3,8 +3,8 @@ use Rattle.std.proofs.Common.{◌≡◌, ℕ, zero, suc, ◌<◌, ◌≤◌, max
 use Rattle.std.specs.Prelude.{slice_get, unwrap_or, IsSome, IfOk, OnErr}
 use Rattle.std.specs.List.{AllByRecursion}
 use Rattle.nz_lists.proofs.Numbers.{same_or_other}
-use Rattle.nz_spec.specs.Table.{Node}
-use Rattle.nz_spec.specs.Decide.{asserted_numbers}
+use Rattle.nz_spec.specs.terms.Table.{Node}
+use Rattle.nz_spec.specs.search.Decide.{asserted_numbers}
 use Rattle.nz_log.specs.declared.atoms.Atom.{Atom}
 use Rattle.nz_log.specs.declared.atoms.Atom.TheVariants.{Term}
 use Rattle.nz_log.specs.declared.lits.Lit.{Lit}
@@ -12,9 +12,9 @@ use Rattle.nz_log.specs.declared.origins.Link.{Link}
 use Rattle.nz_log.specs.Atoms.{AreAtoms, AreWithin, HasTerm, IsLitIn, Stay, lit_of, terms_at}
 use Rattle.nz_log.specs.Lits.{lit_resolvent}
 use Rattle.nz_log.specs.Logs.{IsPremise, Origin, assertion_of, gate_of, axiom_of, chain_of, Entry, JoinsAtoms, LogState, entry_at, IsLive, literals_at, level_at, told_level, level_of_terms, level_with, level_of_links, chained, chain_entry, Puts}
-use Rattle.nz_log.proofs.Extending.{all_stay, axiom_stays, clause_stays, lit_stays, literal_at}
+use Rattle.nz_log.proofs.LiteralPreservation.{all_stay, axiom_stays, clause_stays, lit_stays, literal_at}
 use Rattle.nz_log.proofs.Members.{each-resolvent}
-use Rattle.nz_log.specs.TermLits.{yes}
+use Rattle.nz_term.specs.TermLits.{yes}
 use Rattle.nz_log.specs.Sound.{live_at, IsLink, IsMade, IsEntry, IsLog}
 
 -- ---- Entries stay in order where what they rest on stays

@@ -5,14 +5,14 @@ use Rattle.std.specs.List.{AllByRecursion}
 use Rattle.std.proofs.lemmas.Option.{option_and_then_some, slice_get-map}
 use Rattle.std.proofs.lemmas.List.{append-nil, length-append}
 use Rattle.std.proofs.lemmas.List.Elements.{recursion_from_All}
-use Rattle.nz_spec.specs.Term.{Term}
-use Rattle.nz_spec.specs.Table.{Node, IsTable, term_in}
-use Rattle.nz_spec.specs.Form.{Numbering}
-use Rattle.nz_spec.specs.FormOf.{number_in}
-use Rattle.nz_spec.specs.Literal.{Clause, resolvent}
-use Rattle.nz_spec.specs.Gates.{holds}
-use Rattle.nz_spec.specs.Steps as spec
-use Rattle.nz_spec.specs.Steps.{given_step, gate_step, resolve_step, step_clause, clauses_behind, IsDerivation, Derives, DerivationsGrow}
+use Rattle.nz_spec.specs.terms.Term.{Term}
+use Rattle.nz_spec.specs.terms.Table.{Node, IsTable, term_in}
+use Rattle.nz_spec.specs.terms.Form.{Numbering}
+use Rattle.nz_spec.specs.terms.FormOf.{number_in}
+use Rattle.nz_spec.specs.clauses.Literal.{Clause, resolvent}
+use Rattle.nz_spec.specs.clauses.Gates.{holds}
+use Rattle.nz_spec.specs.clauses.Steps as spec
+use Rattle.nz_spec.specs.clauses.Steps.{given_step, gate_step, resolve_step, step_clause, clauses_behind, IsDerivation, Derives, DerivationsGrow}
 use Rattle.nz_lists.proofs.Places.{slice_get_kept}
 use Rattle.nz_lists.proofs.Numbers.{same_or_other}
 use Rattle.nz_log.specs.declared.atoms.Atom.{Atom}
@@ -25,7 +25,7 @@ use Rattle.nz_log.specs.Logs.{RestsOn, Origin, assertion_of, gate_of, axiom_of, 
 use Rattle.nz_log.specs.Sound.{live_at, live_terms, IsLink, IsMade, IsLog}
 use Rattle.nz_log.specs.Spelling.{is_marked, AreMarked, chain_steps, chain_place, origin_steps, origin_place}
 use Rattle.nz_log.proofs.Members.{each-resolvent}
-use Rattle.nz_log.proofs.Agreeing.{resolvent_named}
+use Rattle.nz_log.proofs.LiteralAgreement.{resolvent_named}
 use Rattle.nz_log.proofs.Taken.{axiom_taken}
 use Rattle.nz_log.proofs.Soundness.{live_grows, within_at}
 

@@ -1,12 +1,12 @@
 -- The step of a clause that holds by arithmetic alone gives it.
 use Rattle.std.proofs.Common.{◌≡◌, List, [], Some, refl, sym, subst, ◌∙◌}
 use Rattle.std.proofs.lemmas.List.{append-nil}
-use Rattle.nz_spec.specs.Form.{Numbering}
-use Rattle.nz_spec.specs.FormOf.{number_in}
-use Rattle.nz_spec.specs.Literal.{Clause}
-use Rattle.nz_spec.specs.Steps.{step_clause}
-use Rattle.nz_spec.specs.Table.{Node, IsTable}
-use Rattle.nz_spec.specs.Term as spec
+use Rattle.nz_spec.specs.terms.Form.{Numbering}
+use Rattle.nz_spec.specs.terms.FormOf.{number_in}
+use Rattle.nz_spec.specs.clauses.Literal.{Clause}
+use Rattle.nz_spec.specs.clauses.Steps.{step_clause}
+use Rattle.nz_spec.specs.terms.Table.{Node, IsTable}
+use Rattle.nz_spec.specs.terms.Term as spec
 use Rattle.nz_log.specs.declared.atoms.Atom.{Atom}
 use Rattle.nz_log.specs.declared.lits.Lit.{Lit}
 use Rattle.nz_log.specs.Atoms.{clause_in}

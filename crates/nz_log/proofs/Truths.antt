@@ -4,14 +4,14 @@ use Rattle.std.specs.Prelude.{slice_get, option_map, IsSome}
 use Rattle.std.specs.List.{AllByRecursion}
 use Rattle.std.proofs.lemmas.Bool.{or_left}
 use Rattle.std.proofs.lemmas.Option.{slice_get-map}
-use Rattle.nz_spec.specs.Term.{Term, Assignment, is_true, value_of, IsTrueUnder}
-use Rattle.nz_spec.specs.Table.{Node, IsTable, term_in, OneNumber}
-use Rattle.nz_spec.specs.FormOf.{number_in}
-use Rattle.nz_spec.specs.Steps.{clauses_behind, DerivedClausesAreTrue}
-use Rattle.nz_spec.specs.Model.{IsAssignment}
-use Rattle.nz_spec.specs.Decide.{asserted_numbers}
-use Rattle.nz_spec.specs.Literal.{clause_of, IsClauseTrue, TellsLiterals, ClauseIsTrueTogether, ResolventIsTrue}
-use Rattle.nz_spec.specs.Gates.{gate_clauses, GatesAreTrue}
+use Rattle.nz_spec.specs.terms.Term.{Term, Assignment, is_true, value_of, IsTrueUnder}
+use Rattle.nz_spec.specs.terms.Table.{Node, IsTable, term_in, OneNumber}
+use Rattle.nz_spec.specs.terms.FormOf.{number_in}
+use Rattle.nz_spec.specs.clauses.Steps.{clauses_behind, DerivedClausesAreTrue}
+use Rattle.nz_spec.specs.terms.Model.{IsAssignment}
+use Rattle.nz_spec.specs.search.Decide.{asserted_numbers}
+use Rattle.nz_spec.specs.clauses.Literal.{clause_of, IsClauseTrue, TellsLiterals, ClauseIsTrueTogether, ResolventIsTrue}
+use Rattle.nz_spec.specs.clauses.Gates.{gate_clauses, GatesAreTrue}
 use Rattle.nz_log.specs.declared.atoms.Atom.{Atom}
 use Rattle.nz_log.specs.declared.lits.Lit.{Lit}
 use Rattle.nz_log.specs.declared.origins.Link.{Link}
@@ -21,7 +21,7 @@ use Rattle.nz_log.specs.Lits.{lit_resolvent}
 use Rattle.nz_log.specs.Logs.{IsPremise, Origin, assertion_of, gate_of, axiom_of, chain_of, Entry, LogState, entry_at, literals_at, level_at, chained}
 use Rattle.nz_log.specs.Sound.{live_at, live_terms, IsLink, IsMade, IsLog, ClausesAreTrue}
 use Rattle.nz_log.proofs.Members.{each-at, each-resolvent}
-use Rattle.nz_log.proofs.Agreeing.{literals_agree, resolvent_named}
+use Rattle.nz_log.proofs.LiteralAgreement.{literals_agree, resolvent_named}
 use Rattle.nz_log.proofs.Soundness.{within_at}
 use Rattle.nz_log.proofs.Taken.{taken_now}
 

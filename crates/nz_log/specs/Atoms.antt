@@ -1,14 +1,14 @@
 -- Atoms by number, and what literals on them say over a table of terms.
 use Rattle.std.specs.Prelude.{◌≡◌, ℕ, suc, ◌<◌, ◌==◌, Bool, true, false, List, [], ◌∷◌, length, map, Option, Some, None, slice_get, if◌then◌else◌, ⊤}
 use Rattle.std.specs.List.{AllByRecursion}
-use Rattle.nz_spec.specs.Table.{Node, IsTable, term_in}
-use Rattle.nz_spec.specs.Literal.{Literal, term_literal, negation_of, Clause, are_same_literal, StandOnce}
+use Rattle.nz_spec.specs.terms.Table.{Node, IsTable, term_in}
+use Rattle.nz_spec.specs.clauses.Literal.{Literal, term_literal, negation_of, Clause, are_same_literal, StandOnce}
 use Rattle.nz_lin.specs.declared.form.Part.{Part}
 use Rattle.nz_lin.specs.Bounds.{HasUnits, literal_over}
 use Rattle.nz_log.specs.declared.atoms.Atom.{Atom}
 use Rattle.nz_log.specs.declared.atoms.Atom.TheVariants.{Term, AtMost}
 use Rattle.nz_log.specs.declared.lits.Lit.{Lit}
-use Rattle.nz_log.specs.declared.term_lits.TermLit.{TermLit}
+use Rattle.nz_term.specs.declared.term_lits.TermLit.{TermLit}
 use Rattle.nz_log.specs.Lits.{are_same_lit}
 
 -- ---- Tables of atoms

@@ -2,39 +2,39 @@
 use Rattle.std.specs.Prelude.{◌≡◌, ℕ, ◌<◌, ◌++◌, IsTrue, List, [], length, map, Option, Some, None, pos}
 use Rattle.std.specs.List.{list_all, AllByRecursion}
 use Rattle.nz_fractions.specs.Fraction.{Fraction, whole, neg_ℚ, Difference, Operation, first_wide}
-use Rattle.nz_spec.specs.Computation.{Computation, operated, turned_into}
-use Rattle.nz_spec.specs.Farkas as farkas
-use Rattle.nz_spec.specs.Farkas.{bound_of, is_multiple}
-use Rattle.nz_spec.specs.Form.{negated_part}
-use Rattle.nz_spec.specs.FormOf.{number_in}
-use Rattle.nz_spec.specs.Literal.{Literal, is_at_most}
-use Rattle.nz_spec.specs.Table.{Node, IsTable, term_in}
-use Rattle.nz_spec.specs.Steps.{Step, link_step, unit_step, farkas_step, branch_step, cut_step, step_clause, step_operations, IsSortedStep}
+use Rattle.nz_spec.specs.numbers.Computation.{Computation, operated, turned_into}
+use Rattle.nz_spec.specs.clauses.Farkas as farkas
+use Rattle.nz_spec.specs.clauses.Farkas.{bound_of, is_multiple}
+use Rattle.nz_spec.specs.terms.Form.{negated_part}
+use Rattle.nz_spec.specs.terms.FormOf.{number_in}
+use Rattle.nz_spec.specs.clauses.Literal.{Literal, is_at_most}
+use Rattle.nz_spec.specs.terms.Table.{Node, IsTable, term_in}
+use Rattle.nz_spec.specs.clauses.Steps.{Step, link_step, unit_step, farkas_step, branch_step, cut_step, step_clause, step_operations, IsSortedStep}
 use Rattle.nz_lin.specs.declared.bound.Bound.{Bound}
 use Rattle.nz_lin.specs.Forms.{parts_over}
 use Rattle.nz_log.specs.declared.atoms.Atom.{Atom}
 use Rattle.nz_log.specs.declared.lits.Lit.{Lit}
-use Rattle.nz_log.specs.declared.multiples.Multiple.{Multiple}
+use Rattle.nz_log.specs.declared.multiples.LitMultiple.{LitMultiple}
 use Rattle.nz_log.specs.Lits.{negated_lit}
 use Rattle.nz_log.specs.Atoms.{Stay, literal_in, clause_in, IsLitIn, AreWithin}
 
 pub data Axiom : Type 0 where
   link_of : (term j : ℕ) → Axiom  -- a clause of the link table
   unit_of : (term j : ℕ) → Axiom  -- a clause of the unit table
-  farkas_of : (multiples : List Multiple) → Axiom  -- literals whose sum is a contradiction
+  farkas_of : (multiples : List LitMultiple) → Axiom  -- literals whose sum is a contradiction
   branch_of : (first : Lit) → Axiom  -- a sum of integers is at most an integer, or at least the next one
-  cut_of : (multiples : List Multiple) → Axiom  -- a bound on a sum of integers, rounded
+  cut_of : (multiples : List LitMultiple) → Axiom  -- a bound on a sum of integers, rounded
 
 -- ---- Over a table of terms
 
-abbrev pub multiple_in : List Node → List Atom → Multiple → farkas.Multiple
+abbrev pub multiple_in : List Node → List Atom → LitMultiple → farkas.Multiple
 multiple_in ns atoms m = record { literal = literal_in ns atoms m.literal; multiplier = m.multiplier }
 
-abbrev pub multiples_in : List Node → List Atom → List Multiple → List farkas.Multiple
+abbrev pub multiples_in : List Node → List Atom → List LitMultiple → List farkas.Multiple
 multiples_in ns atoms ms = map (multiple_in ns atoms) ms
 
-abbrev pub AreMultiplesIn : List Node → List Atom → List Multiple → Type 0
-AreMultiplesIn ns atoms ms = AllByRecursion (λ (m : Multiple). IsLitIn ns atoms m.literal) ms
+abbrev pub AreMultiplesIn : List Node → List Atom → List LitMultiple → Type 0
+AreMultiplesIn ns atoms ms = AllByRecursion (λ (m : LitMultiple). IsLitIn ns atoms m.literal) ms
 
 -- the step that gives the clause
 abbrev pub axiom_step : List Node → List Atom → Axiom → Step
@@ -72,16 +72,16 @@ pub record IsAxiom (ns : List Node) (atoms : List Atom) (a : Axiom) (c : List Li
 -- ---- What the rules ask and answer
 
 -- each is a multiple of a bound, by a number above 0
-abbrev pub AreMultiples : List Node → List Atom → List Multiple → Type 0
+abbrev pub AreMultiples : List Node → List Atom → List LitMultiple → Type 0
 AreMultiples ns atoms ms = IsTrue (list_all is_multiple (multiples_in ns atoms ms))
 
 -- the sum of multiples
-abbrev pub sum_in : List Node → List Atom → List Multiple → Computation farkas.Bound
+abbrev pub sum_in : List Node → List Atom → List LitMultiple → Computation farkas.Bound
 sum_in ns atoms ms = farkas.sum_of_multiples (number_in ns) (multiples_in ns atoms ms)
 
 -- the negations of the literals
-abbrev pub negated_lits : List Multiple → List Lit
-negated_lits ms = map (λ (m : Multiple). negated_lit m.literal) ms
+abbrev pub negated_lits : List LitMultiple → List Lit
+negated_lits ms = map (λ (m : LitMultiple). negated_lit m.literal) ms
 
 -- what the negative of an integer is at most where the integer is above this one
 abbrev pub next_limit : Fraction → Computation Fraction

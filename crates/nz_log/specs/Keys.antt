@@ -1,15 +1,15 @@
 -- Which atoms are the same, as they are written, and what a hash is fed of them.
 use Rattle.std.specs.Prelude.{Bool, true, false, ◌&&◌, ◌==◌, List, [], ◌∷◌, ◌++◌, flat_map}
 use Rattle.std.specs.Hash as fed
-use Rattle.nz_spec.specs.Same.{are_same_fraction}
-use Rattle.nz_spec.specs.Term.{are_same_sort}
+use Rattle.nz_spec.specs.terms.Same.{are_same_fraction}
+use Rattle.nz_spec.specs.terms.Term.{are_same_sort}
 use Rattle.nz_term.specs.Constants.{sort_of}
 use Rattle.nz_frac.specs.Hashed.{hashed}
 use Rattle.nz_lin.specs.declared.bound.Bound.{Bound}
 use Rattle.nz_lin.specs.declared.form.Part.{Part}
 use Rattle.nz_log.specs.declared.atoms.Atom.{Atom}
 use Rattle.nz_log.specs.declared.atoms.Atom.TheVariants.{Term, AtMost}
-use Rattle.nz_spec.specs.Literal.{are_same_sign}
+use Rattle.nz_spec.specs.clauses.Literal.{are_same_sign}
 
 -- ---- Which are the same
 

@@ -1,15 +1,15 @@
 -- Levels of clauses beside those told of the terms that they name.
 use Rattle.std.specs.Prelude.{◌≡◌, ◌≢◌, ℕ, ◌≤◌, true, List, All, Contains, map, Some, IsSome, IsSomeAnd, slice_get, unwrap_or, []}
 use Rattle.std.specs.List.{AllByRecursion}
-use Rattle.nz_spec.specs.Table.{Node}
+use Rattle.nz_spec.specs.terms.Table.{Node}
 use Rattle.nz_log.specs.declared.atoms.Atom.{Atom}
 use Rattle.nz_log.specs.declared.lits.Lit.{Lit}
 use Rattle.nz_log.specs.declared.origins.Link.{Link}
-use Rattle.nz_log.specs.declared.term_lits.TermLit.{TermLit}
+use Rattle.nz_term.specs.declared.term_lits.TermLit.{TermLit}
 use Rattle.nz_log.specs.Atoms.{HasTerm, terms_at, terms_of}
 use Rattle.nz_log.specs.Axioms.{Axiom}
 use Rattle.nz_log.specs.Logs.{Entry, LogState, empty_log, entry_at, IsLive, level_with, told_of, told_level, lowest, Puts, JoinsAtoms, Drops, chain_entry, axiom_entry, gate_entry, given_entry}
-use Rattle.nz_log.specs.TermLits.{gates_at}
+use Rattle.nz_rows.specs.GateRows.{gates_at}
 
 -- a level was told of the term, at most this one
 abbrev pub IsToldWithin : LogState → ℕ → ℕ → Type 0

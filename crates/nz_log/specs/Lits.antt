@@ -1,6 +1,6 @@
 -- Literals and clauses by the numbers of their atoms.
 use Rattle.std.specs.Prelude.{Bool, not, ◌&&◌, ◌==◌, List, ◌++◌}
-use Rattle.nz_spec.specs.Literal.{are_same_sign, once, without}
+use Rattle.nz_spec.specs.clauses.Literal.{are_same_sign, once, without}
 use Rattle.nz_log.specs.declared.lits.Lit.{Lit}
 
 abbrev pub negated_lit : Lit → Lit

@@ -2,20 +2,21 @@
 use Rattle.std.specs.Prelude.{◌≡◌, ◌≢◌, ℕ, ◌<◌, ◌≤◌, max, min, nat_le, List, [], ◌∷◌, length, fold, Option, Some, None, IsSome, unwrap_or, slice_get, slice_index_or, if◌then◌else◌}
 use Rattle.std.specs.Bool.{⊤}
 use Rattle.std.specs.List.{AllByRecursion}
-use Rattle.nz_spec.specs.Table.{Node, IsTable}
+use Rattle.nz_spec.specs.terms.Table.{Node, IsTable}
 use Rattle.nz_lin.specs.declared.bound.Bound.{Bound}
 use Rattle.nz_lin.specs.Bounds.{HasUnits, literal_over}
-use Rattle.nz_spec.specs.Literal.{once}
+use Rattle.nz_spec.specs.clauses.Literal.{once}
 use Rattle.nz_log.specs.declared.atoms.Atom.{Atom}
 use Rattle.nz_log.specs.declared.lits.Lit.{Lit}
 use Rattle.nz_log.specs.declared.origins.Link.{Link}
-use Rattle.nz_log.specs.declared.rows.Said.{Said}
-use Rattle.nz_log.specs.Atoms.{Stay, literal_in, terms_at, lit_of, lits_of}
-use Rattle.nz_log.specs.declared.multiples.Multiple.{Multiple}
+use Rattle.nz_rows.specs.declared.rows.RowLiteral.{RowLiteral}
+use Rattle.nz_log.specs.Atoms.{AreWithin, Stay, clause_in, literal_in, terms_at, lit_of, lits_of}
+use Rattle.nz_log.specs.declared.multiples.LitMultiple.{LitMultiple}
 use Rattle.nz_log.specs.Axioms.{AreMultiplesIn, Axiom, IsClauseOf, link_of, unit_of, farkas_of, branch_of, cut_of}
 use Rattle.nz_log.specs.Lits.{are_same_lit, lit_resolvent}
-use Rattle.nz_log.specs.Rows.{AreLitsOf, AreSaidIn}
-use Rattle.nz_log.specs.TermLits.{yes, gates_at}
+use Rattle.nz_rows.specs.Rows.{AreRowLiteralsIn, row_literals_in}
+use Rattle.nz_rows.specs.GateRows.{gates_at}
+use Rattle.nz_term.specs.TermLits.{yes}
 
 -- how a clause was made
 pub data Origin : Type 0 where
@@ -183,11 +184,16 @@ resolvent_entry s first second l =
     made_entry s (max (level_at s first) (level_at s second)) (lit_resolvent l (literals_at s first) (literals_at s second))
     (chain_of first (record { clause = second; literal = l } ∷ []))
 
+-- the literals of a log are those of a row
+pub record AreLitsOf (ns : List Node) (atoms : List Atom) (row : List RowLiteral) (c : List Lit) : Type 0 where
+  pub says : clause_in ns atoms c ≡ row_literals_in ns row
+  pub within : AreWithin ns atoms c
+
 -- the clause of a row is put
-pub record PutsRow (old : LogState) (id : ℕ) (a : Axiom) (row : List Said) (new : LogState) : Type 0 where
+pub record PutsRow (old : LogState) (id : ℕ) (a : Axiom) (row : List RowLiteral) (new : LogState) : Type 0 where
   pub literals : List Lit
   pub puts : Puts old id (axiom_entry new a (once are_same_lit literals)) new
-  pub made : (ns : List Node) → AreSaidIn ns row → AreLitsOf ns new.atoms row literals
+  pub made : (ns : List Node) → AreRowLiteralsIn ns row → AreLitsOf ns new.atoms row literals
 
 -- a clause that holds by arithmetic alone is put: over a table it is that of the step
 pub record PutsAxiom (ns : List Node) (old : LogState) (id : ℕ) (a : Axiom) (new : LogState) : Type 0 where
@@ -204,7 +210,7 @@ pub record PutsBranch (old : LogState) (id : ℕ) (b : Bound) (new : LogState) :
   pub clause : (ns : List Node) → IsTable ns → HasUnits ns b → IsClauseOf ns new.atoms (branch_of first) literals
 
 -- a cut is put: over each table that has what the multiples name it is that of the step
-pub record PutsCut (old : LogState) (id : ℕ) (ms : List Multiple) (new : LogState) : Type 0 where
+pub record PutsCut (old : LogState) (id : ℕ) (ms : List LitMultiple) (new : LogState) : Type 0 where
   pub literals : List Lit
   pub puts : Puts old id (axiom_entry new (cut_of ms) literals) new
   pub clause : (ns : List Node) → IsTable ns → AreMultiplesIn ns old.atoms ms → IsClauseOf ns new.atoms (cut_of ms) literals

@@ -4,9 +4,9 @@ use Rattle.std.specs.Bool.{Decides}
 use Rattle.std.specs.Cmp.{first_so, second_so, signed_Decides}
 use Rattle.std.specs.Ordering.{int_eq}
 use Rattle.nz_fractions.specs.Fraction.{Fraction}
-use Rattle.nz_spec.specs.Literal.{are_same_sign}
-use Rattle.nz_spec.specs.Same.{are_same_fraction}
-use Rattle.nz_spec.specs.Term.{are_same_sort}
+use Rattle.nz_spec.specs.clauses.Literal.{are_same_sign}
+use Rattle.nz_spec.specs.terms.Same.{are_same_fraction}
+use Rattle.nz_spec.specs.terms.Term.{are_same_sort}
 use Rattle.nz_term.specs.declared.heads.Sort.{Sort}
 use Rattle.nz_term.specs.declared.heads.Sort.TheVariants as sort
 use Rattle.nz_term.specs.Constants.{sort_of}

@@ -1,22 +1,23 @@
 -- Logs whose clauses are in order: over a table of terms, and by level the numbers of the live assertions.
 use Rattle.std.specs.Prelude.{◌≡◌, ℕ, suc, ◌<◌, List, [], ◌∷◌, ◌++◌, length, take, map, Contains, Some, option_map, slice_get}
 use Rattle.std.specs.List.{AllByRecursion}
-use Rattle.nz_spec.specs.Term.{Term, Assignment, IsTrueUnder}
-use Rattle.nz_spec.specs.Table.{Node, IsTable, term_in}
-use Rattle.nz_spec.specs.Model.{IsAssignment}
-use Rattle.nz_spec.specs.Decide.{asserted_numbers, with_number}
-use Rattle.nz_spec.specs.FormOf.{number_in}
-use Rattle.nz_spec.specs.Literal.{clause_of, IsClauseTrue}
-use Rattle.nz_spec.specs.Steps.{step_clause}
-use Rattle.nz_spec.specs.Gates.{holds, gate_clauses, HasBooleanArguments}
+use Rattle.nz_spec.specs.terms.Term.{Term, Assignment, IsTrueUnder}
+use Rattle.nz_spec.specs.terms.Table.{Node, IsTable, term_in}
+use Rattle.nz_spec.specs.terms.Model.{IsAssignment}
+use Rattle.nz_spec.specs.search.Decide.{asserted_numbers, with_number}
+use Rattle.nz_spec.specs.terms.FormOf.{number_in}
+use Rattle.nz_spec.specs.clauses.Literal.{clause_of, IsClauseTrue}
+use Rattle.nz_spec.specs.clauses.Steps.{step_clause}
+use Rattle.nz_spec.specs.clauses.Gates.{holds, gate_clauses, HasBooleanArguments}
 use Rattle.nz_log.specs.declared.atoms.Atom.{Atom}
 use Rattle.nz_log.specs.declared.lits.Lit.{Lit}
 use Rattle.nz_log.specs.declared.origins.Link.{Link}
-use Rattle.nz_log.specs.declared.term_lits.TermLit.{TermLit}
+use Rattle.nz_term.specs.declared.term_lits.TermLit.{TermLit}
 use Rattle.nz_log.specs.Atoms.{AreAtoms, AreWithin, IsLitIn, clause_in}
 use Rattle.nz_log.specs.Axioms.{Axiom, IsAxiom, axiom_step}
 use Rattle.nz_log.specs.Logs.{Origin, assertion_of, gate_of, axiom_of, chain_of, Entry, JoinsAtoms, LogState, empty_log, entry_at, literals_at, chained, IsPremise}
-use Rattle.nz_log.specs.TermLits.{clause_of_terms, gates_at}
+use Rattle.nz_rows.specs.GateRows.{gates_at}
+use Rattle.nz_term.specs.TermLits.{clause_of_terms}
 
 -- the numbers of the assertions that are live at a level
 abbrev pub live_at : List (List ℕ) → ℕ → List ℕ

@@ -1,13 +1,13 @@
 -- What a clause rests on, marked, and the steps that spell it out.
 use Rattle.std.specs.Prelude.{◌≡◌, ℕ, ◌<◌, ◌≤◌, All, Bool, true, false, suc, List, [], ◌∷◌, length, map, Option, Some, None, slice_index, slice_index_or}
 use Rattle.std.specs.Bool.{⊤}
-use Rattle.nz_spec.specs.Farkas as farkas
-use Rattle.nz_spec.specs.Farkas.{bound_of}
-use Rattle.nz_spec.specs.Literal as spec
-use Rattle.nz_spec.specs.Table.{Node, IsTable, term_in}
+use Rattle.nz_spec.specs.clauses.Farkas as farkas
+use Rattle.nz_spec.specs.clauses.Farkas.{bound_of}
+use Rattle.nz_spec.specs.clauses.Literal as spec
+use Rattle.nz_spec.specs.terms.Table.{Node, IsTable, term_in}
 use Rattle.nz_lin.specs.Bounds.{literal_over}
-use Rattle.nz_spec.specs.Steps as steps
-use Rattle.nz_spec.specs.Steps.{given_step, gate_step, link_step, unit_step, farkas_step, branch_step, cut_step, resolve_step, Derives}
+use Rattle.nz_spec.specs.clauses.Steps as steps
+use Rattle.nz_spec.specs.clauses.Steps.{given_step, gate_step, link_step, unit_step, farkas_step, branch_step, cut_step, resolve_step, Derives}
 use Rattle.nz_log.specs.declared.atoms.Atom.{Atom}
 use Rattle.nz_log.specs.declared.origins.Link.{Link}
 use Rattle.nz_log.specs.declared.steps.Literal.{Literal}
@@ -19,7 +19,7 @@ use Rattle.nz_log.specs.Atoms.{clause_in, literal_in, with_sign}
 use Rattle.nz_log.specs.Axioms.{axiom_step}
 use Rattle.nz_log.specs.Logs.{Origin, assertion_of, gate_of, axiom_of, chain_of, Entry, LogState, entry_at, IsLive, literals_at, level_at}
 use Rattle.nz_log.specs.Sound.{IsLog, live_terms}
-use Rattle.nz_log.specs.TermLits.{literal_of}
+use Rattle.nz_term.specs.TermLits.{literal_of}
 
 -- ---- Marks
 

@@ -2,9 +2,9 @@
 ghost use Rattle.std.specs.Prelude.{◌≡◌, ◌<◌, [], flat_map, fold, length, option_copied, slice_get, Some, IfOk, OnErr};
 ghost use Rattle.std.specs.Cmp.{decided, partial_equiv_from_equiv};
 ghost use Rattle.std.specs.Hash.{same_Alike};
-ghost use Rattle.nz_spec.specs.Literal.{are_same_sign};
-ghost use Rattle.nz_spec.specs.Same.{are_same_fraction};
-ghost use Rattle.nz_spec.specs.Term.{are_same_sort};
+ghost use Rattle.nz_spec.specs.clauses.Literal.{are_same_sign};
+ghost use Rattle.nz_spec.specs.terms.Same.{are_same_fraction};
+ghost use Rattle.nz_spec.specs.terms.Term.{are_same_sort};
 ghost use Rattle.nz_term.specs.Constants.{sort_of};
 ghost use Rattle.nz_log.specs.declared.atoms.Atom.TheVariants.{Term, AtMost};
 ghost use Rattle.nz_log.specs.Atoms.{AreAtoms, IsFoundTerm, IsNormal, Stay};

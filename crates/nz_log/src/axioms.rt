@@ -1,15 +1,13 @@
-//! Clauses that hold by arithmetic alone, and how they are put.
+//! How clauses are put that hold by arithmetic alone.
 ghost use Rattle.std.specs.Prelude.{◌≡◌, IfOk, OnErr};
-ghost use Rattle.nz_spec.specs.Literal.{once};
-ghost use Rattle.nz_log.specs.Atoms.{AreAtoms};
+ghost use Rattle.nz_spec.specs.clauses.Literal.{once};
 ghost use Rattle.nz_log.specs.Lits.{are_same_lit};
-ghost use Rattle.nz_log.specs.Logs.{JoinsAtoms, Puts, PutsRow, axiom_entry};
+ghost use Rattle.nz_log.specs.Logs.{Puts, axiom_entry};
 ghost use Rattle.nz_log.specs.Stored.{axiom_in};
 
 use crate::lits::Lit;
 use crate::log::Log;
 use crate::origins::{Axiom, ClauseId, Origin};
-use crate::rows::Said;
 use nz_base::Memory;
 
 impl Log {
@@ -20,15 +18,5 @@ impl Log {
         ensures unchanged { OnErr result (self.new ≡ self.old) }
     {
         self.put_leaf(literals, 0, Origin::Axiom(reason))
-    }
-
-    /// Puts the clause of a row, whose atoms join the others where they aren't there.
-    pub(crate) fn put_row(&mut self, row: Vec<Said>, reason: Axiom) -> Result<ClauseId, Memory>
-        ensures made { IfOk result (λ id. PutsRow self.old id (axiom_in reason) row.items self.new) }
-        ensures atoms { AreAtoms self.new.atoms }
-        ensures unchanged { OnErr result (JoinsAtoms self.old self.new) }
-    {
-        let literals = self.said_lits(row)?;
-        self.put_axiom(&literals, reason)
     }
 }

@@ -1,26 +1,27 @@
 //! Clauses on sums of integers: branches, and cuts by rounded sums.
 ghost use Rattle.std.specs.Prelude.{◌≡◌, ℕ, List, false, IfErr, IfOk, IsTrue, OnErr};
 ghost use Rattle.std.specs.List.{AllByRecursion};
-ghost use Rattle.nz_spec.specs.LinearLiteral.{HaveSortedUnits, are_integral, is_whole, parts_of};
-ghost use Rattle.nz_spec.specs.Steps.{branch_step, cut_step};
-ghost use Rattle.nz_spec.specs.Table.{IsTable, Node};
+ghost use Rattle.nz_spec.specs.clauses.LinearLiteral.{HaveSortedUnits, are_integral, is_whole, parts_of};
+ghost use Rattle.nz_spec.specs.clauses.Steps.{branch_step, cut_step};
+ghost use Rattle.nz_spec.specs.terms.Table.{IsTable, Node};
 ghost use Rattle.nz_lin.specs.Bounds.{HasUnits, IsLiteral};
 ghost use Rattle.nz_lin.specs.Comes.{IsOperated};
 ghost use Rattle.nz_lin.specs.Forms.{parts_over};
-ghost use Rattle.nz_lin.specs.Stops.{IsStopAt};
+ghost use Rattle.nz_term.specs.Stops.{IsStopAt};
 ghost use Rattle.nz_log.specs.Atoms.{AreAtoms, literal_in};
 ghost use Rattle.nz_log.specs.Axioms.{AreMultiples, AreMultiplesIn, above_literal, first_wide_in_step, multiples_in, next_limit, sum_in};
 ghost use Rattle.nz_log.specs.Logs.{JoinsAtoms, PutsBranch, PutsCut};
 ghost use Rattle.nz_log.specs.Sound.{IsLog};
 
 use crate::log::Log;
-use crate::multiples::Multiple;
+use crate::multiples::LitMultiple;
 use crate::origins::{Axiom, ClauseId};
 use crate::sums::negations;
 use nz_frac::{Frac, Wide};
-use nz_lin::{Bound, LinStop};
+use nz_lin::Bound;
 use nz_spec::derivation::tells_literals;
 use nz_spec::table::{one_number, term_stays};
+use nz_term::ArithmeticStop;
 use std::alloc::Global;
 
 impl Log {
@@ -29,7 +30,7 @@ impl Log {
     /// # Errors
     ///
     /// `Wide` where the next integer leaves the numbers; `Memory`. Then at most atoms have joined the others.
-    pub fn branch(&mut self, bound: Bound) -> Result<ClauseId, LinStop>
+    pub fn branch(&mut self, bound: Bound) -> Result<ClauseId, ArithmeticStop>
         requires normal { bound.strict ≡ false }
         requires integral { (ns : List Node) → HasUnits ns bound → IsTrue (are_integral (parts_over ns bound.sides.parts)) }
         requires whole { IsTrue (is_whole bound.sides.offset) }
@@ -56,7 +57,7 @@ impl Log {
     ///
     /// `Wide` with the first operation of the sum, or of its rounding, that leaves the numbers; `Memory`. Then at most an atom has joined the
     /// others.
-    pub fn cut(&mut self, multiples: &[Multiple]) -> Result<ClauseId, LinStop>
+    pub fn cut(&mut self, multiples: &[LitMultiple]) -> Result<ClauseId, ArithmeticStop>
         requires multiples { (ns : List Node) → IsTable ns → AreMultiplesIn ns self.old.atoms multiples.now → AreMultiples ns self.old.atoms multiples.now }
         requires integral { (ns : List Node) → IsTable ns → AreMultiplesIn ns self.old.atoms multiples.now → IsTrue (are_integral (sum_in ns self.old.atoms multiples.now).result.parts) }
         ensures made { IfOk result (λ id. PutsCut self.old id multiples.now self.new) }
@@ -82,7 +83,7 @@ impl Log {
 }
 
 /// A sum of integers isn't at most an integer, the limit of this bound: it is at least the next one.
-fn above(alloc: Global, bound: &Bound) -> Result<Bound, LinStop>
+fn above(alloc: Global, bound: &Bound) -> Result<Bound, ArithmeticStop>
     ensures literal { (ns : List Node) → HasUnits ns bound.now → IsLiteral ns (above_literal ns bound.now) result }
     ensures normal { IfOk result (λ b. b.strict ≡ false) }
 {

@@ -1,6 +1,6 @@
 //! The log of clauses.
 ghost use Rattle.std.specs.Prelude.{◌≡◌, ℕ, ◌<◌, List, length, false, option_copied, Some, OnOk, OnErr, IfOk, IsOkAnd, slice_get};
-ghost use Rattle.nz_spec.specs.Table.{Node};
+ghost use Rattle.nz_spec.specs.terms.Table.{Node};
 ghost use Rattle.nz_lin.specs.Bounds.{HasUnits, literal_over};
 ghost use Rattle.nz_log.specs.declared.atoms.Atom.TheVariants.{AtMost};
 ghost use Rattle.nz_log.specs.Atoms.{AreAtoms, HasTerm, IsFoundTerm, IsLitIn, literal_in, term_place};
@@ -19,10 +19,9 @@ use crate::lits::{AtomId, Lit};
 use crate::origins::{ClauseId, Stored};
 use crate::resolvent::Resolvent;
 use crate::steps::{Literal, Step, spelled};
-use crate::term_lits::TermLit;
 use nz_base::Memory;
 use nz_lin::Bound;
-use nz_term::TermId;
+use nz_term::{TermId, TermLit};
 use std::alloc::Global;
 use std::marker::Model;
 

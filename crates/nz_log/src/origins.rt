@@ -1,6 +1,6 @@
 //! How the clauses of a log were made.
 use crate::lits::Lit;
-use crate::multiples::Multiple;
+use crate::multiples::LitMultiple;
 use crate::sets::Literals;
 use nz_term::TermId;
 
@@ -22,11 +22,11 @@ pub enum Axiom {
     /// It is the clause of this number of the unit table of a term.
     Unit(TermId, usize),
     /// One of these literals is false, since the sum of their multiples is a contradiction.
-    Farkas(Vec<Multiple>),
+    Farkas(Vec<LitMultiple>),
     /// The literal says that a sum of integers is at most an integer; or it is at least the next one.
     Branch(Lit),
     /// One of these literals is false, or the sum of their multiples, which is one of integers, is within its rounded limit.
-    Cut(Vec<Multiple>),
+    Cut(Vec<LitMultiple>),
 }
 
 /// How a clause was made.

@@ -1,6 +1,6 @@
 //! The resolvent of a chain, while the chain is followed.
 ghost use Rattle.std.specs.Prelude.{◌≡◌, [], List, fold, IfOk, OnOk};
-ghost use Rattle.nz_spec.specs.Literal.{once, with_one, without};
+ghost use Rattle.nz_spec.specs.clauses.Literal.{once, with_one, without};
 ghost use Rattle.nz_log.specs.Lits.{are_same_lit, lit_resolvent};
 
 use crate::lits::Lit;

@@ -1,94 +1,122 @@
-//! Rows of the tables of links and units: the literals of a clause, as they are made.
-ghost use Rattle.std.specs.Prelude.{◌≡◌, ◌<◌, ◌∷◌, ◌++◌, [], All, IfOk, List, length};
-ghost use Rattle.nz_spec.specs.Computation.{Computation, at_once};
-ghost use Rattle.nz_spec.specs.Literal as spec;
-ghost use Rattle.nz_spec.specs.Order.{IsInTable};
-ghost use Rattle.nz_spec.specs.Table.{Node, term_in, terms_at};
-ghost use Rattle.nz_spec.specs.Term.{apply};
-ghost use Rattle.nz_lin.specs.Bounds.{IsLiteral};
-ghost use Rattle.nz_term.specs.Heads.{operator_of};
-ghost use Rattle.nz_log.specs.Rows.{IsRowOf, IsTermOf};
-ghost use Rattle.nz_log.specs.TermLits.{literal_of};
+//! Clauses by the rows of the link table and of the unit table.
+ghost use Rattle.std.specs.Prelude.{◌<◌, ◌≡◌, ℕ, List, length, IfOk, OnErr};
+ghost use Rattle.nz_spec.specs.clauses.Links.{IsArithmetic};
+ghost use Rattle.nz_spec.specs.terms.Order.{HasCompanions};
+ghost use Rattle.nz_spec.specs.terms.Table.{Node, term_in};
+ghost use Rattle.nz_rows.specs.Rows.{AreRowLiteralsIn, IsRowAt, IsRowLiteralIn, link_rows, row_literal_in, unit_rows};
+ghost use Rattle.nz_log.specs.Atoms.{AreAtoms, IsLitIn, literal_in};
+ghost use Rattle.nz_log.specs.Axioms.{link_of, unit_of};
+ghost use Rattle.nz_log.specs.Logs.{AreLitsOf, JoinsAtoms, PutsAxiom, PutsRow};
+ghost use Rattle.nz_log.specs.Sound.{IsLog};
+ghost use Rattle.nz_log.specs.Stored.{axiom_in};
 
-use crate::bounds::Bounded;
-use crate::term_lits::TermLit;
+use crate::lits::Lit;
+use crate::log::Log;
+use crate::origins::{Axiom, ClauseId};
 use nz_base::Memory;
-use nz_lin::{Bound, LinStop};
-use nz_term::{Head, Operator, TermId, Terms};
-use std::alloc::Global;
+use nz_rows::RowLiteral;
+use nz_spec::derivation::tells_literals;
+use nz_spec::form::term_has_its_number;
+use nz_spec::table::{one_number, term_of_node, term_stays};
+use nz_term::{TermId, Terms, known_table};
 
-/// A literal of a row: on a term, or a bound.
-#[derive(Debug, Drop)]
-pub(crate) enum Said {
-    Term(TermLit),
-    Bound(Bound),
-}
+impl Log {
+    /// The clause of this row, of this number, of a term of the link table.
+    ///
+    /// # Errors
+    ///
+    /// `Memory`. Then at most atoms have joined the others.
+    pub fn link(
+        &mut self,
+        terms: &Terms,
+        term: TermId,
+        j: usize,
+        row: Vec<RowLiteral>,
+    ) -> Result<ClauseId, Memory>
+        requires within { term < length terms.now }
+        requires companions { HasCompanions terms.now }
+        requires row { IsRowAt terms.now (link_rows terms.now (term_in terms.now term)) j row.items }
+        ensures made { IfOk result (λ id. PutsAxiom terms.now self.old id (link_of term j) self.new) }
+        ensures atoms { AreAtoms self.new.atoms }
+        ensures unchanged { OnErr result (JoinsAtoms self.old self.new) }
+        // Where the arguments have values of their sorts, the log stays in order.
+        ensures sound { (levels : List (List ℕ)) → IsArithmetic (term_in terms.now term) → IsLog terms.now levels self.old → IsLog terms.now levels self.new }
+    {
+        tells_literals();
+        one_number();
+        term_has_its_number();
+        term_of_node();
+        term_stays();
+        known_table(terms);
+        self.put_row(row, Axiom::Link(term, j))
+    }
 
-/// The literals of a row, where the table has one, or the first operation that leaves the numbers on the way to them.
-pub(crate) type Row = Result<Option<Vec<Said>>, LinStop>;
+    /// The clause of this row, of this number, of a term of the unit table.
+    ///
+    /// # Errors
+    ///
+    /// `Memory`. Then at most atoms have joined the others.
+    pub fn unit_axiom(
+        &mut self,
+        terms: &Terms,
+        term: TermId,
+        j: usize,
+        row: Vec<RowLiteral>,
+    ) -> Result<ClauseId, Memory>
+        requires within { term < length terms.now }
+        requires companions { HasCompanions terms.now }
+        requires row { IsRowAt terms.now (unit_rows terms.now (term_in terms.now term)) j row.items }
+        ensures made { IfOk result (λ id. PutsAxiom terms.now self.old id (unit_of term j) self.new) }
+        ensures atoms { AreAtoms self.new.atoms }
+        ensures unchanged { OnErr result (JoinsAtoms self.old self.new) }
+        // Where the arguments have values of their sorts, the log stays in order.
+        ensures sound { (levels : List (List ℕ)) → IsArithmetic (term_in terms.now term) → IsLog terms.now levels self.old → IsLog terms.now levels self.new }
+    {
+        tells_literals();
+        one_number();
+        term_has_its_number();
+        term_of_node();
+        term_stays();
+        known_table(terms);
+        self.put_row(row, Axiom::Unit(term, j))
+    }
 
-/// The row of a bound.
-pub(crate) fn alone(alloc: Global, bound: Bounded) -> Row
-    ensures row { (ns : List Node) (c : Computation spec.Literal) → IsLiteral ns c bound → IsRowOf ns (c ∷ []) result }
-{
-    let bound = bound?;
-    Ok(Some(row_of(alloc, Said::Bound(bound))?))
-}
+    /// Puts the clause of a row, whose atoms join the others where they aren't there.
+    fn put_row(&mut self, row: Vec<RowLiteral>, reason: Axiom) -> Result<ClauseId, Memory>
+        ensures made { IfOk result (λ id. PutsRow self.old id (axiom_in reason) row.items self.new) }
+        ensures atoms { AreAtoms self.new.atoms }
+        ensures unchanged { OnErr result (JoinsAtoms self.old self.new) }
+    {
+        let literals = self.row_lits(row)?;
+        self.put_axiom(&literals, reason)
+    }
 
-/// The row of two bounds.
-pub(crate) fn both(alloc: Global, first: Bounded, second: Bounded) -> Row
-    ensures row { (ns : List Node) (c d : Computation spec.Literal) → IsLiteral ns c first → IsLiteral ns d second → IsRowOf ns (c ∷ d ∷ []) result }
-{
-    let first = first?;
-    let second = second?;
-    let row = row_of(alloc, Said::Bound(first))?;
-    Ok(Some(with(row, Said::Bound(second))?))
-}
+    /// The literals of a row, whose atoms join the others where they aren't there.
+    #[tactic(auto, using(crate::proofs::JoinedAtoms::joins_twice))]
+    fn row_lits(&mut self, row: Vec<RowLiteral>) -> Result<Vec<Lit>, Memory>
+        ensures literals { IfOk result (λ v. (ns : List Node) → AreRowLiteralsIn ns row.items → AreLitsOf ns self.new.atoms row.items v.items) }
+        ensures joins { JoinsAtoms self.old self.new }
+        ensures atoms { AreAtoms self.new.atoms }
+    {
+        self.atom_count();
+        let mut literals = Vec::new(self.alloc());
+        for said in row {
+            let literal = self.row_lit(said)?;
+            literals.push(literal)?;
+        }
+        Ok(literals)
+    }
 
-/// The row of a literal on a term and a bound.
-pub(crate) fn pair(alloc: Global, literal: TermLit, bound: Bounded) -> Row
-    ensures row { (ns : List Node) (c : Computation spec.Literal) → literal.term < length ns → IsLiteral ns c bound → IsRowOf ns (at_once (literal_of ns literal) ∷ c ∷ []) result }
-{
-    let bound = bound?;
-    let row = row_of(alloc, Said::Term(literal))?;
-    Ok(Some(with(row, Said::Bound(bound))?))
-}
-
-/// The row of a literal on a term and two bounds.
-pub(crate) fn triple(alloc: Global, literal: TermLit, first: Bounded, second: Bounded) -> Row
-    ensures row { (ns : List Node) (c d : Computation spec.Literal) → literal.term < length ns → IsLiteral ns c first → IsLiteral ns d second → IsRowOf ns (at_once (literal_of ns literal) ∷ c ∷ d ∷ []) result }
-{
-    let first = first?;
-    let second = second?;
-    let row = row_of(alloc, Said::Term(literal))?;
-    let row = with(row, Said::Bound(first))?;
-    Ok(Some(with(row, Said::Bound(second))?))
-}
-
-/// A row of one literal.
-fn row_of(alloc: Global, said: Said) -> Result<Vec<Said>, Memory>
-    ensures row { IfOk result (λ v. v.items ≡ said ∷ []) }
-{
-    with(Vec::new(alloc), said)
-}
-
-/// A row with one literal more.
-fn with(row: Vec<Said>, said: Said) -> Result<Vec<Said>, Memory>
-    ensures row { IfOk result (λ v. v.items ≡ row.items ++ said ∷ []) }
-{
-    let mut longer = row;
-    longer.push(said)?;
-    Ok(longer)
-}
-
-/// The number of the term of an operator over arguments, which is in the table.
-pub(crate) fn listed(terms: &Terms, operator: Operator, kids: &[TermId]) -> Result<TermId, Memory>
-    requires within { All (λ k. k < length terms.now) kids.now }
-    requires listed { IsInTable terms.now (apply (operator_of operator) (terms_at (term_in terms.now) kids.now)) }
-    ensures term { IfOk result (IsTermOf terms.now (apply (operator_of operator) (terms_at (term_in terms.now) kids.now))) }
-{
-    match terms.find(Head::Operator(operator), kids)? {
-        Some(term) => Ok(term),
-        None => unreachable!(),
+    /// The literal of a row.
+    fn row_lit(&mut self, said: RowLiteral) -> Result<Lit, Memory>
+        ensures literal { IfOk result (λ l. (ns : List Node) → literal_in ns self.new.atoms l ≡ row_literal_in ns said) }
+        ensures within { IfOk result (λ l. (ns : List Node) → IsRowLiteralIn ns said → IsLitIn ns self.new.atoms l) }
+        ensures joins { JoinsAtoms self.old self.new }
+        ensures atoms { AreAtoms self.new.atoms }
+    {
+        match said {
+            RowLiteral::Term(literal) => self.term_lit(literal),
+            RowLiteral::Bound(bound) => self.bound_literal(bound),
+        }
     }
 }

@@ -1,7 +1,7 @@
 //! Clauses as sets: lists that have each literal once.
 ghost use Rattle.std.specs.Prelude.{◌≡◌, IfOk, OnOk};
 ghost use Rattle.std.specs.List.{list_any};
-ghost use Rattle.nz_spec.specs.Literal.{once, with_one};
+ghost use Rattle.nz_spec.specs.clauses.Literal.{once, with_one};
 ghost use Rattle.nz_log.specs.Lits.{are_same_lit};
 
 use crate::lits::Lit;

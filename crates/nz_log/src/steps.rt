@@ -1,6 +1,6 @@
 //! The derivation of a clause, spelled out step by step.
 ghost use Rattle.std.specs.Prelude.{◌≡◌, ℕ, ◌<◌, ◌++◌, Bool, List, true, length, All, IfOk, OnOk};
-ghost use Rattle.nz_spec.specs.Table.{Node};
+ghost use Rattle.nz_spec.specs.terms.Table.{Node};
 ghost use Rattle.nz_log.specs.Atoms.{atom_in, with_sign};
 ghost use Rattle.nz_log.specs.Axioms.{axiom_step, multiples_in};
 ghost use Rattle.nz_log.specs.Logs.{IsLive};
@@ -9,15 +9,14 @@ ghost use Rattle.nz_log.specs.Stored.{axiom_in, origin_of};
 
 use crate::atoms::Atom;
 use crate::log::Log;
-use crate::multiples::Multiple;
+use crate::multiples::LitMultiple;
 use crate::origins::{Axiom, ClauseId, Link, Origin};
-use crate::term_lits::TermLit;
 use nz_base::Memory;
 use nz_frac::Frac;
 use nz_lin::Bound;
 use nz_spec::derivation::{derivations_grow, tells_literals};
 use nz_spec::table::one_number;
-use nz_term::TermId;
+use nz_term::{TermId, TermLit};
 use std::alloc::Global;
 
 /// A literal as a step names it: what it says can be read without the log's atoms.
@@ -141,7 +140,7 @@ pub fn spelled(alloc: Global, log: &Log, id: ClauseId) -> Result<Vec<Step<'_>>, 
 }
 
 /// Puts the steps of a clause behind those of the clauses that it is made of, which have their places. Answers its own place.
-#[tactic(auto, using(crate::proofs::Pushing::one_pushed))]
+#[tactic(auto, using(crate::proofs::StepLists::one_pushed))]
 fn spell<'a>(
     steps: &mut Vec<Step<'a>>,
     log: &'a Log,
@@ -195,7 +194,7 @@ fn axiom_step<'a>(log: &'a Log, made: &'a Axiom) -> Result<Step<'a>, Memory>
 fn read_multiples<'a>(
     read: &mut Vec<LiteralMultiple<'a>>,
     log: &'a Log,
-    multiples: &'a [Multiple],
+    multiples: &'a [LitMultiple],
 ) -> Result<(), Memory>
     ensures multiples { OnOk result ((ns : List Node) → multiples_read ns read.new.items ≡ multiples_read ns read.old.items ++ multiples_in ns log.now.atoms multiples.now) }
 {

@@ -1,31 +1,32 @@
 //! Clauses by sums of multiples of bounds.
 ghost use Rattle.std.specs.Prelude.{◌≡◌, ℕ, List, IfErr, IfOk, IsTrue, OnErr, OnOk};
-ghost use Rattle.nz_spec.specs.Computation.{and_then};
-ghost use Rattle.nz_spec.specs.Farkas.{bound_of, bound_scaled, bounds_joined, is_contradiction};
-ghost use Rattle.nz_spec.specs.FormOf.{number_in};
-ghost use Rattle.nz_spec.specs.Literal.{once};
-ghost use Rattle.nz_spec.specs.Steps.{farkas_step};
-ghost use Rattle.nz_spec.specs.Table.{IsTable, Node};
+ghost use Rattle.nz_spec.specs.numbers.Computation.{and_then};
+ghost use Rattle.nz_spec.specs.clauses.Farkas.{bound_of, bound_scaled, bounds_joined, is_contradiction};
+ghost use Rattle.nz_spec.specs.terms.FormOf.{number_in};
+ghost use Rattle.nz_spec.specs.clauses.Literal.{once};
+ghost use Rattle.nz_spec.specs.clauses.Steps.{farkas_step};
+ghost use Rattle.nz_spec.specs.terms.Table.{IsTable, Node};
 ghost use Rattle.nz_lin.specs.Bounds.{HasUnits, IsBounded, bound_over};
 ghost use Rattle.nz_lin.specs.Comes.{Comes};
-ghost use Rattle.nz_lin.specs.Stops.{IsStopAt};
+ghost use Rattle.nz_term.specs.Stops.{IsStopAt};
 ghost use Rattle.nz_log.specs.Atoms.{IsLitIn, literal_in};
 ghost use Rattle.nz_log.specs.Axioms.{AreMultiples, AreMultiplesIn, IsClauseOf, farkas_of, first_wide_in_step, multiples_in, negated_lits, sum_in};
 ghost use Rattle.nz_log.specs.Leveled.{AreTold};
 ghost use Rattle.nz_log.specs.Lits.{are_same_lit};
 ghost use Rattle.nz_log.specs.Logs.{Puts, axiom_entry};
 ghost use Rattle.nz_log.specs.Sound.{IsLog};
-ghost use Rattle.nz_log.specs.Theories.{Grows};
+ghost use Rattle.nz_log.specs.Growth.{Grows};
 
 use crate::atoms::Atom;
 use crate::lits::Lit;
 use crate::log::Log;
-use crate::multiples::Multiple;
+use crate::multiples::LitMultiple;
 use crate::origins::{Axiom, ClauseId};
 use nz_base::Memory;
-use nz_lin::{Bound, LinStop};
+use nz_lin::Bound;
 use nz_spec::derivation::tells_literals;
 use nz_spec::table::{one_number, term_stays};
+use nz_term::ArithmeticStop;
 use std::alloc::Global;
 
 impl Log {
@@ -34,7 +35,7 @@ impl Log {
     /// # Errors
     ///
     /// `Wide` with the first operation of the sum that leaves the numbers; `Memory`. Then the log is as before.
-    pub fn farkas(&mut self, multiples: &[Multiple]) -> Result<ClauseId, LinStop>
+    pub fn farkas(&mut self, multiples: &[LitMultiple]) -> Result<ClauseId, ArithmeticStop>
         requires multiples { (ns : List Node) → IsTable ns → AreMultiplesIn ns self.old.atoms multiples.now → AreMultiples ns self.old.atoms multiples.now }
         requires contradiction { (ns : List Node) → IsTable ns → AreMultiplesIn ns self.old.atoms multiples.now → IsTrue (is_contradiction (sum_in ns self.old.atoms multiples.now).result) }
         ensures made { IfOk result (λ id. Puts self.old id (axiom_entry self.new (farkas_of multiples.now) (once are_same_lit (negated_lits multiples.now))) self.new) }
@@ -58,7 +59,7 @@ impl Log {
     }
 
     /// The sum of these multiples. A literal on a term says nothing of a sum.
-    pub(crate) fn sum(&self, multiples: &[Multiple]) -> Result<Bound, LinStop>
+    pub(crate) fn sum(&self, multiples: &[LitMultiple]) -> Result<Bound, ArithmeticStop>
         ensures sum { (ns : List Node) → IsTable ns → AreMultiplesIn ns self.now.atoms multiples.now → IsBounded ns (sum_in ns self.now.atoms multiples.now) result }
         ensures units { IfOk result (λ b. (ns : List Node) → AreMultiplesIn ns self.now.atoms multiples.now → HasUnits ns b) }
     {
@@ -70,7 +71,7 @@ impl Log {
     }
 
     /// Adds a multiple to a sum.
-    fn add_multiple(&self, sum: &mut Bound, multiple: Multiple) -> Result<(), LinStop>
+    fn add_multiple(&self, sum: &mut Bound, multiple: LitMultiple) -> Result<(), ArithmeticStop>
         ensures comes { (ns : List Node) → IsTable ns → HasUnits ns sum.old → IsLitIn ns self.now.atoms multiple.literal → Comes (and_then (bound_scaled multiple.multiplier (bound_of (literal_in ns self.now.atoms multiple.literal))) (λ y. bounds_joined (number_in ns) (bound_over ns sum.old) y)) (bound_over ns sum.new) result }
         ensures units { OnOk result ((ns : List Node) → HasUnits ns sum.old → IsLitIn ns self.now.atoms multiple.literal → HasUnits ns sum.new) }
     {
@@ -91,7 +92,7 @@ impl Log {
 }
 
 /// The negations of the literals.
-pub(crate) fn negations(alloc: Global, multiples: &[Multiple]) -> Result<Vec<Lit>, Memory>
+pub(crate) fn negations(alloc: Global, multiples: &[LitMultiple]) -> Result<Vec<Lit>, Memory>
     ensures literals { IfOk result (λ v. v.items ≡ negated_lits multiples.now) }
 {
     let mut literals = Vec::new(alloc);

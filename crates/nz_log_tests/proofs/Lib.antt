@@ -1,2 +1,3 @@
+pub mod MultipleSums
 pub mod Multiples
-pub mod Summing
+pub mod RowNumbers

@@ -12,19 +12,19 @@ use Rattle.nz_fractions.proofs.Laws.{=ℚ_trans, <ℚ-≤ℚ_trans, ≤ℚ-<ℚ_
 use Rattle.nz_fractions.proofs.Order.{lt_from, lt_is}
 use Rattle.nz_fractions.proofs.Identities.{times_zero, zero_left}
 use Rattle.nz_fractions.proofs.Bounds.{times_lt}
-use Rattle.nz_spec.specs.Farkas.{empty_bound, is_contradiction, is_linear_literal, is_multiple, multiples_onto}
-use Rattle.nz_spec.specs.Form as form
-use Rattle.nz_spec.specs.Form.{Numbering}
-use Rattle.nz_spec.specs.FormOf.{number_in}
-use Rattle.nz_spec.specs.Literal.{Literal}
-use Rattle.nz_spec.specs.Table.{Node}
-use Rattle.nz_spec.specs.Term.{is_zero}
+use Rattle.nz_spec.specs.clauses.Farkas.{empty_bound, is_contradiction, is_linear_literal, is_multiple, multiples_onto}
+use Rattle.nz_spec.specs.terms.Form as form
+use Rattle.nz_spec.specs.terms.Form.{Numbering}
+use Rattle.nz_spec.specs.terms.FormOf.{number_in}
+use Rattle.nz_spec.specs.clauses.Literal.{Literal}
+use Rattle.nz_spec.specs.terms.Table.{Node}
+use Rattle.nz_spec.specs.terms.Term.{is_zero}
 use Rattle.nz_lin.specs.declared.bound.Bound.{Bound}
 use Rattle.nz_lin.specs.declared.form.Part.{Part}
 use Rattle.nz_lin.specs.Bounds.{bounded, literal_over}
 use Rattle.nz_lin.specs.Forms.{parts_over}
 use Rattle.nz_log.specs.declared.atoms.Atom.{Atom}
-use Rattle.nz_log.specs.declared.multiples.Multiple.{Multiple}
+use Rattle.nz_log.specs.declared.multiples.LitMultiple.{LitMultiple}
 use Rattle.nz_log.specs.Atoms.{literal_in, with_sign}
 use Rattle.nz_log.specs.Axioms.{multiple_in, multiples_in, sum_in}
 use Rattle.nz_log_tests.specs.Sums.{IsMultiple}
@@ -69,12 +69,12 @@ is_linear true false ps q = refl
 is_linear false true ps q = refl
 is_linear false false ps q = refl
 
-pub of_bound : (ns : List Node) (atoms : List Atom) (m : Multiple) (b : Bound) (s : Bool) → with_sign s (literal_over ns b) ≡ literal_in ns atoms m.literal
+pub of_bound : (ns : List Node) (atoms : List Atom) (m : LitMultiple) (b : Bound) (s : Bool) → with_sign s (literal_over ns b) ≡ literal_in ns atoms m.literal
     → fraction_lt (whole (pos 0)) m.multiplier ≡ true → is_multiple (multiple_in ns atoms m) ≡ true
 of_bound ns atoms m b s reads above =
     ap₂ (λ (x y : Bool). x && y) (sym (ap is_linear_literal reads) ∙ is_linear s b.strict (parts_over ns b.sides.parts) b.sides.offset) above
 
-pub all_multiples : (atoms : List Atom) (ms : List Multiple) → All (IsMultiple atoms) ms → (ns : List Node) → list_all is_multiple (multiples_in ns atoms ms) ≡ true
+pub all_multiples : (atoms : List Atom) (ms : List LitMultiple) → All (IsMultiple atoms) ms → (ns : List Node) → list_all is_multiple (multiples_in ns atoms ms) ≡ true
 all_multiples atoms [] h ns = refl
 all_multiples atoms (m ∷ ms) h ns =
     ap₂ (λ (x y : Bool). x && y) (All-head (IsMultiple atoms) m ms h ns) (all_multiples atoms ms (All-tail (IsMultiple atoms) m ms h) ns)
@@ -100,7 +100,7 @@ alone number m q s above below = by_strict s
     by_strict true = ap (λ (b : Bool). b || is_zero (outcome Sum (whole (pos 0)) (outcome Product m q)) && true) excludes
     by_strict false = ap (λ (b : Bool). b || is_zero (outcome Sum (whole (pos 0)) (outcome Product m q)) && false) excludes
 
-pub false_alone : (ns : List Node) (atoms : List Atom) (m : Multiple) (b : Bound) (s : Bool) → with_sign s (literal_over ns b) ≡ literal_in ns atoms m.literal
+pub false_alone : (ns : List Node) (atoms : List Atom) (m : LitMultiple) (b : Bound) (s : Bool) → with_sign s (literal_over ns b) ≡ literal_in ns atoms m.literal
     → s ≡ true → b.sides.parts ≡ [] → fraction_lt b.sides.offset (whole (pos 0)) ≡ true → fraction_lt (whole (pos 0)) m.multiplier ≡ true
     → is_contradiction (sum_in ns atoms (m ∷ [])).result ≡ true
 false_alone ns atoms m b s reads sign none below above =

@@ -6,6 +6,8 @@ mod links;
 #[cfg(test)]
 mod log;
 #[cfg(test)]
+mod rows;
+#[cfg(test)]
 mod rules;
 #[cfg(test)]
 mod sums;

@@ -1,11 +1,12 @@
 //! The clauses of the link table, against all small assignments.
+use crate::rows::link_row;
 use crate::terms::Term::{self, Constant, Number, Over};
 use crate::terms::{MOST, complete, expect, make_all};
 use crate::values::{Values, are_true, halves, is_wide};
 use nz_frac::{Frac, Op, Wide};
-use nz_lin::LinStop;
-use nz_log::{Lit, Log, link_count};
-use nz_term::{NumberSort, Operator, Sort, TermId, Terms};
+use nz_log::{Lit, Log};
+use nz_rows::link_rows;
+use nz_term::{ArithmeticStop, NumberSort, Operator, Sort, TermId, Terms};
 use std::alloc::Global;
 use std::test::Fail;
 
@@ -15,14 +16,16 @@ fn links(
     log: &mut Log,
     terms: &mut Terms,
     term: TermId,
-) -> Result<Vec<Vec<Lit>>, LinStop> {
+) -> Result<Vec<Vec<Lit>>, ArithmeticStop> {
     complete(alloc, terms)?;
     if terms.len() <= term || !terms.is_linear(term) {
-        return Err(LinStop::Memory);
+        return Err(ArithmeticStop::Memory);
     }
     let mut clauses = Vec::new(alloc);
-    for j in 0..link_count(terms, term) {
-        let id = log.link(terms, term, j)?;
+    let count = link_rows(alloc, terms, term)?.len();
+    for j in 0..count {
+        let row = link_row(alloc, terms, term, j)?;
+        let id = log.link(terms, term, j, row)?;
         clauses.push(Vec::from_slice(alloc, log.clause(id))?)?;
     }
     Ok(clauses)
@@ -35,7 +38,7 @@ fn links_in(
     terms: &mut Terms,
     list: &[Term],
     term: TermId,
-) -> Result<Vec<Vec<Lit>>, LinStop> {
+) -> Result<Vec<Vec<Lit>>, ArithmeticStop> {
     make_all(alloc, terms, list)?;
     links(alloc, log, terms, term)
 }
@@ -46,7 +49,7 @@ fn links_of(
     log: &mut Log,
     list: &[Term],
     term: TermId,
-) -> Result<Vec<Vec<Lit>>, LinStop> {
+) -> Result<Vec<Vec<Lit>>, ArithmeticStop> {
     let mut terms = Terms::new(alloc)?;
     links_in(alloc, log, &mut terms, list, term)
 }
@@ -97,7 +100,7 @@ fn tell_all(log: &Log, clauses: &[Vec<Lit>], comparison: &Comparison) -> Result<
 }
 
 /// Whether the clauses of a comparison are so.
-fn agree(alloc: Global, log: &mut Log, comparison: &Comparison) -> Result<bool, LinStop> {
+fn agree(alloc: Global, log: &mut Log, comparison: &Comparison) -> Result<bool, ArithmeticStop> {
     let clauses = links_of(alloc, log, comparison.terms, 2)?;
     Ok(tell_all(log, &clauses, comparison)?)
 }
@@ -130,13 +133,13 @@ const EQUAL: Comparison = Comparison {
 };
 
 /// The same of a log of its own.
-fn agrees(alloc: Global, comparison: &Comparison) -> Result<bool, LinStop> {
+fn agrees(alloc: Global, comparison: &Comparison) -> Result<bool, ArithmeticStop> {
     let mut log = Log::new(alloc)?;
     agree(alloc, &mut log, comparison)
 }
 
 #[test]
-fn comparisons_are_tied_to_bounds(rt: HostRuntime) -> Result<(), Fail> {
+fn test_comparisons_are_tied_to_bounds(rt: HostRuntime) -> Result<(), Fail> {
     expect(agrees(rt.alloc(), &LESS)?, "less")?;
     expect(agrees(rt.alloc(), &AT_MOST)?, "at most")?;
     expect(agrees(rt.alloc(), &EQUAL)?, "equal")
@@ -180,7 +183,7 @@ fn is_tied(alloc: Global, log: &mut Log) -> Result<(), Fail> {
 }
 
 #[test]
-fn a_test_of_rounding_is_tied_to_bounds(rt: HostRuntime) -> Result<(), Fail> {
+fn test_a_test_of_rounding_is_tied_to_bounds(rt: HostRuntime) -> Result<(), Fail> {
     let mut log = Log::new(rt.alloc())?;
     is_tied(rt.alloc(), &mut log)
 }
@@ -203,7 +206,7 @@ fn is_named(alloc: Global, log: &mut Log) -> Result<(), Fail> {
 }
 
 #[test]
-fn a_wide_link_is_named(rt: HostRuntime) -> Result<(), Fail> {
+fn test_a_wide_link_is_named(rt: HostRuntime) -> Result<(), Fail> {
     let mut log = Log::new(rt.alloc())?;
     is_named(rt.alloc(), &mut log)
 }

@@ -1,11 +1,12 @@
 //! Atoms and clauses on terms: each public call once on its happy path.
 ghost use Rattle.nz_log.specs.Logs.{IsLive};
 
+use crate::rows::gate_row;
 use crate::terms::Term::{self, Constant, Over};
 use crate::terms::{expect, make_all};
 use nz_base::Memory;
-use nz_log::{Atom, AtomId, ClauseId, Link, Lit, Literal, Log, Step, TermLit, gate_count};
-use nz_term::{Operator, Sort, TermId, Terms};
+use nz_log::{Atom, AtomId, ClauseId, Link, Lit, Literal, Log, Step};
+use nz_term::{Operator, Sort, TermId, TermLit, Terms};
 use std::alloc::Global;
 use std::test::Fail;
 
@@ -19,7 +20,7 @@ enum TermStep {
 
 /// What a log tells of a clause.
 #[derive(Debug, Drop)]
-struct Told {
+struct LoggedClause {
     literals: Vec<TermLit>,
     level: usize,
     steps: Vec<TermStep>,
@@ -61,11 +62,11 @@ fn spelled(alloc: Global, steps: &[Step<'_>]) -> Result<Vec<TermStep>, Memory> {
     Ok(spelled)
 }
 
-fn tell(alloc: Global, log: &Log, id: ClauseId) -> Result<Told, Memory>
+fn tell(alloc: Global, log: &Log, id: ClauseId) -> Result<LoggedClause, Memory>
     requires live { IsLive log.now id }
 {
     let steps = log.steps(id)?;
-    Ok(Told {
+    Ok(LoggedClause {
         literals: said(alloc, log, log.clause(id))?,
         level: log.level(id),
         steps: spelled(alloc, &steps)?,
@@ -90,15 +91,16 @@ fn refuted(
     terms: &Terms,
     term: TermId,
     negation: TermId,
-) -> Result<Told, Memory> {
+) -> Result<LoggedClause, Memory> {
     // The refutation doesn't rest on this clause, so that its steps don't have it.
     log.given(9, term, 0)?;
     let holds = log.given(0, term, 0)?;
     let negated = log.given(1, negation, 1)?;
-    if negation >= terms.len() || gate_count(terms, negation) == 0 {
+    if negation >= terms.len() {
         return Err(Memory);
     }
-    let gate = log.gate(terms, negation, 0)?;
+    let row = gate_row(alloc, terms, negation, 0)?;
+    let gate = log.gate(terms, negation, 0, row)?;
     let negation_holds = literal(log, TermLit::holds(negation))?;
     let fails = log.resolve(negated, gate, negation_holds)?;
     let term_holds = literal(log, TermLit::holds(term))?;
@@ -110,13 +112,13 @@ fn refuted(
 const OPPOSITES: &[Term] = &[Constant(b'p', Sort::Bool), Over(Operator::Not, &[0])];
 
 /// Their refutation in a log of its own.
-fn refutation_over(alloc: Global, terms: &Terms) -> Result<Told, Memory> {
+fn refutation_over(alloc: Global, terms: &Terms) -> Result<LoggedClause, Memory> {
     let mut log = Log::new(alloc)?;
     refuted(alloc, &mut log, terms, 0, 1)
 }
 
 /// The same over terms of its own.
-fn refutation(alloc: Global) -> Result<Told, Memory> {
+fn refutation(alloc: Global) -> Result<LoggedClause, Memory> {
     let mut terms = Terms::new(alloc)?;
     make_all(alloc, &mut terms, OPPOSITES)?;
     refutation_over(alloc, &terms)
@@ -145,14 +147,14 @@ const WANTED: &[TermStep] = &[
 ];
 
 /// Fails unless it is the empty clause by the steps that are wanted.
-fn is_empty_clause(told: &Told) -> Result<(), Fail> {
+fn is_empty_clause(told: &LoggedClause) -> Result<(), Fail> {
     expect(told.literals.is_empty(), "the literals")?;
     expect(told.level == 1, "the level")?;
     expect(told.steps.as_slice() == WANTED, "the steps")
 }
 
 #[test]
-fn opposites_are_refuted(rt: HostRuntime) -> Result<(), Fail> {
+fn test_opposites_are_refuted(rt: HostRuntime) -> Result<(), Fail> {
     let empty = refutation(rt.alloc())?;
     is_empty_clause(&empty)
 }
@@ -167,13 +169,19 @@ const CHAINED: &[Term] = &[
 ];
 
 /// A chain of two links, and that of the same two and a third.
-fn chains(alloc: Global, log: &mut Log, terms: &Terms) -> Result<(Told, Told), Memory> {
-    if terms.len() <= 4 || gate_count(terms, 3) <= 3 || gate_count(terms, 4) == 0 {
+fn chains(
+    alloc: Global,
+    log: &mut Log,
+    terms: &Terms,
+) -> Result<(LoggedClause, LoggedClause), Memory> {
+    if terms.len() <= 4 {
         return Err(Memory);
     }
-    let some = log.gate(terms, 3, 3)?;
+    let row = gate_row(alloc, terms, 3, 3)?;
+    let some = log.gate(terms, 3, 3, row)?;
     let holds = log.given(0, 3, 1)?;
-    let equal = log.gate(terms, 4, 0)?;
+    let row = gate_row(alloc, terms, 4, 0)?;
+    let equal = log.gate(terms, 4, 0, row)?;
     let are_equal = log.given(1, 4, 2)?;
     let first = Link {
         clause: holds,
@@ -193,13 +201,13 @@ fn chains(alloc: Global, log: &mut Log, terms: &Terms) -> Result<(Told, Told), M
 }
 
 /// Both chains in a log of its own.
-fn chains_over(alloc: Global, terms: &Terms) -> Result<(Told, Told), Memory> {
+fn chains_over(alloc: Global, terms: &Terms) -> Result<(LoggedClause, LoggedClause), Memory> {
     let mut log = Log::new(alloc)?;
     chains(alloc, &mut log, terms)
 }
 
 /// The same over terms of its own.
-fn chains_of_terms(alloc: Global) -> Result<(Told, Told), Memory> {
+fn chains_of_terms(alloc: Global) -> Result<(LoggedClause, LoggedClause), Memory> {
     let mut terms = Terms::new(alloc)?;
     make_all(alloc, &mut terms, CHAINED)?;
     chains_over(alloc, &terms)
@@ -207,7 +215,7 @@ fn chains_of_terms(alloc: Global) -> Result<(Told, Told), Memory> {
 
 /// Fails unless both are the wanted ones of the clauses `not 3, p, q, r`, `3`, `not 4, not p, q` and `4`. What two of them have stands where it
 /// was, and once.
-fn are_chains(short: &Told, long: &Told) -> Result<(), Fail> {
+fn are_chains(short: &LoggedClause, long: &LoggedClause) -> Result<(), Fail> {
     let wanted = [TermLit::holds(1), TermLit::holds(2), TermLit::fails(4)];
     expect(
         short.literals.as_slice() == wanted.as_slice(),
@@ -219,7 +227,7 @@ fn are_chains(short: &Told, long: &Told) -> Result<(), Fail> {
 }
 
 #[test]
-fn a_chain_is_resolved_link_by_link(rt: HostRuntime) -> Result<(), Fail> {
+fn test_a_chain_is_resolved_link_by_link(rt: HostRuntime) -> Result<(), Fail> {
     let (short, long) = chains_of_terms(rt.alloc())?;
     are_chains(&short, &long)
 }
@@ -241,7 +249,7 @@ fn have_one_number(log: &mut Log) -> Result<(), Fail> {
 }
 
 #[test]
-fn an_atom_has_one_number(rt: HostRuntime) -> Result<(), Fail> {
+fn test_an_atom_has_one_number(rt: HostRuntime) -> Result<(), Fail> {
     let mut log = Log::new(rt.alloc())?;
     have_one_number(&mut log)
 }
@@ -266,7 +274,7 @@ fn drops(log: &mut Log) -> Result<(), Fail> {
 }
 
 #[test]
-fn what_is_above_a_level_goes(rt: HostRuntime) -> Result<(), Fail> {
+fn test_what_is_above_a_level_goes(rt: HostRuntime) -> Result<(), Fail> {
     let mut log = Log::new(rt.alloc())?;
     drops(&mut log)
 }

@@ -3,16 +3,16 @@
 ghost use Rattle.std.specs.Prelude.{◌≡◌, ◌∷◌, [], IfOk, OnOk};
 ghost use Rattle.std.specs.Bool.{OnTrue};
 ghost use Rattle.std.specs.List.{list_all};
-ghost use Rattle.nz_spec.specs.LinearLiteral.{is_whole};
+ghost use Rattle.nz_spec.specs.clauses.LinearLiteral.{is_whole};
 ghost use Rattle.nz_lin.specs.Bounds.{is_integral};
 ghost use Rattle.nz_log.specs.Logs.{IsLive};
 ghost use Rattle.nz_log_tests.specs.Sums.{AreAllMultiples, AreIntegral, AreRefuted, IsAdded, IsFalse, IsMultiple, IsOfIntegers, IsSum};
 
 use nz_base::Memory;
 use nz_frac::Frac;
-use nz_lin::{Bound, LinStop, Part};
-use nz_log::{Atom, ClauseId, Lit, Literal, Log, Multiple, Step};
-use nz_term::Sort;
+use nz_lin::{Bound, Part};
+use nz_log::{Atom, ClauseId, Lit, LitMultiple, Literal, Log, Step};
+use nz_term::{ArithmeticStop, Sort};
 use std::alloc::Global;
 
 /// What a log tells of a clause by one of these rules.
@@ -28,10 +28,10 @@ pub(crate) struct Made {
 pub(crate) fn farkas(
     alloc: Global,
     log: &mut Log,
-    multiples: &[Multiple],
-) -> Result<Made, LinStop> {
+    multiples: &[LitMultiple],
+) -> Result<Made, ArithmeticStop> {
     if !are_multiples(log, multiples) || !is_refuted(alloc, log, multiples)? {
-        return Err(LinStop::Memory);
+        return Err(ArithmeticStop::Memory);
     }
     let id = log.farkas(multiples)?;
     Ok(told_of(alloc, log, id)?)
@@ -41,28 +41,32 @@ pub(crate) fn farkas(
 pub(crate) fn farkas_alone(
     alloc: Global,
     log: &mut Log,
-    multiple: Multiple,
-) -> Result<Made, LinStop> {
+    multiple: LitMultiple,
+) -> Result<Made, ArithmeticStop> {
     if !are_multiples(log, &[multiple]) || !is_false(log, multiple) {
-        return Err(LinStop::Memory);
+        return Err(ArithmeticStop::Memory);
     }
     let id = log.farkas(&[multiple])?;
     Ok(told_of(alloc, log, id)?)
 }
 
 /// The clause that a sum of integers is at most an integer, or at least the next one.
-pub(crate) fn branch(alloc: Global, log: &mut Log, bound: Bound) -> Result<Made, LinStop> {
+pub(crate) fn branch(alloc: Global, log: &mut Log, bound: Bound) -> Result<Made, ArithmeticStop> {
     if bound.is_strict() || !is_of_integers(&bound) || !is_whole(bound.limit()) {
-        return Err(LinStop::Memory);
+        return Err(ArithmeticStop::Memory);
     }
     let id = log.branch(bound)?;
     Ok(told_of(alloc, log, id)?)
 }
 
 /// The clause that one of these literals is false, or the sum of their multiples is within its rounded limit.
-pub(crate) fn cut(alloc: Global, log: &mut Log, multiples: &[Multiple]) -> Result<Made, LinStop> {
+pub(crate) fn cut(
+    alloc: Global,
+    log: &mut Log,
+    multiples: &[LitMultiple],
+) -> Result<Made, ArithmeticStop> {
     if !are_multiples(log, multiples) || !is_integral_sum(alloc, log, multiples)? {
-        return Err(LinStop::Memory);
+        return Err(ArithmeticStop::Memory);
     }
     let id = log.cut(multiples)?;
     Ok(told_of(alloc, log, id)?)
@@ -92,7 +96,7 @@ fn refuted(steps: &[Step<'_>]) -> Option<usize> {
 }
 
 /// Whether each is a multiple of a bound, by a number above 0.
-fn are_multiples(log: &Log, multiples: &[Multiple]) -> bool
+fn are_multiples(log: &Log, multiples: &[LitMultiple]) -> bool
     ensures multiples { OnTrue result (AreAllMultiples log.now.atoms multiples.now) }
 {
     for i in 0..multiples.len() {
@@ -104,7 +108,7 @@ fn are_multiples(log: &Log, multiples: &[Multiple]) -> bool
 }
 
 /// Whether it is a multiple of a bound, by a number above 0.
-fn is_multiple(log: &Log, multiple: Multiple) -> bool
+fn is_multiple(log: &Log, multiple: LitMultiple) -> bool
     ensures multiple { OnTrue result (IsMultiple log.now.atoms multiple) }
 {
     match log.literal(multiple.literal) {
@@ -114,7 +118,7 @@ fn is_multiple(log: &Log, multiple: Multiple) -> bool
 }
 
 /// Whether the sum of multiples is a contradiction.
-fn is_refuted(alloc: Global, log: &Log, multiples: &[Multiple]) -> Result<bool, LinStop>
+fn is_refuted(alloc: Global, log: &Log, multiples: &[LitMultiple]) -> Result<bool, ArithmeticStop>
     ensures refuted { IfOk result (λ b. OnTrue b (AreRefuted log.now.atoms multiples.now)) }
 {
     let sum = sum(alloc, log, multiples)?;
@@ -122,7 +126,7 @@ fn is_refuted(alloc: Global, log: &Log, multiples: &[Multiple]) -> Result<bool, 
 }
 
 /// Whether it is a multiple, by a number above 0, of a bound on no units that excludes 0: then it excludes 0 too.
-fn is_false(log: &Log, multiple: Multiple) -> bool
+fn is_false(log: &Log, multiple: LitMultiple) -> bool
     ensures refuted { OnTrue result (AreRefuted log.now.atoms (multiple ∷ [])) }
 {
     let is_above = Frac::whole(0) < multiple.multiplier;
@@ -151,7 +155,11 @@ fn excludes_zero(bound: &Bound) -> bool
 }
 
 /// Whether the sum of multiples is one of integers.
-fn is_integral_sum(alloc: Global, log: &Log, multiples: &[Multiple]) -> Result<bool, LinStop>
+fn is_integral_sum(
+    alloc: Global,
+    log: &Log,
+    multiples: &[LitMultiple],
+) -> Result<bool, ArithmeticStop>
     ensures integral { IfOk result (λ b. OnTrue b (AreIntegral log.now.atoms multiples.now)) }
 {
     let sum = sum(alloc, log, multiples)?;
@@ -159,7 +167,7 @@ fn is_integral_sum(alloc: Global, log: &Log, multiples: &[Multiple]) -> Result<b
 }
 
 /// The sum of multiples of bounds.
-fn sum(alloc: Global, log: &Log, multiples: &[Multiple]) -> Result<Bound, LinStop>
+fn sum(alloc: Global, log: &Log, multiples: &[LitMultiple]) -> Result<Bound, ArithmeticStop>
     ensures sum { IfOk result (IsSum log.now.atoms multiples.now) }
 {
     let mut sum = Bound::empty(alloc);
@@ -174,16 +182,16 @@ fn add_multiple(
     alloc: Global,
     log: &Log,
     sum: &mut Bound,
-    multiple: Multiple,
-) -> Result<(), LinStop>
+    multiple: LitMultiple,
+) -> Result<(), ArithmeticStop>
     ensures added { OnOk result (IsAdded log.now.atoms multiple sum.old sum.new) }
 {
     let literal = multiple.literal;
     if log.atom_count() <= literal.atom {
-        return Err(LinStop::Memory);
+        return Err(ArithmeticStop::Memory);
     }
     match log.atom(literal.atom) {
-        Atom::Term(_) => Err(LinStop::Memory),
+        Atom::Term(_) => Err(ArithmeticStop::Memory),
         Atom::AtMost(bound) => {
             if literal.sign {
                 sum.join_multiple(alloc, multiple.multiplier, bound)

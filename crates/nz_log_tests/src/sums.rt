@@ -4,9 +4,9 @@ use crate::terms::{MOST, expect, form};
 use crate::values::is_of;
 use nz_base::Memory;
 use nz_frac::{Frac, Op};
-use nz_lin::{Bound, LinStop};
-use nz_log::{Lit, Literal, Log, Multiple};
-use nz_term::{NumberSort, Operator, Sort, TermId, Terms};
+use nz_lin::Bound;
+use nz_log::{Lit, LitMultiple, Literal, Log};
+use nz_term::{ArithmeticStop, NumberSort, Operator, Sort, TermId, Terms};
 use nz_term_samples::{constant, numeral, operation};
 use std::alloc::Global;
 use std::test::Fail;
@@ -27,19 +27,24 @@ fn bound_in(
     terms: &mut Terms,
     factor: u128,
     number: u128,
-) -> Result<Bound, LinStop> {
+) -> Result<Bound, ArithmeticStop> {
     let term = sum(terms, alloc, factor, number)?;
     Ok(Bound::at_most_zero(form(alloc, terms, term)?))
 }
 
 /// The same over terms of its own.
-fn at_most_zero(alloc: Global, factor: u128, number: u128) -> Result<Bound, LinStop> {
+fn at_most_zero(alloc: Global, factor: u128, number: u128) -> Result<Bound, ArithmeticStop> {
     let mut terms = Terms::new(alloc)?;
     bound_in(alloc, &mut terms, factor, number)
 }
 
 /// Its literal.
-fn literal(alloc: Global, log: &mut Log, factor: u128, number: u128) -> Result<Lit, LinStop> {
+fn literal(
+    alloc: Global,
+    log: &mut Log,
+    factor: u128,
+    number: u128,
+) -> Result<Lit, ArithmeticStop> {
     let bound = at_most_zero(alloc, factor, number)?;
     Ok(log.bound_literal(bound)?)
 }
@@ -50,30 +55,30 @@ fn literal_of_not(
     log: &mut Log,
     factor: u128,
     number: u128,
-) -> Result<Lit, LinStop> {
+) -> Result<Lit, ArithmeticStop> {
     let bound = at_most_zero(alloc, factor, number)?;
     let negation = bound.not(alloc)?;
     Ok(log.bound_literal(negation)?)
 }
 
 /// The bound `x + y <= M`.
-fn at_most_largest(alloc: Global) -> Result<Bound, LinStop> {
+fn at_most_largest(alloc: Global) -> Result<Bound, ArithmeticStop> {
     let bound = at_most_zero(alloc, 1, 0)?;
     Ok(bound.with_limit(Frac::integer(MOST as i128)))
 }
 
 /// A multiple by an integer.
-fn times(literal: Lit, multiplier: i64) -> Multiple {
-    Multiple {
+fn times(literal: Lit, multiplier: i64) -> LitMultiple {
+    LitMultiple {
         literal,
         multiplier: Frac::whole(multiplier),
     }
 }
 
 /// Whether a rule stopped at the operation of this kind over these integers.
-fn is_wide(made: &Result<Made, LinStop>, op: Op, a: i128, b: i128) -> bool {
+fn is_wide(made: &Result<Made, ArithmeticStop>, op: Op, a: i128, b: i128) -> bool {
     match made {
-        Err(LinStop::Wide(wide)) => is_of(*wide, op, a, b),
+        Err(ArithmeticStop::Wide(wide)) => is_of(*wide, op, a, b),
         _ => false,
     }
 }
@@ -92,7 +97,7 @@ fn have_one_atom(alloc: Global, log: &mut Log) -> Result<(), Fail> {
 }
 
 #[test]
-fn a_bound_and_its_negation_have_one_atom(rt: HostRuntime) -> Result<(), Fail> {
+fn test_a_bound_and_its_negation_have_one_atom(rt: HostRuntime) -> Result<(), Fail> {
     let mut log = Log::new(rt.alloc())?;
     have_one_atom(rt.alloc(), &mut log)
 }
@@ -107,7 +112,7 @@ fn are_refuted(alloc: Global, log: &mut Log) -> Result<(), Fail> {
 }
 
 #[test]
-fn bounds_with_a_false_sum_are_refuted(rt: HostRuntime) -> Result<(), Fail> {
+fn test_bounds_with_a_false_sum_are_refuted(rt: HostRuntime) -> Result<(), Fail> {
     let mut log = Log::new(rt.alloc())?;
     are_refuted(rt.alloc(), &mut log)
 }
@@ -121,7 +126,7 @@ fn is_sum_named(alloc: Global, log: &mut Log) -> Result<(), Fail> {
 }
 
 #[test]
-fn a_wide_sum_is_named(rt: HostRuntime) -> Result<(), Fail> {
+fn test_a_wide_sum_is_named(rt: HostRuntime) -> Result<(), Fail> {
     let mut log = Log::new(rt.alloc())?;
     is_sum_named(rt.alloc(), &mut log)
 }
@@ -150,7 +155,7 @@ fn branches(alloc: Global, log: &mut Log) -> Result<(), Fail> {
 }
 
 #[test]
-fn a_branch_is_on_an_integer(rt: HostRuntime) -> Result<(), Fail> {
+fn test_a_branch_is_on_an_integer(rt: HostRuntime) -> Result<(), Fail> {
     let mut log = Log::new(rt.alloc())?;
     branches(rt.alloc(), &mut log)
 }
@@ -163,20 +168,20 @@ fn is_branch_named(alloc: Global, log: &mut Log) -> Result<(), Fail> {
 }
 
 #[test]
-fn a_wide_branch_is_named(rt: HostRuntime) -> Result<(), Fail> {
+fn test_a_wide_branch_is_named(rt: HostRuntime) -> Result<(), Fail> {
     let mut log = Log::new(rt.alloc())?;
     is_branch_named(rt.alloc(), &mut log)
 }
 
 /// The bound `2x + 2y <= -1`.
-fn doubled(alloc: Global) -> Result<Bound, LinStop> {
+fn doubled(alloc: Global) -> Result<Bound, ArithmeticStop> {
     let bound = at_most_zero(alloc, 1, 0)?;
     let twice = bound.scaled(alloc, Frac::whole(2))?;
     Ok(twice.with_limit(Frac::whole(-1)))
 }
 
 /// Its literal.
-fn doubled_literal(alloc: Global, log: &mut Log) -> Result<Lit, LinStop> {
+fn doubled_literal(alloc: Global, log: &mut Log) -> Result<Lit, ArithmeticStop> {
     let bound = doubled(alloc)?;
     Ok(log.bound_literal(bound)?)
 }
@@ -185,7 +190,7 @@ fn doubled_literal(alloc: Global, log: &mut Log) -> Result<Lit, LinStop> {
 fn cuts(alloc: Global, log: &mut Log) -> Result<(), Fail> {
     let first = literal(alloc, log, 1, 1)?;
     let doubled = doubled_literal(alloc, log)?;
-    let half = Multiple {
+    let half = LitMultiple {
         literal: doubled,
         multiplier: Frac::of(1, 2).unwrap_or(Frac::whole(1)),
     };
@@ -194,7 +199,7 @@ fn cuts(alloc: Global, log: &mut Log) -> Result<(), Fail> {
 }
 
 #[test]
-fn a_cut_is_rounded(rt: HostRuntime) -> Result<(), Fail> {
+fn test_a_cut_is_rounded(rt: HostRuntime) -> Result<(), Fail> {
     let mut log = Log::new(rt.alloc())?;
     cuts(rt.alloc(), &mut log)
 }
@@ -208,7 +213,7 @@ fn is_cut_named(alloc: Global, log: &mut Log) -> Result<(), Fail> {
 }
 
 #[test]
-fn a_wide_cut_is_named(rt: HostRuntime) -> Result<(), Fail> {
+fn test_a_wide_cut_is_named(rt: HostRuntime) -> Result<(), Fail> {
     let mut log = Log::new(rt.alloc())?;
     is_cut_named(rt.alloc(), &mut log)
 }

@@ -1,10 +1,10 @@
 //! Terms to try, their forms, and the companions of all: terms are told by tables, so that one loop makes them, and a test is cheap to prove.
 ghost use Rattle.std.specs.Prelude.{OnOk};
-ghost use Rattle.nz_spec.specs.Order.{HasCompanions};
+ghost use Rattle.nz_spec.specs.terms.Order.{HasCompanions};
 
 use nz_base::Memory;
-use nz_lin::{Form, LinStop, lin};
-use nz_term::{Operator, Sort, TermId, Terms, add_companions};
+use nz_lin::{Form, lin};
+use nz_term::{ArithmeticStop, Operator, Sort, TermId, Terms, add_companions};
 use nz_term_samples::{constant, numeral, operation};
 use std::alloc::Global;
 use std::test::Fail;
@@ -46,9 +46,9 @@ pub(crate) fn make_all(alloc: Global, terms: &mut Terms, list: &[Term]) -> Resul
 }
 
 /// The form of a linear term. One that isn't linear fails the test.
-pub(crate) fn form(alloc: Global, terms: &Terms, id: TermId) -> Result<Form, LinStop> {
+pub(crate) fn form(alloc: Global, terms: &Terms, id: TermId) -> Result<Form, ArithmeticStop> {
     if terms.len() <= id || !terms.is_linear(id) {
-        return Err(LinStop::Memory);
+        return Err(ArithmeticStop::Memory);
     }
     lin(alloc, terms, id)
 }

@@ -1,11 +1,12 @@
 //! The clauses of the unit table, against all small assignments.
+use crate::rows::unit_row;
 use crate::terms::Term::{self, Constant, Number, Over};
 use crate::terms::{MOST, complete, expect, make_all};
 use crate::values::{Values, are_true, halves, is_wide};
 use nz_frac::{Frac, Op, Wide};
-use nz_lin::LinStop;
-use nz_log::{Lit, Log, unit_count};
-use nz_term::{NumberSort, Operator, Sort, TermId, Terms};
+use nz_log::{Lit, Log};
+use nz_rows::unit_rows;
+use nz_term::{ArithmeticStop, NumberSort, Operator, Sort, TermId, Terms};
 use std::alloc::Global;
 use std::test::Fail;
 
@@ -15,14 +16,16 @@ fn units(
     log: &mut Log,
     terms: &mut Terms,
     term: TermId,
-) -> Result<Vec<Vec<Lit>>, LinStop> {
+) -> Result<Vec<Vec<Lit>>, ArithmeticStop> {
     complete(alloc, terms)?;
     if terms.len() <= term || !terms.is_linear(term) {
-        return Err(LinStop::Memory);
+        return Err(ArithmeticStop::Memory);
     }
     let mut clauses = Vec::new(alloc);
-    for j in 0..unit_count(terms, term) {
-        let id = log.unit_axiom(terms, term, j)?;
+    let count = unit_rows(alloc, terms, term)?.len();
+    for j in 0..count {
+        let row = unit_row(alloc, terms, term, j)?;
+        let id = log.unit_axiom(terms, term, j, row)?;
         clauses.push(Vec::from_slice(alloc, log.clause(id))?)?;
     }
     Ok(clauses)
@@ -35,7 +38,7 @@ fn units_in(
     terms: &mut Terms,
     list: &[Term],
     unit: TermId,
-) -> Result<Vec<Vec<Lit>>, LinStop> {
+) -> Result<Vec<Vec<Lit>>, ArithmeticStop> {
     make_all(alloc, terms, list)?;
     units(alloc, log, terms, unit)
 }
@@ -46,7 +49,7 @@ fn units_of(
     log: &mut Log,
     list: &[Term],
     unit: TermId,
-) -> Result<Vec<Vec<Lit>>, LinStop> {
+) -> Result<Vec<Vec<Lit>>, ArithmeticStop> {
     let mut terms = Terms::new(alloc)?;
     units_in(alloc, log, &mut terms, list, unit)
 }
@@ -179,13 +182,13 @@ fn tell_all(log: &Log, clauses: &[Vec<Lit>], division: &Division) -> Result<bool
 }
 
 /// Whether the clauses of an operator over an integer and a divisor are true just where the unit has its value.
-fn divide(alloc: Global, log: &mut Log, division: &Division) -> Result<bool, LinStop> {
+fn divide(alloc: Global, log: &mut Log, division: &Division) -> Result<bool, ArithmeticStop> {
     let clauses = units_of(alloc, log, division.terms, division.unit)?;
     Ok(tell_all(log, &clauses, division)?)
 }
 
 /// The same of a log of its own.
-fn divides(alloc: Global, division: &Division) -> Result<bool, LinStop> {
+fn divides(alloc: Global, division: &Division) -> Result<bool, ArithmeticStop> {
     let mut log = Log::new(alloc)?;
     divide(alloc, &mut log, division)
 }
@@ -196,7 +199,7 @@ fn signed(number: Frac, negative: bool) -> Frac {
 }
 
 #[test]
-fn quotients_and_remainders_are_bounded(rt: HostRuntime) -> Result<(), Fail> {
+fn test_quotients_and_remainders_are_bounded(rt: HostRuntime) -> Result<(), Fail> {
     expect(divides(rt.alloc(), &QUOTIENT)?, "by 3")?;
     expect(divides(rt.alloc(), &NEGATIVE_QUOTIENT)?, "by -3")?;
     expect(divides(rt.alloc(), &REMAINDER)?, "modulo 3")?;
@@ -249,7 +252,7 @@ fn bounds_a_size(alloc: Global, log: &mut Log) -> Result<(), Fail> {
 }
 
 #[test]
-fn a_size_is_bounded(rt: HostRuntime) -> Result<(), Fail> {
+fn test_a_size_is_bounded(rt: HostRuntime) -> Result<(), Fail> {
     let mut log = Log::new(rt.alloc())?;
     bounds_a_size(rt.alloc(), &mut log)
 }
@@ -281,7 +284,7 @@ fn ties_a_choice(alloc: Global, log: &mut Log) -> Result<(), Fail> {
 }
 
 #[test]
-fn a_choice_is_one_of_its_branches(rt: HostRuntime) -> Result<(), Fail> {
+fn test_a_choice_is_one_of_its_branches(rt: HostRuntime) -> Result<(), Fail> {
     let mut log = Log::new(rt.alloc())?;
     ties_a_choice(rt.alloc(), &mut log)
 }
@@ -307,7 +310,7 @@ fn bounds_a_rounded_number(alloc: Global, log: &mut Log) -> Result<(), Fail> {
 }
 
 #[test]
-fn a_rounded_number_is_bounded(rt: HostRuntime) -> Result<(), Fail> {
+fn test_a_rounded_number_is_bounded(rt: HostRuntime) -> Result<(), Fail> {
     let mut log = Log::new(rt.alloc())?;
     bounds_a_rounded_number(rt.alloc(), &mut log)
 }
@@ -328,7 +331,7 @@ fn is_named(alloc: Global, log: &mut Log) -> Result<(), Fail> {
 }
 
 #[test]
-fn a_wide_unit_is_named(rt: HostRuntime) -> Result<(), Fail> {
+fn test_a_wide_unit_is_named(rt: HostRuntime) -> Result<(), Fail> {
     let mut log = Log::new(rt.alloc())?;
     is_named(rt.alloc(), &mut log)
 }

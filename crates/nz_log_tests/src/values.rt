@@ -1,8 +1,8 @@
 //! Whether clauses are true, where terms have these values.
 use nz_frac::{Frac, Op, Wide};
-use nz_lin::{Bound, LinStop};
+use nz_lin::Bound;
 use nz_log::{Lit, Literal, Log};
-use nz_term::TermId;
+use nz_term::{ArithmeticStop, TermId};
 
 /// The values of numbers and the truths of Boolean terms.
 #[derive(Clone, Copy, Debug)]
@@ -83,9 +83,14 @@ pub(crate) fn halves(count: i64) -> Frac {
 }
 
 /// Whether making clauses stopped at the operation of this kind over these integers.
-pub(crate) fn is_wide(made: &Result<Vec<Vec<Lit>>, LinStop>, op: Op, a: i128, b: i128) -> bool {
+pub(crate) fn is_wide(
+    made: &Result<Vec<Vec<Lit>>, ArithmeticStop>,
+    op: Op,
+    a: i128,
+    b: i128,
+) -> bool {
     match made {
-        Err(LinStop::Wide(wide)) => is_of(*wide, op, a, b),
+        Err(ArithmeticStop::Wide(wide)) => is_of(*wide, op, a, b),
         _ => false,
     }
 }

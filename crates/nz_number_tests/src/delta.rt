@@ -2,7 +2,7 @@
 ghost use Rattle.std.specs.Prelude.{◌≡◌, IfOk, IfSome, pos};
 ghost use Rattle.std.specs.declared.cmp.Ordering.TheVariants.{Equal};
 ghost use Rattle.nz_fractions.specs.Fraction.{whole, ◌<ℚ◌};
-ghost use Rattle.nz_spec.specs.Infinitesimal.{◌≤δ◌};
+ghost use Rattle.nz_spec.specs.numbers.Infinitesimal.{◌≤δ◌};
 ghost use Rattle.nz_delta.specs.DeltaSpace.{infinitesimal_of};
 
 use nz_delta::{Delta, Scalar, choose_delta};
@@ -71,7 +71,7 @@ fn parts(x: Delta) -> ((i128, i128), (i128, i128)) {
 }
 
 #[test]
-fn adds_and_scales_part_by_part(rt: HostRuntime) -> Result<(), Fail> {
+fn test_adds_and_scales_part_by_part(rt: HostRuntime) -> Result<(), Fail> {
     let (x, y) = (delta(1, -2)?, delta(3, 5)?);
     assert_eq!(rt; x.add(y).ok().map(parts), Some(((4, 1), (3, 1))));
     assert_eq!(rt; x.sub(y).ok().map(parts), Some(((-2, 1), (-7, 1))));
@@ -85,7 +85,7 @@ fn adds_and_scales_part_by_part(rt: HostRuntime) -> Result<(), Fail> {
 }
 
 #[test]
-fn orders_by_the_first_part_first(rt: HostRuntime) -> Result<(), Fail> {
+fn test_orders_by_the_first_part_first(rt: HostRuntime) -> Result<(), Fail> {
     assert_eq!(rt; Scalar::cmp(&delta(1, 9)?, &delta(2, -9)?), Ordering::Less);
     assert_eq!(rt; Scalar::cmp(&delta(1, 0)?, &delta(1, 1)?), Ordering::Less);
     assert_eq!(rt; Scalar::cmp(&delta(1, 1)?, &delta(1, 1)?), Ordering::Equal);
@@ -97,7 +97,7 @@ fn orders_by_the_first_part_first(rt: HostRuntime) -> Result<(), Fail> {
 }
 
 #[test]
-fn meets_the_laws_as_fractions(rt: HostRuntime) -> Result<(), Fail> {
+fn test_meets_the_laws_as_fractions(rt: HostRuntime) -> Result<(), Fail> {
     assert_eq!(rt;
         compared_after_adding(frac(1, 3)?, frac(1, 2)?, frac(-5, 7)?),
         Some(Ordering::Less)
@@ -122,7 +122,7 @@ fn meets_the_laws_as_fractions(rt: HostRuntime) -> Result<(), Fail> {
 }
 
 #[test]
-fn meets_the_laws_as_infinitesimals(rt: HostRuntime) -> Result<(), Fail> {
+fn test_meets_the_laws_as_infinitesimals(rt: HostRuntime) -> Result<(), Fail> {
     assert_eq!(rt;
         compared_after_scaling(delta(1, 0)?, delta(1, 1)?, frac(2, 3)?),
         Some(Ordering::Less)
@@ -139,7 +139,7 @@ fn meets_the_laws_as_infinitesimals(rt: HostRuntime) -> Result<(), Fail> {
 }
 
 #[test]
-fn names_the_part_that_is_wide(rt: HostRuntime) -> Result<(), Fail> {
+fn test_names_the_part_that_is_wide(rt: HostRuntime) -> Result<(), Fail> {
     match delta(1, M)?.add(delta(1, 2)?) {
         Err(Wide { op, a, b }) => {
             assert!(rt; op == Op::Add);
@@ -162,7 +162,7 @@ fn pair(low: Delta, high: Delta) -> Result<(Delta, Delta), Fail>
 }
 
 #[test]
-fn chooses_the_least_limit(rt: HostRuntime) -> Result<(), Fail> {
+fn test_chooses_the_least_limit(rt: HostRuntime) -> Result<(), Fail> {
     // 0 + 2δ <= 1 holds up to 1/2, 1 + 3δ <= 2 - δ up to 1/4, and 0 - δ <= 1 sets no limit.
     let half = pair(delta(0, 2)?, delta(1, 0)?)?;
     let quarter = pair(delta(1, 3)?, delta(2, -1)?)?;
@@ -173,7 +173,7 @@ fn chooses_the_least_limit(rt: HostRuntime) -> Result<(), Fail> {
 }
 
 #[test]
-fn chooses_at_most_one(rt: HostRuntime) -> Result<(), Fail> {
+fn test_chooses_at_most_one(rt: HostRuntime) -> Result<(), Fail> {
     // 0 + δ <= 5 holds up to 5.
     let pair = pair(delta(0, 1)?, delta(5, 0)?)?;
     let chosen = choose_delta(&[pair]);
@@ -182,7 +182,7 @@ fn chooses_at_most_one(rt: HostRuntime) -> Result<(), Fail> {
 }
 
 #[test]
-fn names_what_is_wide_in_a_limit(rt: HostRuntime) -> Result<(), Fail> {
+fn test_names_what_is_wide_in_a_limit(rt: HostRuntime) -> Result<(), Fail> {
     // -1 + δ <= M would hold up to M + 1.
     match choose_delta(&[pair(delta(-1, 1)?, delta(M, 0)?)?]) {
         Err(Wide { op, a, b }) => {

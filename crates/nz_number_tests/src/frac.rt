@@ -30,7 +30,7 @@ fn product(a: (i128, i128), b: (i128, i128)) -> Result<Option<(i128, i128)>, Fai
 }
 
 #[test]
-fn makes_numbers_alone(rt: HostRuntime) -> Result<(), Fail> {
+fn test_makes_numbers_alone(rt: HostRuntime) -> Result<(), Fail> {
     assert_eq!(rt; Frac::of(6, -4).map(parts), Some((-3, 2)));
     assert_eq!(rt; Frac::of(0, -5).map(parts), Some((0, 1)));
     assert_eq!(rt; Frac::of(1, 0).map(parts), None);
@@ -44,7 +44,7 @@ fn makes_numbers_alone(rt: HostRuntime) -> Result<(), Fail> {
 }
 
 #[test]
-fn makes_integers(rt: HostRuntime) -> Result<(), Fail> {
+fn test_makes_integers(rt: HostRuntime) -> Result<(), Fail> {
     assert_eq!(rt; parts(Frac::integer(M)), (M, 1));
     assert_eq!(rt; parts(Frac::integer(-M)), (-M, 1));
     assert_eq!(rt; parts(Frac::whole(i64::MIN)), (i64::MIN as i128, 1));
@@ -52,7 +52,7 @@ fn makes_integers(rt: HostRuntime) -> Result<(), Fail> {
 }
 
 #[test]
-fn adds_up_to_the_edge(rt: HostRuntime) -> Result<(), Fail> {
+fn test_adds_up_to_the_edge(rt: HostRuntime) -> Result<(), Fail> {
     assert_eq!(rt; sum((1, 2), (1, 3))?, Some((5, 6)));
     assert_eq!(rt; sum((1, 6), (1, 3))?, Some((1, 2)));
     assert_eq!(rt; sum((M - 1, 1), (1, 1))?, Some((M, 1)));
@@ -84,7 +84,7 @@ fn adds_up_to_the_edge(rt: HostRuntime) -> Result<(), Fail> {
 }
 
 #[test]
-fn multiplies_in_lowest_terms(rt: HostRuntime) -> Result<(), Fail> {
+fn test_multiplies_in_lowest_terms(rt: HostRuntime) -> Result<(), Fail> {
     assert_eq!(rt; product((2, 3), (-3, 4))?, Some((-1, 2)));
     // The common divisors save both products.
     assert_eq!(rt; product((M, 2), (4, M))?, Some((2, 1)));
@@ -99,7 +99,7 @@ fn multiplies_in_lowest_terms(rt: HostRuntime) -> Result<(), Fail> {
 }
 
 #[test]
-fn names_what_is_wide(rt: HostRuntime) -> Result<(), Fail> {
+fn test_names_what_is_wide(rt: HostRuntime) -> Result<(), Fail> {
     let (a, b) = (frac(M, 1)?, frac(-2, 1)?);
     match a.sub(b) {
         Err(Wide { op, a, b }) => {
@@ -113,7 +113,7 @@ fn names_what_is_wide(rt: HostRuntime) -> Result<(), Fail> {
 }
 
 #[test]
-fn divides_with_the_sign_above(rt: HostRuntime) -> Result<(), Fail> {
+fn test_divides_with_the_sign_above(rt: HostRuntime) -> Result<(), Fail> {
     assert_eq!(rt; quotient((3, 4), (-9, 8))?, Some((-2, 3)));
     assert_eq!(rt; quotient((-3, 4), (-9, 8))?, Some((2, 3)));
     assert_eq!(rt; quotient((0, 1), (-3, 1))?, Some((0, 1)));
@@ -121,7 +121,7 @@ fn divides_with_the_sign_above(rt: HostRuntime) -> Result<(), Fail> {
 }
 
 #[test]
-fn divides_up_to_the_edge(rt: HostRuntime) -> Result<(), Fail> {
+fn test_divides_up_to_the_edge(rt: HostRuntime) -> Result<(), Fail> {
     assert_eq!(rt; quotient((M, 1), (-M, 1))?, Some((-1, 1)));
     assert_eq!(rt; quotient((1, M), (1, M))?, Some((1, 1)));
     assert_eq!(rt; quotient((1, 1), (1, M))?, Some((M, 1)));
@@ -133,7 +133,7 @@ fn divides_up_to_the_edge(rt: HostRuntime) -> Result<(), Fail> {
 }
 
 #[test]
-fn rounds_down_and_up(rt: HostRuntime) -> Result<(), Fail> {
+fn test_rounds_down_and_up(rt: HostRuntime) -> Result<(), Fail> {
     assert_eq!(rt; parts(frac(-7, 2)?.floor()), (-4, 1));
     assert_eq!(rt; parts(frac(-7, 2)?.ceil()), (-3, 1));
     assert_eq!(rt; parts(frac(7, 2)?.floor()), (3, 1));
@@ -148,7 +148,7 @@ fn rounds_down_and_up(rt: HostRuntime) -> Result<(), Fail> {
 }
 
 #[test]
-fn compares_where_products_take_two_words(rt: HostRuntime) -> Result<(), Fail> {
+fn test_compares_where_products_take_two_words(rt: HostRuntime) -> Result<(), Fail> {
     assert_eq!(rt; frac(M, M - 1)?.cmp(&frac(M - 1, M - 2)?), Ordering::Less);
     assert_eq!(rt;
         frac(-M, M - 1)?.cmp(&frac(1 - M, M - 2)?),
@@ -160,7 +160,7 @@ fn compares_where_products_take_two_words(rt: HostRuntime) -> Result<(), Fail> {
 }
 
 #[test]
-fn compares_equal_values_alike(rt: HostRuntime) -> Result<(), Fail> {
+fn test_compares_equal_values_alike(rt: HostRuntime) -> Result<(), Fail> {
     assert!(rt; frac(2, -4)? == frac(-1, 2)?);
     assert!(rt; frac(1, 2)? != frac(1, 3)?);
     assert_eq!(rt; frac(M, 1)?.neg().cmp(&frac(-M, 1)?), Ordering::Equal);

@@ -141,7 +141,7 @@ fn are_stands(stands: &[Stand], expected: &[(Form, Side)]) -> bool {
 }
 
 #[test]
-fn small_systems_start(rt: HostRuntime) -> Result<(), Fail> {
+fn test_small_systems_start(rt: HostRuntime) -> Result<(), Fail> {
     for case in CASES {
         let start = Start::new(&system_of(rt.alloc(), case)?)?;
         if !are_exchanges(start.exchanges(), case.exchanges)
@@ -155,7 +155,7 @@ fn small_systems_start(rt: HostRuntime) -> Result<(), Fail> {
 
 /// Each unit is at least 1 above the one before it; the sums are differences of neighbours.
 #[test]
-fn each_sum_of_a_chain_stands_at_its_bound(rt: HostRuntime) -> Result<(), Fail> {
+fn test_each_sum_of_a_chain_stands_at_its_bound(rt: HostRuntime) -> Result<(), Fail> {
     let mut system = System::new(rt.alloc());
     let count = 30;
     for _ in 0..count {

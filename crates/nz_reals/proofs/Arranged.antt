@@ -1,25 +1,25 @@
 -- Units and sums that join before a search.
-use Rattle.std.proofs.Common.{◌≡◌, ◌⊎◌, inl, inr, ℕ, ◌<◌, ◌≤◌, ◌==◌, Bool, true, false, List, [], ◌∷◌, map, length, Option, Some, None, refl, sym, ap, ◌∙◌, subst, true≢false, if◌then◌else◌, arith}
+use Rattle.std.proofs.Common.{◌≡◌, ◌⊎◌, inl, inr, ℕ, ◌<◌, ◌≤◌, Bool, true, false, List, [], ◌∷◌, map, length, Option, Some, None, refl, sym, ap, ◌∙◌, subst, true≢false, if◌then◌else◌, arith}
 use Rattle.std.specs.Prelude.{All, Contains, pos, slice_get, slice_index_or}
 use Rattle.std.specs.List.{AllByRecursion}
 use Rattle.std.proofs.lemmas.List.Elements.{All-contains, All-from_recursion}
 use Rattle.nz_lists.proofs.Elements.{AllByRecursion-append, AllByRecursion-weaker}
 use Rattle.nz_lists.proofs.Members.{by_each, each_of, map_from, map_has}
-use Rattle.nz_lists.proofs.Numbers.{below_or_past, same-number}
+use Rattle.nz_lists.proofs.Numbers.{below_or_past}
 use Rattle.nz_fractions.specs.Fraction.{Fraction, neg_ℚ, whole}
 use Rattle.nz_fractions.proofs.Identities.{neg-back}
-use Rattle.nz_spec.specs.Bland.{Position, Side, zero_infinitesimal}
-use Rattle.nz_spec.specs.Farkas.{bound_of}
-use Rattle.nz_spec.specs.Form as spec
-use Rattle.nz_spec.specs.Form.{unit_form}
-use Rattle.nz_spec.specs.Infinitesimal.{Infinitesimal}
-use Rattle.nz_spec.specs.Legal.{IsSumOf, IsTabled}
-use Rattle.nz_spec.specs.Literal.{Literal, TellsLiterals, is_at_most, negation_of, term_literal}
-use Rattle.nz_spec.specs.LiteralBounds.{FormBound, bound_said, turned}
-use Rattle.nz_spec.specs.PositionMoves.{with_form, with_unit}
-use Rattle.nz_spec.specs.Table.{IsTable, Node, OneNumber, term_in}
-use Rattle.nz_spec.specs.Term.{Term}
-use Rattle.nz_spec.specs.Units.{times_unit}
+use Rattle.nz_spec.specs.simplex.Bland.{Position, Side, zero_infinitesimal}
+use Rattle.nz_spec.specs.clauses.Farkas.{bound_of}
+use Rattle.nz_spec.specs.terms.Form as spec
+use Rattle.nz_spec.specs.terms.Form.{unit_form}
+use Rattle.nz_spec.specs.numbers.Infinitesimal.{Infinitesimal}
+use Rattle.nz_spec.specs.search.Legal.{IsSumOf, IsTabled}
+use Rattle.nz_spec.specs.clauses.Literal.{Literal, TellsLiterals, is_at_most, negation_of, term_literal}
+use Rattle.nz_spec.specs.simplex.LiteralBounds.{FormBound, bound_said, turned}
+use Rattle.nz_spec.specs.simplex.PositionMoves.{with_form, with_unit}
+use Rattle.nz_spec.specs.terms.Table.{IsTable, Node, OneNumber, term_in}
+use Rattle.nz_spec.specs.terms.Term.{Term}
+use Rattle.nz_spec.specs.clauses.Units.{times_unit}
 use Rattle.nz_lin.specs.declared.bound.Bound.{Bound}
 use Rattle.nz_lin.specs.declared.form.Part.{Part}
 use Rattle.nz_lin.specs.Forms.{AreUnits, NamesUnit, Numbered, form_over, negated, part_over, parts_over}
@@ -27,10 +27,10 @@ use Rattle.nz_tab.specs.Units.{is_unit_form, new_units, unit_of}
 use Rattle.nz_log.specs.declared.atoms.Atom.{Atom}
 use Rattle.nz_log.specs.declared.atoms.Atom.TheVariants.{AtMost}
 use Rattle.nz_log.specs.Atoms.{AreAtoms, IsLitIn, atom_in, literal_in, with_sign}
-use Rattle.nz_simplex.specs.Moves.{IsExchanged, IsJoined, KnowsNonbasicAlone, StandsAt, joined_over, unit_terms, with_all_units}
+use Rattle.nz_simplex.specs.Moves.{IsJoined, KnowsNonbasicAlone, joined_over, unit_terms, with_all_units}
 use Rattle.nz_simplex.specs.Standing.{half}
 use Rattle.nz_simplex.specs.State.{IsSound, State, nonbasic_in, point_in, position_over, value_in}
-use Rattle.nz_reals.specs.Arranging.{AreAtomsIn, HasJoined, HasMoved, HasTurned, IsArranged, IsAtBound, IsAtZero, IsBoundAmong, IsFormOfBound, IsSumAmong, IsTabledAtom, MayArrange, MayHaveExchanged, MayHaveJoined, MayHaveStood, StandsAmong}
+use Rattle.nz_reals.specs.Arranging.{AreAtomsIn, HasJoined, HasMoved, HasTurned, IsArranged, IsAtZero, IsBoundAmong, IsFormOfBound, IsSumAmong, IsTabledAtom, MayArrange, MayHaveJoined, MayHaveStood, StandsAmong}
 use Rattle.nz_reals.specs.Joins.{AddsForm, MayAddSum}
 use Rattle.nz_reals.specs.Known.{said_at}
 use Rattle.nz_reals.specs.Stands.{IsOver}
@@ -38,11 +38,11 @@ use Rattle.nz_reals.specs.Starts.{MayRestart}
 use Rattle.nz_reals.specs.State.{Theory}
 use Rattle.nz_reals.specs.Stored.{AreForms, FindsForms, IsStored}
 use Rattle.nz_reals.specs.Sums.{AreNonzero, is_turned, turned_sum, zero_bound}
-use Rattle.nz_reals.proofs.Adding.{normal_at}
-use Rattle.nz_reals.proofs.Bounding.{said_of_form}
-use Rattle.nz_reals.proofs.Joining.{adds_form, forms_then, then_cases, then_kept, tolds_then, unit_sum, unit_units, units_from}
-use Rattle.nz_reals.proofs.Refuting.{own_units}
-use Rattle.nz_reals.proofs.Saying.{bound_in_log}
+use Rattle.nz_reals.proofs.AddedAtoms.{normal_at}
+use Rattle.nz_reals.proofs.LiteralForms.{said_of_form}
+use Rattle.nz_reals.proofs.JoinedForms.{adds_form, forms_then, then_cases, then_kept, tolds_then, unit_sum, unit_units, units_from}
+use Rattle.nz_reals.proofs.RefutationClauses.{own_units}
+use Rattle.nz_reals.proofs.AtomBounds.{bound_in_log}
 use Rattle.nz_reals.proofs.Sums.{literal_parts, one_sum, parts_back, turned_form, turned_over, turned_units}
 
 -- ---- Units that join a position
@@ -168,10 +168,6 @@ module _ (all : List Atom) (ids : List ℕ) where
     unbounded = turned.moves.unbounded h.unbounded;
     unknown = turned.moves.unknown h.unknown;
   }
-
-  pub arranged_exchanged : (t u : Theory) → IsArranged all ids t → MayHaveExchanged t u → IsArranged all ids u
-  arranged_exchanged t u h (inl same) = subst (IsArranged all ids) (sym same) h
-  arranged_exchanged t u h (inr turned) = arranged_turned t u IsAtZero (λ k v zero. inl zero) h turned
 
   pub arranged_stood : (t u : Theory) (b : Bound) → IsBoundAmong all ids b → (k : ℕ) (v : Infinitesimal) (sign : Bool) → slice_get t.simplex.forms k ≡ Some (turned_sum b.sides.parts) → v ≡ (said_at b.sides.parts b.sides.offset sign).value
       → IsArranged all ids t → MayHaveStood t u k v → IsArranged all ids u
@@ -314,64 +310,6 @@ moves_then old new f v joined = record {
   unknown = unknown_then old.simplex new.simplex f v joined;
   points = points_then old.simplex new.simplex f v joined;
 }
-
--- ---- How forms move by themselves
-
-module _ (old new : Theory) where
-  pub turned_by_exchange : (i j : ℕ) → IsExchanged old.simplex new.simplex i j → HasTurned old new IsAtZero
-  turned_by_exchange i j h = record {
-    forms = h.forms;
-    moves = record {
-      kept = λ k f at. ap (λ (fs : List (List Part)). slice_get fs k) h.forms ∙ at;
-      unbounded = λ none. h.asserted ∙ none;
-      unknown = λ unknown k basic. h.values k ∙ by_values unknown k (k == i) (k == j) (sym (h.marks k) ∙ basic);
-      points = λ k x at. by_point k x (k == i) (k == j) (sym (point_then k) ∙ at);
-    };
-  }
-    where
-      by_values : KnowsNonbasicAlone old.simplex → (k : ℕ) (s t : Bool) → (if s then true else if t then false else nonbasic_in old.simplex k) ≡ false → (if s then Some zero_infinitesimal else if t then None else value_in old.simplex k) ≡ None
-      by_values unknown k true t m = absurd (true≢false m)
-      by_values unknown k false true m = refl
-      by_values unknown k false false m = unknown k m
-
-      point_then : (k : ℕ) → point_in new.simplex k
-          ≡ (if (if k == i then true else if k == j then false else nonbasic_in old.simplex k) then (if k == i then Some zero_infinitesimal else if k == j then None else value_in old.simplex k) else None)
-      point_then k = ap (λ (b : Bool). if b then value_in new.simplex k else None) (h.marks k) ∙ ap (λ (o : Option Infinitesimal). if (if k == i then true else if k == j then false else nonbasic_in old.simplex k) then o else None) (h.values k)
-
-      by_point : (k : ℕ) (x : Infinitesimal) (s t : Bool) → (if (if s then true else if t then false else nonbasic_in old.simplex k) then (if s then Some zero_infinitesimal else if t then None else value_in old.simplex k) else None) ≡ Some x
-          → IsAtZero k x ⊎ (point_in old.simplex k ≡ Some x)
-      by_point k x true t e = inl cc
-      by_point k x false true e = absurd cc
-      by_point k x false false e = inr e
-
-  pub turned_by_stand : (k : ℕ) (v : Infinitesimal) → nonbasic_in old.simplex k ≡ true → StandsAt old.simplex new.simplex k v → HasTurned old new (λ j w. (j ≡ k) × (w ≡ v))
-  turned_by_stand k v nonbasic h = record {
-    forms = h.forms;
-    moves = record {
-      kept = λ j f at. ap (λ (fs : List (List Part)). slice_get fs j) h.forms ∙ at;
-      unbounded = λ none. h.asserted ∙ none;
-      unknown = λ unknown j basic. by_number unknown j (sym (marks_then j) ∙ basic) (j == k) refl;
-      points = λ j w at. by_point j w (j == k) refl (sym (point_then j) ∙ at);
-    };
-  }
-    where
-      marks_then : (j : ℕ) → nonbasic_in new.simplex j ≡ nonbasic_in old.simplex j
-      marks_then j = ap (λ (ms : List Bool). slice_index_or ms j false) h.marks
-
-      by_number : KnowsNonbasicAlone old.simplex → (j : ℕ) → nonbasic_in old.simplex j ≡ false → (b : Bool) → (j == k) ≡ b → value_in new.simplex j ≡ None
-      by_number unknown j basic true e = absurd (true≢false (sym nonbasic ∙ ap (nonbasic_in old.simplex) (sym (same-number j k e)) ∙ basic))
-      by_number unknown j basic false e = h.values j ∙ ap (λ (b : Bool). if b then Some v else value_in old.simplex j) e ∙ unknown j basic
-
-      point_then : (j : ℕ) → point_in new.simplex j ≡ (if nonbasic_in old.simplex j then (if j == k then Some v else value_in old.simplex j) else None)
-      point_then j = ap (λ (b : Bool). if b then value_in new.simplex j else None) (marks_then j) ∙ ap (λ (o : Option Infinitesimal). if nonbasic_in old.simplex j then o else None) (h.values j)
-
-      by_mark : (w : Infinitesimal) (m : Bool) → (if m then Some v else None) ≡ Some w → w ≡ v
-      by_mark w true h = cc
-      by_mark w false h = absurd cc
-
-      by_point : (j : ℕ) (w : Infinitesimal) (b : Bool) → (j == k) ≡ b → (if nonbasic_in old.simplex j then (if j == k then Some v else value_in old.simplex j) else None) ≡ Some w → ((j ≡ k) × (w ≡ v)) ⊎ (point_in old.simplex j ≡ Some w)
-      by_point j w true e at = inl (same-number j k e, by_mark w (nonbasic_in old.simplex j) (ap (λ (b : Bool). if nonbasic_in old.simplex j then (if b then Some v else value_in old.simplex j) else None) (sym e) ∙ at))
-      by_point j w false e at = inr (ap (λ (b : Bool). if nonbasic_in old.simplex j then (if b then Some v else value_in old.simplex j) else None) (sym e) ∙ at)
 
 -- ---- A unit that joins alone
 

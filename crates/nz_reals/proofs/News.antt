@@ -6,8 +6,8 @@ use Rattle.std.specs.Ordering.{is_lt, ordering_reverse}
 use Rattle.std.specs.Cmp.{first_so, second_so}
 use Rattle.nz_lists.proofs.Members.{has_cases}
 use Rattle.nz_lists.proofs.Numbers.{equal-number, same-number}
-use Rattle.nz_spec.specs.Infinitesimal.{Infinitesimal, infinitesimal_cmp, InfinitesimalsAreOrdered}
-use Rattle.nz_spec.specs.PositionMoves.{is_outside}
+use Rattle.nz_spec.specs.numbers.Infinitesimal.{Infinitesimal, infinitesimal_cmp, InfinitesimalsAreOrdered}
+use Rattle.nz_spec.specs.simplex.PositionMoves.{is_outside}
 use Rattle.nz_trail.specs.Bounds.{IsImplied, IsOn, IsTighter}
 use Rattle.nz_trail.specs.declared.limits.Side.{Side}
 use Rattle.nz_trail.specs.declared.limits.Side.TheVariants.{Lower, Upper}

@@ -6,15 +6,15 @@ use Rattle.std.specs.List.{AllByRecursion}
 use Rattle.std.proofs.lemmas.Int.{ints}
 use Rattle.nz_fractions.specs.Fraction.{Fraction, neg_ℚ, whole, denominator, fraction_lt, fraction_eq}
 use Rattle.nz_fractions.proofs.Identities.{neg-back, neg-nonzero, nonzero-test}
-use Rattle.nz_spec.specs.Form as spec
-use Rattle.nz_spec.specs.Form.{negated_part}
-use Rattle.nz_spec.specs.LiteralBounds.{turned}
-use Rattle.nz_spec.specs.Farkas.{bound_of}
-use Rattle.nz_spec.specs.Literal.{Literal, term_literal, is_at_most, is_below, negation_of, are_same_parts, are_same_literal, TellsLiterals}
-use Rattle.nz_spec.specs.Same.{are_same_fraction}
-use Rattle.nz_spec.specs.Table.{Node, HasOneNumberEach, term_in}
-use Rattle.nz_spec.specs.Term.{are_same_sort, sort_of, is_zero}
-use Rattle.nz_spec.specs.Term as spec_terms
+use Rattle.nz_spec.specs.terms.Form as spec
+use Rattle.nz_spec.specs.terms.Form.{negated_part}
+use Rattle.nz_spec.specs.simplex.LiteralBounds.{turned}
+use Rattle.nz_spec.specs.clauses.Farkas.{bound_of}
+use Rattle.nz_spec.specs.clauses.Literal.{Literal, term_literal, is_at_most, is_below, negation_of, are_same_parts, are_same_literal, TellsLiterals}
+use Rattle.nz_spec.specs.terms.Same.{are_same_fraction}
+use Rattle.nz_spec.specs.terms.Table.{Node, HasOneNumberEach, term_in}
+use Rattle.nz_spec.specs.terms.Term.{are_same_sort, sort_of, is_zero}
+use Rattle.nz_spec.specs.terms.Term as spec_terms
 use Rattle.nz_term.specs.declared.heads.Sort.{Sort}
 use Rattle.nz_term.specs.Constants as sorts
 use Rattle.nz_lin.specs.declared.bound.Bound.{Bound}

@@ -9,10 +9,10 @@ use Rattle.nz_lists.proofs.Elements.{AllByRecursion-append, AllByRecursion-weake
 use Rattle.nz_lists.proofs.Members.{at_of, each_of, has_first, has_found, map_has}
 use Rattle.nz_lists.proofs.Places.{slice_get_kept, slice_get-push_cases}
 use Rattle.nz_log.specs.declared.lits.Lit.{Lit}
-use Rattle.nz_spec.specs.Bland.{zero_infinitesimal}
+use Rattle.nz_spec.specs.simplex.Bland.{zero_infinitesimal}
 use Rattle.nz_trail.specs.declared.limits.Side.TheVariants.{Lower}
-use Rattle.nz_spec.specs.Infinitesimal.{infinitesimal_cmp}
-use Rattle.nz_spec.specs.Literal.{StandOnce}
+use Rattle.nz_spec.specs.numbers.Infinitesimal.{infinitesimal_cmp}
+use Rattle.nz_spec.specs.clauses.Literal.{StandOnce}
 use Rattle.nz_lin.specs.Forms.{AreUnits}
 use Rattle.nz_log.specs.declared.atoms.Atom.{Atom}
 use Rattle.nz_log.specs.declared.atoms.Atom.TheVariants.{AtMost}
@@ -20,8 +20,8 @@ use Rattle.nz_trail.specs.Bounds.{ClashesWith, IsImplied, asserted, other_side}
 use Rattle.nz_simplex.specs.Moves.{IsBounded}
 use Rattle.nz_simplex.specs.Standing.{Held}
 use Rattle.nz_simplex.specs.State.{State}
-use Rattle.nz_reals.specs.declared.reals.Told.{Told}
-use Rattle.nz_reals.specs.Known.{Known, Said, said_by}
+use Rattle.nz_reals.specs.declared.reals.MarkedLiteral.{MarkedLiteral}
+use Rattle.nz_reals.specs.Known.{Known, SideBound, said_by}
 use Rattle.nz_reals.specs.State.{Theory, empty_theory, known_at, told_lits}
 use Rattle.nz_reals.specs.Stored.{AreForms, AreTolds, FindsForms, IsBacked, IsMark, IsStored}
 use Rattle.nz_reals.specs.Sums.{IsFormSum}
@@ -53,11 +53,11 @@ all_at P (x ∷ xs) f = (f 0 x refl, all_at P xs (λ i y at. f (suc i) y at))
 -- ---- One more
 
 module _ (old new : Theory) (l : Lit) (tolds : AreTolds old) (told : IsTold old new l) where
-  old_told : (r : ℕ) (x : Told) → slice_get old.told r ≡ Some x → slice_get new.told r ≡ Some x
-  old_told r x at = subst (λ (ts : List Told). slice_get ts r ≡ Some x) (sym told.told) (slice_get_kept old.told (told_now old l ∷ []) r x at)
+  old_told : (r : ℕ) (x : MarkedLiteral) → slice_get old.told r ≡ Some x → slice_get new.told r ≡ Some x
+  old_told r x at = subst (λ (ts : List MarkedLiteral). slice_get ts r ≡ Some x) (sym told.told) (slice_get_kept old.told (told_now old l ∷ []) r x at)
 
-  pub told_cases : (r : ℕ) (x : Told) → slice_get new.told r ≡ Some x → (slice_get old.told r ≡ Some x) ⊎ ((r ≡ length old.told) × (told_now old l ≡ x))
-  told_cases r x at = slice_get-push_cases old.told (told_now old l) r x (subst (λ (ts : List Told). slice_get ts r ≡ Some x) told.told at)
+  pub told_cases : (r : ℕ) (x : MarkedLiteral) → slice_get new.told r ≡ Some x → (slice_get old.told r ≡ Some x) ⊎ ((r ≡ length old.told) × (told_now old l ≡ x))
+  told_cases r x at = slice_get-push_cases old.told (told_now old l) r x (subst (λ (ts : List MarkedLiteral). slice_get ts r ≡ Some x) told.told at)
 
   same_known : (i : ℕ) → known_at new i ≡ known_at old i
   same_known i = ap (λ (ks : List (Option Known)). slice_index_or ks i None) told.same
@@ -79,7 +79,7 @@ module _ (old new : Theory) (l : Lit) (tolds : AreTolds old) (told : IsTold old 
   backed_new : IsBacked new b
   backed_new = record {
     told = told_now old l;
-    at = subst (λ (ts : List Told). slice_get ts (length old.told) ≡ Some (told_now old l)) (sym told.told) (slice_get_last old.told (told_now old l));
+    at = subst (λ (ts : List MarkedLiteral). slice_get ts (length old.told) ≡ Some (told_now old l)) (sym told.told) (slice_get_last old.told (told_now old l));
     known = told.known;
     knows = same_known l.atom ∙ told.knows;
     form = refl;
@@ -92,14 +92,14 @@ module _ (old new : Theory) (l : Lit) (tolds : AreTolds old) (told : IsTold old 
   reasons i h at = let k = at_of (IsBacked old) old.simplex.asserted tolds.backed i h at in slice_get_within old.told h.reason k.told k.at
 
   abbrev Marks : List Held → Type 0
-  Marks bs = (r : ℕ) (x : Told) → slice_get new.told r ≡ Some x → IsMark bs r x.mark
+  Marks bs = (r : ℕ) (x : MarkedLiteral) → slice_get new.told r ≡ Some x → IsMark bs r x.mark
 
   same_marks : Marks old.simplex.asserted
   same_marks r x at =
       elim (told_cases r x at) [
         | inl was ↦ tolds.marks r x was
         | inr now ↦
-            let mark : x.mark ≡ length old.simplex.asserted = ap (λ (y : Told). y.mark) (sym now.1) in
+            let mark : x.mark ≡ length old.simplex.asserted = ap (λ (y : MarkedLiteral). y.mark) (sym now.1) in
             record {
               within = omega (arith, mark);
               before = λ i h there less. let k = reasons i h there in omega (arith, k, now.0);
@@ -123,11 +123,11 @@ module _ (old new : Theory) (l : Lit) (tolds : AreTolds old) (told : IsTold old 
         ];
       }
 
-  knows_more : (r : ℕ) (x : Told) → slice_get new.told r ≡ Some x → (k : Known) × (known_at new x.literal.atom ≡ Some k)
+  knows_more : (r : ℕ) (x : MarkedLiteral) → slice_get new.told r ≡ Some x → (k : Known) × (known_at new x.literal.atom ≡ Some k)
   knows_more r x at =
       elim (told_cases r x at) [
         | inl was ↦ let k = tolds.knows r x was in (k.0, same_known x.literal.atom ∙ k.1)
-        | inr now ↦ (told.known, ap (λ (y : Told). known_at new y.literal.atom) (sym now.1) ∙ same_known l.atom ∙ told.knows)
+        | inr now ↦ (told.known, ap (λ (y : MarkedLiteral). known_at new y.literal.atom) (sym now.1) ∙ same_known l.atom ∙ told.knows)
       ]
 
   listed_by : new.simplex.forms ≡ old.simplex.forms → (i : ℕ) (k : Known) → known_at new i ≡ Some k → k.form < length new.simplex.forms
@@ -156,18 +156,18 @@ module _ (old new : Theory) (l : Lit) (tolds : AreTolds old) (told : IsTold old 
 -- ---- The last are taken back
 
 -- after the first literals, so many of them, the bounds are those that stood before the next
-pub record IsUndone (old new : Theory) (k : ℕ) (x : Told) : Type 0 where
+pub record IsUndone (old new : Theory) (k : ℕ) (x : MarkedLiteral) : Type 0 where
   pub at : slice_get old.told k ≡ Some x
   pub known : new.known ≡ old.known
   pub told : new.told ≡ take k old.told
   pub simplex : new.simplex ≡ record old.simplex { asserted = take x.mark old.simplex.asserted }
 
-module _ (old new : Theory) (k : ℕ) (x : Told) (tolds : AreTolds old) (undone : IsUndone old new k x) where
+module _ (old new : Theory) (k : ℕ) (x : MarkedLiteral) (tolds : AreTolds old) (undone : IsUndone old new k x) where
   own : IsMark old.simplex.asserted k x.mark
   own = tolds.marks k x undone.at
 
-  was_told : (r : ℕ) (y : Told) → slice_get new.told r ≡ Some y → (slice_get old.told r ≡ Some y) × (r < k)
-  was_told r y at = slice_get_taken k old.told r y (subst (λ (ts : List Told). slice_get ts r ≡ Some y) undone.told at)
+  was_told : (r : ℕ) (y : MarkedLiteral) → slice_get new.told r ≡ Some y → (slice_get old.told r ≡ Some y) × (r < k)
+  was_told r y at = slice_get_taken k old.told r y (subst (λ (ts : List MarkedLiteral). slice_get ts r ≡ Some y) undone.told at)
 
   still : (i : ℕ) → known_at new i ≡ known_at old i
   still i = ap (λ (ks : List (Option Known)). slice_index_or ks i None) undone.known
@@ -185,7 +185,7 @@ module _ (old new : Theory) (k : ℕ) (x : Told) (tolds : AreTolds old) (undone 
       let backed = at_of (IsBacked old) old.simplex.asserted tolds.backed i h was.0 in
       record {
         told = backed.told;
-        at = subst (λ (ts : List Told). slice_get ts h.reason ≡ Some backed.told) (sym undone.told) (slice_get_front k old.told h.reason backed.told backed.at less);
+        at = subst (λ (ts : List MarkedLiteral). slice_get ts h.reason ≡ Some backed.told) (sym undone.told) (slice_get_front k old.told h.reason backed.told backed.at less);
         known = backed.known;
         knows = still backed.told.literal.atom ∙ backed.knows;
         form = backed.form;
@@ -194,7 +194,7 @@ module _ (old new : Theory) (k : ℕ) (x : Told) (tolds : AreTolds old) (undone 
       }
 
   -- earlier marks are no greater
-  pub mark_within : (r : ℕ) (y : Told) → slice_get old.told r ≡ Some y → r < k → y.mark ≤ x.mark
+  pub mark_within : (r : ℕ) (y : MarkedLiteral) → slice_get old.told r ≡ Some y → r < k → y.mark ≤ x.mark
   mark_within r y at less = by_order (order y.mark x.mark)
     where
       order : (m n : ℕ) → (m ≤ n) ⊎ (n < m)
@@ -250,14 +250,14 @@ stored_more find old new l stored told = record {
   tolds = tolds_more old new l stored.tolds told;
 }
 
-pub stored_undone : (find : Atom → Option ℕ) (old new : Theory) (k : ℕ) (x : Told) → IsStored find old → IsUndone old new k x → IsStored find new
+pub stored_undone : (find : Atom → Option ℕ) (old new : Theory) (k : ℕ) (x : MarkedLiteral) → IsStored find old → IsUndone old new k x → IsStored find new
 stored_undone find old new k x stored undone = record {
   forms = forms_move old.simplex new.simplex (forms_stay old new k x stored.tolds undone) stored.forms;
   finds = subst (FindsForms find) (sym (forms_stay old new k x stored.tolds undone)) stored.finds;
   tolds = tolds_undone old new k x stored.tolds undone;
 }
 
-pub told_here : (old new : Theory) (l : Lit) (k : Known) (s : Said) (reason : ℕ) → known_at old l.atom ≡ Some k → s ≡ said_by k l.sign → reason ≡ length old.told → new.known ≡ old.known
+pub told_here : (old new : Theory) (l : Lit) (k : Known) (s : SideBound) (reason : ℕ) → known_at old l.atom ≡ Some k → s ≡ said_by k l.sign → reason ≡ length old.told → new.known ≡ old.known
     → new.told ≡ old.told ++ told_now old l ∷ []
     → (let b = asserted k.form s.side s.value reason in ((new.simplex ≡ old.simplex) × IsImplied infinitesimal_cmp old.simplex.asserted b) ⊎ (IsBounded old.simplex new.simplex b × (¬ IsImplied infinitesimal_cmp old.simplex.asserted b)))
     → IsTold old new l
@@ -279,14 +279,14 @@ clash_among bs b other clash =
     (h, subst (λ (xs : List Held). Contains xs h) (sym t.parts) (Contains-append_right t.before (h ∷ t.after) h (has_first h t.after)), refl)
 
 -- the literal that another one clashes with
-pub clash_place : (t : Theory) (b : Held) (other : ℕ) → AreTolds t → ClashesWith infinitesimal_cmp t.simplex.asserted b other → (x : Told) × (slice_get t.told other ≡ Some x)
+pub clash_place : (t : Theory) (b : Held) (other : ℕ) → AreTolds t → ClashesWith infinitesimal_cmp t.simplex.asserted b other → (x : MarkedLiteral) × (slice_get t.told other ≡ Some x)
 clash_place t b other tolds clash =
     let h = clash_among t.simplex.asserted b other clash in
     let k = each_of (IsBacked t) t.simplex.asserted tolds.backed h.0 h.1 in
     (k.told, ap (slice_get t.told) (sym h.2) ∙ k.at)
 
-pub clashes_here : (t : Theory) (l : Lit) (k : Known) (s : Said) (reason other : ℕ) (o : Lit) → AreTolds t → s ≡ said_by k l.sign → reason ≡ length t.told
-    → ClashesWith infinitesimal_cmp t.simplex.asserted (asserted k.form s.side s.value reason) other → ((x : Told) → slice_get t.told other ≡ Some x → x.literal ≡ o) → Clashes t l k o
+pub clashes_here : (t : Theory) (l : Lit) (k : Known) (s : SideBound) (reason other : ℕ) (o : Lit) → AreTolds t → s ≡ said_by k l.sign → reason ≡ length t.told
+    → ClashesWith infinitesimal_cmp t.simplex.asserted (asserted k.form s.side s.value reason) other → ((x : MarkedLiteral) → slice_get t.told other ≡ Some x → x.literal ≡ o) → Clashes t l k o
 clashes_here t l k s reason other o tolds said place clash is =
     let x = clash_place t (asserted k.form s.side s.value reason) other tolds clash in
     record {
@@ -303,7 +303,7 @@ clash_handed P Q f (Ok (Some o)) h = f o h
 clash_handed P Q f (Err e) h = h
 
 pub clash_has : (t : Theory) (l : Lit) (k : Known) (o : Lit) → Clashes t l k o → Contains (told_lits t) o
-clash_has t l k o c = subst (Contains (told_lits t)) c.literal (map_has (λ (x : Told). x.literal) t.told c.told (has_found t.told c.place c.told c.at))
+clash_has t l k o c = subst (Contains (told_lits t)) c.literal (map_has (λ (x : MarkedLiteral). x.literal) t.told c.told (has_found t.told c.place c.told c.at))
 
 pub clash_known : (t : Theory) (l : Lit) (k : Known) (o : Lit) → AreTolds t → known_at t l.atom ≡ Some k → Clashes t l k o → AreKnown t (both l o)
 clash_known t l k o tolds knows c =

@@ -8,13 +8,13 @@ use Rattle.nz_lists.proofs.Members.{has_first, has_more}
 use Rattle.nz_fractions.specs.Fraction.{Fraction, whole, neg_ℚ}
 use Rattle.nz_fractions.proofs.Laws.{=ℚ_refl}
 use Rattle.nz_fractions.proofs.Signs.{above_told, below_told}
-use Rattle.nz_spec.specs.BasisMoves.{numbers}
-use Rattle.nz_spec.specs.Bland as bland
-use Rattle.nz_spec.specs.Bland.{bound_on}
-use Rattle.nz_spec.specs.Infinitesimal.{Infinitesimal}
-use Rattle.nz_spec.specs.Places.{IsSizeIn}
-use Rattle.nz_spec.specs.Table.{Node}
-use Rattle.nz_spec.specs.Term.{is_zero}
+use Rattle.nz_spec.specs.simplex.BasisMoves.{numbers}
+use Rattle.nz_spec.specs.simplex.Bland as bland
+use Rattle.nz_spec.specs.simplex.Bland.{bound_on}
+use Rattle.nz_spec.specs.numbers.Infinitesimal.{Infinitesimal}
+use Rattle.nz_spec.specs.search.Places.{IsSizeIn}
+use Rattle.nz_spec.specs.terms.Table.{Node}
+use Rattle.nz_spec.specs.terms.Term.{is_zero}
 use Rattle.nz_trail.specs.Bounds.{other_side}
 use Rattle.nz_trail.specs.declared.limits.Side.{Side}
 use Rattle.nz_trail.specs.declared.limits.Side.TheVariants.{Lower, Upper}

@@ -8,23 +8,23 @@ use Rattle.nz_lists.proofs.Members.{at_of, by_each, has_cases, has_found, has_mo
 use Rattle.nz_lists.proofs.Numbers.{equal-number, same-number}
 use Rattle.nz_fractions.specs.Fraction.{Fraction, whole, ◌=ℚ◌, ◌≤ℚ◌, ◌<ℚ◌, ◌+ℚ◌, ◌*ℚ◌, neg_ℚ}
 use Rattle.nz_fractions.proofs.Laws.{=ℚ_refl}
-use Rattle.nz_spec.specs.Basis.{Valuation, worth, form_at, HasItsUnits}
-use Rattle.nz_spec.specs.BasisMoves.{AreNumbered}
-use Rattle.nz_spec.specs.Bland.{Point, Position, HasBasis}
-use Rattle.nz_spec.specs.Decide.{IsValueOf}
-use Rattle.nz_spec.specs.Deciding.{IsMet}
-use Rattle.nz_spec.specs.Farkas.{bound_of}
-use Rattle.nz_spec.specs.Form as spec
-use Rattle.nz_spec.specs.Form.{unit_form, negated_part}
-use Rattle.nz_spec.specs.FormOf.{number_in, TermHasItsNumber}
-use Rattle.nz_spec.specs.Infinitesimal.{Infinitesimal, at}
-use Rattle.nz_spec.specs.Literal.{Literal, is_at_most, TellsLiterals}
-use Rattle.nz_spec.specs.LiteralBounds.{FormBound, bound_said, position_under}
-use Rattle.nz_spec.specs.PositionMoves.{IsReadyToCheck}
-use Rattle.nz_spec.specs.Table.{Node, OneNumber, term_in, listed_value}
-use Rattle.nz_spec.specs.Term as terms
-use Rattle.nz_spec.specs.Term.{Constant, constant, Head, Term, Value, number, number_of, default_value, real_sort, IsOfSort, ValueFits}
-use Rattle.nz_spec.specs.ToldBounds.{AreWithinAt, ChosenFractionsKeepBounds, ToldBoundsAreMet}
+use Rattle.nz_spec.specs.simplex.Basis.{Valuation, worth, form_at, HasItsUnits}
+use Rattle.nz_spec.specs.simplex.BasisMoves.{AreNumbered}
+use Rattle.nz_spec.specs.simplex.Bland.{Point, Position, HasBasis}
+use Rattle.nz_spec.specs.search.Decide.{IsValueOf}
+use Rattle.nz_spec.specs.laws.Deciding.{IsMet}
+use Rattle.nz_spec.specs.clauses.Farkas.{bound_of}
+use Rattle.nz_spec.specs.terms.Form as spec
+use Rattle.nz_spec.specs.terms.Form.{unit_form, negated_part}
+use Rattle.nz_spec.specs.terms.FormOf.{number_in, TermHasItsNumber}
+use Rattle.nz_spec.specs.numbers.Infinitesimal.{Infinitesimal, at}
+use Rattle.nz_spec.specs.clauses.Literal.{Literal, is_at_most, TellsLiterals}
+use Rattle.nz_spec.specs.simplex.LiteralBounds.{FormBound, bound_said, position_under}
+use Rattle.nz_spec.specs.simplex.PositionMoves.{IsReadyToCheck}
+use Rattle.nz_spec.specs.terms.Table.{Node, OneNumber, term_in, listed_value}
+use Rattle.nz_spec.specs.terms.Term as terms
+use Rattle.nz_spec.specs.terms.Term.{Constant, constant, Head, Term, Value, number, number_of, default_value, real_sort, IsOfSort, ValueFits}
+use Rattle.nz_spec.specs.laws.ToldBounds.{AreWithinAt, ChosenFractionsKeepBounds, ToldBoundsAreMet}
 use Rattle.nz_lin.specs.declared.bound.Bound.{Bound}
 use Rattle.nz_lin.specs.declared.form.Part.{Part}
 use Rattle.nz_lin.specs.Forms.{AreUnits, NamesUnit, negated, parts_over}
@@ -41,12 +41,12 @@ use Rattle.nz_reals.specs.Stands.{IsAt, IsFeasible, IsKnown, IsOf, IsOver}
 use Rattle.nz_reals.specs.State.{Theory, literal_over, sum_at, told_lits}
 use Rattle.nz_reals.specs.Stored.{AreForms}
 use Rattle.nz_reals.specs.Sums.{is_turned, turned_sum}
-use Rattle.nz_reals.proofs.Bounding.{said_bound}
-use Rattle.nz_reals.proofs.Choosing.{one_form}
-use Rattle.nz_reals.proofs.Contradicting.{some_known}
-use Rattle.nz_reals.proofs.Knowing.{is_known}
-use Rattle.nz_reals.proofs.Saying.{literal_is, literal_of_known}
-use Rattle.nz_reals.proofs.Standing.{position_is}
+use Rattle.nz_reals.proofs.LiteralForms.{said_bound}
+use Rattle.nz_reals.proofs.ConstantValues.{one_form}
+use Rattle.nz_reals.proofs.Contradictions.{some_known}
+use Rattle.nz_reals.proofs.KnownAtoms.{is_known}
+use Rattle.nz_reals.proofs.AtomBounds.{literal_is, literal_of_known}
+use Rattle.nz_reals.proofs.TheoryPositions.{position_is}
 use Rattle.nz_reals.proofs.Sums.{over_negated}
 
 -- ---- Values that are listed

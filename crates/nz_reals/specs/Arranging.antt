@@ -2,12 +2,12 @@
 use Rattle.std.specs.Prelude.{◌≡◌, ◌⊎◌, ℕ, Bool, true, List, [], All, Contains, Some, map, slice_get}
 use Rattle.std.specs.List.{AllByRecursion}
 use Rattle.nz_fractions.specs.Fraction.{Fraction}
-use Rattle.nz_spec.specs.Bland.{zero_infinitesimal}
-use Rattle.nz_spec.specs.Form as spec
-use Rattle.nz_spec.specs.Infinitesimal.{Infinitesimal}
-use Rattle.nz_spec.specs.Legal.{IsSumOf, IsTabled}
-use Rattle.nz_spec.specs.Table.{IsTable, Node}
-use Rattle.nz_spec.specs.Term.{Term}
+use Rattle.nz_spec.specs.simplex.Bland.{zero_infinitesimal}
+use Rattle.nz_spec.specs.terms.Form as spec
+use Rattle.nz_spec.specs.numbers.Infinitesimal.{Infinitesimal}
+use Rattle.nz_spec.specs.search.Legal.{IsSumOf, IsTabled}
+use Rattle.nz_spec.specs.terms.Table.{IsTable, Node}
+use Rattle.nz_spec.specs.terms.Term.{Term}
 use Rattle.nz_lin.specs.declared.bound.Bound.{Bound}
 use Rattle.nz_lin.specs.declared.form.Part.{Part}
 use Rattle.nz_lin.specs.Forms.{AreUnits, parts_over}
@@ -18,7 +18,7 @@ use Rattle.nz_log.specs.Atoms.{IsLitIn, literal_in}
 use Rattle.nz_simplex.specs.Moves.{KnowsNonbasicAlone, joined_over}
 use Rattle.nz_simplex.specs.State.{point_in, position_over}
 use Rattle.nz_reals.specs.Stands.{IsOver}
-use Rattle.nz_reals.specs.Known.{Said, said_at}
+use Rattle.nz_reals.specs.Known.{SideBound, said_at}
 use Rattle.nz_reals.specs.State.{Theory}
 use Rattle.nz_reals.specs.Sums.{AreNonzero, turned_sum}
 
@@ -60,7 +60,7 @@ pub record IsSumAmong (ns : List Node) (all : List Atom) (ids : List ℕ) (f : L
 -- ---- Where forms stand
 
 -- what a bound on a sum, or its negation, says
-abbrev pub IsSaidAt : List Part → Fraction → Said → Type 0
+abbrev pub IsSaidAt : List Part → Fraction → SideBound → Type 0
 IsSaidAt ps b s = (sign : Bool) × (s ≡ said_at ps b sign)
 
 -- a form stands at what a bound among these atoms, or its negation, says of it

@@ -2,18 +2,18 @@
 use Rattle.std.specs.Prelude.{◌≡◌, ℕ, ◌<◌, ◌⊎◌, Bool, List, [], ◌∷◌, ◌++◌, length, map, Contains, Option, Some, slice_get, true, unwrap_or}
 use Rattle.std.specs.List.{AllByRecursion}
 use Rattle.nz_fractions.specs.Fraction.{Fraction, ◌=ℚ◌, IsNumber}
-use Rattle.nz_spec.specs.Basis.{Valuation}
-use Rattle.nz_spec.specs.Bland.{Point, Position, HasValue}
-use Rattle.nz_spec.specs.Decide.{IsValueOf}
-use Rattle.nz_spec.specs.Deciding.{IsMet}
-use Rattle.nz_spec.specs.Form as form
-use Rattle.nz_spec.specs.Infinitesimal.{Infinitesimal, at}
-use Rattle.nz_spec.specs.Literal.{Literal, StandOnce}
-use Rattle.nz_spec.specs.Places.{IsChosen}
-use Rattle.nz_spec.specs.Table.{Node, listed_value, term_in}
-use Rattle.nz_spec.specs.Term as spec
-use Rattle.nz_spec.specs.Term.{Constant, constant, default_value, number_of, real_sort}
-use Rattle.nz_spec.specs.ToldBounds.{AreNumbers}
+use Rattle.nz_spec.specs.simplex.Basis.{Valuation}
+use Rattle.nz_spec.specs.simplex.Bland.{Point, Position, HasValue}
+use Rattle.nz_spec.specs.search.Decide.{IsValueOf}
+use Rattle.nz_spec.specs.laws.Deciding.{IsMet}
+use Rattle.nz_spec.specs.terms.Form as form
+use Rattle.nz_spec.specs.numbers.Infinitesimal.{Infinitesimal, at}
+use Rattle.nz_spec.specs.clauses.Literal.{Literal, StandOnce}
+use Rattle.nz_spec.specs.search.Places.{IsChosen}
+use Rattle.nz_spec.specs.terms.Table.{Node, listed_value, term_in}
+use Rattle.nz_spec.specs.terms.Term as spec
+use Rattle.nz_spec.specs.terms.Term.{Constant, constant, default_value, number_of, real_sort}
+use Rattle.nz_spec.specs.laws.ToldBounds.{AreNumbers}
 use Rattle.nz_lin.specs.declared.bound.Bound.{Bound}
 use Rattle.nz_lin.specs.declared.form.Part.{Part}
 use Rattle.nz_tab.specs.Units.{is_form_of}

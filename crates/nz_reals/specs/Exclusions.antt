@@ -2,21 +2,22 @@
 use Rattle.std.specs.Prelude.{◌≡◌, ◌≢◌, ℕ, ◌<◌, ◌-◌, ◌⊎◌, Bool, List, [], ◌∷◌, length, map, All, Contains, Some, IsSome, slice_get, true}
 use Rattle.std.specs.List.{AllAdjacentBelow}
 use Rattle.std.specs.declared.cmp.Ordering.TheVariants.{Greater}
-use Rattle.nz_spec.specs.Infinitesimal.{infinitesimal_cmp, ◌≤δ◌}
-use Rattle.nz_spec.specs.Table.{Node}
+use Rattle.nz_spec.specs.numbers.Infinitesimal.{infinitesimal_cmp, ◌≤δ◌}
+use Rattle.nz_spec.specs.terms.Table.{Node}
 use Rattle.nz_trail.specs.declared.limits.Side.TheVariants.{Lower, Upper}
 use Rattle.nz_delta.specs.DeltaSpace.{infinitesimal_of}
 use Rattle.nz_log.specs.declared.atoms.Atom.{Atom}
 use Rattle.nz_log.specs.declared.lits.Lit.{Lit}
-use Rattle.nz_log.specs.declared.place.Place.{Place}
+use Rattle.nz_place.specs.declared.place.Place.{Place}
 use Rattle.nz_log.specs.Atoms.{IsLitIn}
 use Rattle.nz_log.specs.Leveled.{AreToldAtoms}
 use Rattle.nz_log.specs.Lits.{negated_lit}
 use Rattle.nz_log.specs.Logs.{IsLive, LogState, entry_at, literals_at}
 use Rattle.nz_log.specs.Sound.{IsLog}
-use Rattle.nz_log.specs.Theories.{Grows, IsClash}
+use Rattle.nz_search.specs.Theories.{IsClash}
+use Rattle.nz_log.specs.Growth.{Grows}
 use Rattle.nz_reals.specs.declared.neighbours.Lower as code
-use Rattle.nz_reals.specs.Known.{Known, Said, said_by, said_on}
+use Rattle.nz_reals.specs.Known.{Known, SideBound, said_by, said_on}
 use Rattle.nz_reals.specs.Stands.{IsOver}
 use Rattle.nz_reals.specs.State.{Theory, known_at}
 use Rattle.nz_reals.specs.Tells.{IsSumPlace, both}
@@ -24,7 +25,7 @@ use Rattle.nz_reals.specs.Tells.{IsSumPlace, both}
 -- ---- Bounds
 
 -- The one is a lower bound, and the other an upper bound below it.
-pub record IsAbove (low high : Said) : Type 0 where
+pub record IsAbove (low high : SideBound) : Type 0 where
   pub lower : low.side ≡ Lower
   pub upper : high.side ≡ Upper
   pub greater : infinitesimal_cmp low.value high.value ≡ Greater

@@ -1,25 +1,25 @@
 -- What comes of an atom that the theory learns of.
 use Rattle.std.specs.Prelude.{◌≡◌, ℕ, ◌<◌, ◌⊎◌, true, false, List, length, ⊤, Some, slice_get}
 use Rattle.nz_fractions.specs.Fraction.{IsNumber}
-use Rattle.nz_spec.specs.Legal.{MayJoin, literal_by, sum_of_atom}
-use Rattle.nz_spec.specs.Table.{Node}
-use Rattle.nz_spec.specs.Work.{WorkList, NoteLine, with_line}
+use Rattle.nz_spec.specs.search.Legal.{MayJoin, literal_by, sum_of_atom}
+use Rattle.nz_spec.specs.terms.Table.{Node}
+use Rattle.nz_spec.specs.search.Work.{WorkList, NoteLine, with_line}
 use Rattle.nz_lin.specs.declared.bound.Bound.{Bound}
 use Rattle.nz_lin.specs.Bounds.{HasUnits}
 use Rattle.nz_lin.specs.declared.form.Part.{Part}
 use Rattle.nz_lin.specs.Forms.{AreUnits, parts_over}
 use Rattle.nz_tab.specs.Units.{is_unit_form}
-use Rattle.nz_tab.specs.declared.tab.TabStop.TheVariants as tab
+use Rattle.nz_term.specs.declared.stops.ArithmeticStop.TheVariants as arithmetic
 use Rattle.nz_simplex.specs.Moves.{JoinStops}
 use Rattle.nz_log.specs.declared.atoms.Atom.{Atom}
 use Rattle.nz_log.specs.declared.atoms.Atom.TheVariants.{Term, AtMost}
-use Rattle.nz_log.specs.declared.note.Note.{Note}
-use Rattle.nz_log.specs.declared.note.Note.TheVariants.{Form}
-use Rattle.nz_log.specs.declared.place.Site.TheVariants.{Joining}
-use Rattle.nz_log.specs.declared.stop.Stop.{Stop}
-use Rattle.nz_log.specs.declared.stop.Stop.TheVariants.{Wide, Spent, Memory}
+use Rattle.nz_search.specs.declared.note.Note.{Note}
+use Rattle.nz_search.specs.declared.note.Note.TheVariants.{Form}
+use Rattle.nz_place.specs.declared.place.Site.TheVariants.{Joining}
+use Rattle.nz_search.specs.declared.stop.Stop.{Stop}
+use Rattle.nz_search.specs.declared.stop.Stop.TheVariants.{Wide, Spent, Memory}
 use Rattle.nz_log.specs.Atoms.{literal_in}
-use Rattle.nz_log.specs.Standing.{search_after}
+use Rattle.nz_search.specs.Standing.{search_after}
 use Rattle.nz_reals.specs.Stands.{IsOver}
 use Rattle.nz_reals.specs.State.{Theory}
 use Rattle.nz_reals.specs.Sums.{AreNonzero, IsFormSum}
@@ -80,6 +80,6 @@ pub record IsNamedSum (ns : List Node) (f : List Part) (number : ℕ) (work : Wo
 -- why a sum doesn't join: want of memory, or the first operation on its row that leaves the numbers; a unit alone has no row
 abbrev pub StopsJoining : Theory → List Part → Stop → Type 0
 StopsJoining t f (Wide place) = (place.site ≡ Joining) × (is_unit_form f ≡ false) × IsNumber place.wide.a × IsNumber place.wide.b
-    × ((ns : List Node) → IsOver t ns → AreUnits ns f → JoinStops ns t.simplex f (tab.Wide place.wide))
+    × ((ns : List Node) → IsOver t ns → AreUnits ns f → JoinStops ns t.simplex f (arithmetic.Wide place.wide))
 StopsJoining t f Spent = ⊥
 StopsJoining t f Memory = ⊤

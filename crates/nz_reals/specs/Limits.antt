@@ -1,14 +1,14 @@
 -- A fraction for the infinitesimal: what the values of forms and their bounds allow, and where an operation leaves the numbers there.
 use Rattle.std.specs.Prelude.{◌≡◌, ℕ, zero, suc, ◌<◌, ◌⊎◌, List, [], ◌∷◌, ◌++◌, length, Contains, Option, Some, None, IsSome, option_map, unwrap_or}
 use Rattle.nz_fractions.specs.Fraction.{Fraction, IsNumber, Operation, Product, Sum, outcome}
-use Rattle.nz_spec.specs.Bland.{zero_infinitesimal}
-use Rattle.nz_spec.specs.Infinitesimal.{Infinitesimal, Pair, ◌≤δ◌, limit_operations}
-use Rattle.nz_spec.specs.Places.{LeavesNumbers, in_order}
+use Rattle.nz_spec.specs.simplex.Bland.{zero_infinitesimal}
+use Rattle.nz_spec.specs.numbers.Infinitesimal.{Infinitesimal, Pair, ◌≤δ◌, limit_operations}
+use Rattle.nz_spec.specs.search.Places.{LeavesNumbers, in_order}
 use Rattle.nz_frac.specs.Operations.{operation_of}
 use Rattle.nz_trail.specs.declared.limits.Side.{Side}
 use Rattle.nz_trail.specs.declared.limits.Side.TheVariants.{Lower, Upper}
-use Rattle.nz_log.specs.declared.place.Place.{Place}
-use Rattle.nz_log.specs.declared.place.Site.TheVariants.{Limit, Model}
+use Rattle.nz_place.specs.declared.place.Place.{Place}
+use Rattle.nz_place.specs.declared.place.Site.TheVariants.{Limit, Model}
 use Rattle.nz_simplex.specs.Standing.{bound_in, half}
 use Rattle.nz_simplex.specs.State.{value_in}
 use Rattle.nz_reals.specs.State.{Theory}

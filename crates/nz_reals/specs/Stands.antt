@@ -1,10 +1,10 @@
 -- What the theory was told, what it knows, and where it stands.
 use Rattle.std.specs.Prelude.{◌≡◌, ℕ, List, map, take, All, Some, IsSome, slice_get, false, ⊤}
-use Rattle.nz_spec.specs.Bland.{Point, lower_side, upper_side}
-use Rattle.nz_spec.specs.Form.{Part}
-use Rattle.nz_spec.specs.Literal as spec
-use Rattle.nz_spec.specs.LiteralBounds.{tightest}
-use Rattle.nz_spec.specs.Table.{Node}
+use Rattle.nz_spec.specs.simplex.Bland.{Point, lower_side, upper_side}
+use Rattle.nz_spec.specs.terms.Form.{Part}
+use Rattle.nz_spec.specs.clauses.Literal as spec
+use Rattle.nz_spec.specs.simplex.LiteralBounds.{tightest}
+use Rattle.nz_spec.specs.terms.Table.{Node}
 use Rattle.nz_lin.specs.declared.bound.Bound.{Bound}
 use Rattle.nz_lin.specs.Forms.{parts_over}
 use Rattle.nz_trail.specs.declared.limits.Side.TheVariants.{Lower, Upper}
@@ -15,7 +15,7 @@ use Rattle.nz_simplex.specs.Checks as checks
 use Rattle.nz_simplex.specs.Standing.{Held, bound_in}
 use Rattle.nz_simplex.specs.State as simplex
 use Rattle.nz_simplex.specs.State.{point_in}
-use Rattle.nz_reals.specs.declared.reals.Told.{Told}
+use Rattle.nz_reals.specs.declared.reals.MarkedLiteral.{MarkedLiteral}
 use Rattle.nz_reals.specs.Known.{Known, IsSaidOf}
 use Rattle.nz_reals.specs.State.{Theory, known_at, told_lits, literal_over}
 use Rattle.nz_reals.specs.Sums.{AreNonzero, turned_sum}
@@ -66,4 +66,4 @@ pub record IsAt (t : Theory) (ns : List Node) (fs : List (List Part)) (ls : List
   pub literals : ls ≡ map (literal_over ns t) (told_lits t)
   pub point : x ≡ point_in t.simplex
   pub bounds : AreBounds fs ls t.simplex.asserted
-  pub marks : (r : ℕ) (told : Told) → slice_get t.told r ≡ Some told → AreBounds fs (take r ls) (take told.mark t.simplex.asserted)
+  pub marks : (r : ℕ) (told : MarkedLiteral) → slice_get t.told r ≡ Some told → AreBounds fs (take r ls) (take told.mark t.simplex.asserted)

@@ -2,17 +2,17 @@
 use Rattle.std.specs.Prelude.{◌≡◌, ◌++◌, ℕ, Contains, List, None, map, slice_index_or}
 use Rattle.std.specs.declared.vec.Vec.{Vec}
 use Rattle.std.specs.declared.alloc.Global.{Global}
-use Rattle.nz_spec.specs.Legal.{MayBegin, Task, terms_known}
-use Rattle.nz_spec.specs.Table.{IsTable, Node}
-use Rattle.nz_spec.specs.Term.{Term}
-use Rattle.nz_spec.specs.Work.{NoteLine, WorkList, with_line}
+use Rattle.nz_spec.specs.search.Legal.{MayBegin, Task, terms_known}
+use Rattle.nz_spec.specs.terms.Table.{IsTable, Node}
+use Rattle.nz_spec.specs.terms.Term.{Term}
+use Rattle.nz_spec.specs.search.Work.{NoteLine, WorkList, with_line}
 use Rattle.nz_lin.specs.declared.form.Part.{Part}
 use Rattle.nz_lin.specs.Forms.{parts_over}
-use Rattle.nz_log.specs.declared.note.Note.{Note}
-use Rattle.nz_log.specs.declared.note.Note.TheVariants as notes
-use Rattle.nz_log.specs.declared.note.Start.{Start}
-use Rattle.nz_log.specs.Notes.{AreFormsWithin, places_of}
-use Rattle.nz_log.specs.Standing.{Stands}
+use Rattle.nz_search.specs.declared.note.Note.{Note}
+use Rattle.nz_search.specs.declared.note.Note.TheVariants as notes
+use Rattle.nz_search.specs.declared.note.StartNote.{StartNote}
+use Rattle.nz_search.specs.Notes.{AreFormsWithin, places_of}
+use Rattle.nz_search.specs.Standing.{Stands}
 use Rattle.nz_simplex.specs.State.{State, point_in}
 use Rattle.nz_reals.specs.Stands.{IsAt, IsOver}
 use Rattle.nz_reals.specs.State.{Theory, empty_theory}
@@ -22,13 +22,13 @@ abbrev pub MayRestart : Theory → List Node → List Term → Type 0
 MayRestart t ns ts = MayBegin ts (map (parts_over ns) t.simplex.forms) (point_in t.simplex)
 
 -- These are the forms of a simplex, and the places at which the nonbasic ones stand.
-pub record IsStart (s : State) (start : Start) : Type 0 where
+pub record IsStart (s : State) (start : StartNote) : Type 0 where
   pub forms : map (λ (f : Vec Part Global). f.items) start.forms.items ≡ s.forms
   pub places : (k : ℕ) → slice_index_or (places_of start.places.items) k None ≡ point_in s k
 
 -- One line more notes the forms of a theory, whose units are of each table of which the theory's are, and their places.
 pub record NotesStart (t : Theory) (old new : WorkList Note) : Type 0 where
-  pub start : Start
+  pub start : StartNote
   pub is : IsStart t.simplex start
   pub line : new ≡ with_line old (NoteLine (notes.Start start))
   pub within : (ns : List Node) → IsOver t ns → AreFormsWithin ns start.forms.items

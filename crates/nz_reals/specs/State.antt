@@ -1,14 +1,14 @@
 -- What a contract sees of the theory.
 use Rattle.std.specs.Prelude.{ℕ, List, [], Option, Some, None, map, option_map, slice_index_or, false}
-use Rattle.nz_spec.specs.Literal as spec
-use Rattle.nz_spec.specs.Literal.{term_literal}
-use Rattle.nz_spec.specs.Table.{Node, term_in}
+use Rattle.nz_spec.specs.clauses.Literal as spec
+use Rattle.nz_spec.specs.clauses.Literal.{term_literal}
+use Rattle.nz_spec.specs.terms.Table.{Node, term_in}
 use Rattle.nz_lin.specs.declared.form.Part.{Part}
 use Rattle.nz_lin.specs.Forms.{parts_over}
 use Rattle.nz_log.specs.declared.lits.Lit.{Lit}
 use Rattle.nz_simplex.specs.State.{State, empty_state}
 use Rattle.nz_reals.specs.declared.forms.Bounded.{Bounded}
-use Rattle.nz_reals.specs.declared.reals.Told.{Told}
+use Rattle.nz_reals.specs.declared.reals.MarkedLiteral.{MarkedLiteral}
 use Rattle.nz_reals.specs.Known.{Known, known_of, literal_by}
 
 -- The simplex, by the numbers of atoms what they say of its forms, and the literals that were told, the oldest first, each with the number of bounds that
@@ -16,7 +16,7 @@ use Rattle.nz_reals.specs.Known.{Known, known_of, literal_by}
 pub record Theory : Type 0 where
   pub simplex : State
   pub known : List (Option Known)
-  pub told : List Told
+  pub told : List MarkedLiteral
 
 abbrev pub empty_theory : Theory
 empty_theory = record { simplex = empty_state; known = []; told = [] }
@@ -34,7 +34,7 @@ sum_at t k = slice_index_or t.simplex.forms k []
 
 -- the literals that were told
 abbrev pub told_lits : Theory → List Lit
-told_lits t = map (λ (x : Told). x.literal) t.told
+told_lits t = map (λ (x : MarkedLiteral). x.literal) t.told
 
 -- the literal that was told at a place
 abbrev pub lit_at : Theory → ℕ → Lit

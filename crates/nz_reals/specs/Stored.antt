@@ -1,8 +1,8 @@
 -- What the fields of the theory are.
 use Rattle.std.specs.Prelude.{◌≡◌, ℕ, ◌<◌, ◌≤◌, false, List, length, Option, Some, slice_get}
 use Rattle.std.specs.List.{AllByRecursion}
-use Rattle.nz_spec.specs.Literal.{StandOnce}
-use Rattle.nz_spec.specs.Table.{Node}
+use Rattle.nz_spec.specs.clauses.Literal.{StandOnce}
+use Rattle.nz_spec.specs.terms.Table.{Node}
 use Rattle.nz_lin.specs.declared.bound.Bound.{Bound}
 use Rattle.nz_lin.specs.declared.form.Part.{Part}
 use Rattle.nz_log.specs.declared.atoms.Atom.{Atom}
@@ -10,7 +10,7 @@ use Rattle.nz_log.specs.declared.atoms.Atom.TheVariants.{AtMost}
 use Rattle.nz_simplex.specs.Standing.{Held}
 use Rattle.nz_simplex.specs.State.{State, IsOver}
 use Rattle.nz_tab.specs.Units.{is_unit_form}
-use Rattle.nz_reals.specs.declared.reals.Told.{Told}
+use Rattle.nz_reals.specs.declared.reals.MarkedLiteral.{MarkedLiteral}
 use Rattle.nz_reals.specs.Known.{Known, said_by}
 use Rattle.nz_reals.specs.State.{Theory, known_at}
 use Rattle.nz_reals.specs.Sums.{IsFormSum, zero_bound}
@@ -33,7 +33,7 @@ pub record FindsForms (find : Atom → Option ℕ) (fs : List (List Part)) : Typ
 
 -- A bound of the simplex is what a literal that was told says, whose place is its reason.
 pub record IsBacked (t : Theory) (b : Held) : Type 0 where
-  pub told : Told
+  pub told : MarkedLiteral
   pub at : slice_get t.told b.reason ≡ Some told
   pub known : Known
   pub knows : known_at t told.literal.atom ≡ Some known
@@ -51,8 +51,8 @@ pub record IsMark (bs : List Held) (r mark : ℕ) : Type 0 where
 pub record AreTolds (t : Theory) : Type 0 where
   pub listed : (i : ℕ) (k : Known) → known_at t i ≡ Some k → k.form < length t.simplex.forms
   pub backed : AllByRecursion (IsBacked t) t.simplex.asserted
-  pub knows : (r : ℕ) (x : Told) → slice_get t.told r ≡ Some x → (k : Known) × (known_at t x.literal.atom ≡ Some k)
-  pub marks : (r : ℕ) (x : Told) → slice_get t.told r ≡ Some x → IsMark t.simplex.asserted r x.mark
+  pub knows : (r : ℕ) (x : MarkedLiteral) → slice_get t.told r ≡ Some x → (k : Known) × (known_at t x.literal.atom ≡ Some k)
+  pub marks : (r : ℕ) (x : MarkedLiteral) → slice_get t.told r ≡ Some x → IsMark t.simplex.asserted r x.mark
 
 pub record IsStored (find : Atom → Option ℕ) (t : Theory) : Type 0 where
   pub forms : AreForms t.simplex

@@ -2,37 +2,33 @@
 use Rattle.std.specs.Prelude.{◌≡◌, ℕ, ◌⊎◌, List, [], ◌∷◌, ◌++◌, Contains, length, map, Some, IsSome, pos, slice_get}
 use Rattle.std.specs.List.{AllByRecursion}
 use Rattle.nz_fractions.specs.Fraction.{Fraction, whole}
-use Rattle.nz_spec.specs.Farkas as farkas
-use Rattle.nz_spec.specs.Farkas.{sum_of_multiples}
-use Rattle.nz_spec.specs.FormOf.{number_in}
-use Rattle.nz_spec.specs.Infinitesimal.{infinitesimal_cmp}
-use Rattle.nz_spec.specs.Notes.{sum_site}
-use Rattle.nz_spec.specs.Places.{LeavesNumbers}
-use Rattle.nz_spec.specs.Table.{Node}
+use Rattle.nz_spec.specs.clauses.Farkas as farkas
+use Rattle.nz_spec.specs.clauses.Farkas.{sum_of_multiples}
+use Rattle.nz_spec.specs.terms.FormOf.{number_in}
+use Rattle.nz_spec.specs.numbers.Infinitesimal.{infinitesimal_cmp}
+use Rattle.nz_spec.specs.search.Notes.{sum_site}
+use Rattle.nz_spec.specs.search.Places.{LeavesNumbers}
+use Rattle.nz_spec.specs.terms.Table.{Node}
 use Rattle.nz_frac.specs.Operations.{operation_of}
 use Rattle.nz_trail.specs.Bounds.{ClashesWith, IsImplied, asserted}
-use Rattle.nz_lin.specs.declared.bound.Multiple as lin
+use Rattle.nz_lin.specs.declared.bound.BoundMultiple as lin
 use Rattle.nz_lin.specs.Bounds as lin_bounds
 use Rattle.nz_lin.specs.Bounds.{HasUnits}
 use Rattle.nz_log.specs.declared.atoms.Atom.{Atom}
 use Rattle.nz_log.specs.Axioms.{multiples_in}
 use Rattle.nz_log.specs.declared.lits.Lit.{Lit}
-use Rattle.nz_log.specs.declared.multiples.Multiple.{Multiple}
-use Rattle.nz_log.specs.declared.place.Place.{Place}
-use Rattle.nz_log.specs.declared.place.Site.{Site}
-use Rattle.nz_log.specs.declared.place.Site.TheVariants.{Exchange, Value}
-use Rattle.nz_simplex.specs.declared.answer.Site as simplex
-use Rattle.nz_simplex.specs.declared.answer.Site.TheVariants.{Row, Point}
-use Rattle.nz_log.specs.Places.{IsSiteWithin, site_of}
-use Rattle.nz_spec.specs.Pivots.{Lead}
-use Rattle.nz_spec.specs.Work.{WorkList}
-use Rattle.nz_log.specs.declared.note.Note.{Note}
-use Rattle.nz_log.specs.Theories.{AddsPivots}
+use Rattle.nz_log.specs.declared.multiples.LitMultiple.{LitMultiple}
+use Rattle.nz_place.specs.declared.place.Place.{Place}
+use Rattle.nz_place.specs.Places.{IsSiteWithin, site_of}
+use Rattle.nz_spec.specs.simplex.Pivots.{Lead}
+use Rattle.nz_spec.specs.search.Work.{WorkList}
+use Rattle.nz_search.specs.declared.note.Note.{Note}
+use Rattle.nz_search.specs.Theories.{AddsPivots}
 use Rattle.nz_simplex.specs.State.{position_over}
 use Rattle.nz_simplex.specs.Contradictions.{Contradicts}
 use Rattle.nz_simplex.specs.Moves.{IsBounded}
 use Rattle.nz_simplex.specs.Standing.{Held}
-use Rattle.nz_reals.specs.declared.reals.Told.{Told}
+use Rattle.nz_reals.specs.declared.reals.MarkedLiteral.{MarkedLiteral}
 use Rattle.nz_reals.specs.Known.{Known, said_by}
 use Rattle.nz_reals.specs.Stands.{IsOver}
 use Rattle.nz_reals.specs.State.{Theory, known_at, lit_at, literal_over}
@@ -44,7 +40,7 @@ abbrev pub held_by : Known → Lit → ℕ → Held
 held_by k l reason = asserted k.form (said_by k l.sign).side (said_by k l.sign).value reason
 
 -- the literal, and how many bounds stood before
-abbrev pub told_now : Theory → Lit → Told
+abbrev pub told_now : Theory → Lit → MarkedLiteral
 told_now t l = record { literal = l; mark = length t.simplex.asserted }
 
 -- The literal stands last among those that were told. What it says stands as a bound, unless a bound that stands says as much.
@@ -60,7 +56,7 @@ pub record IsTold (old new : Theory) (l : Lit) : Type 0 where
 -- The literal clashes with one that was told: their bounds leave a form no value.
 pub record Clashes (t : Theory) (l : Lit) (k : Known) (other : Lit) : Type 0 where
   pub place : ℕ
-  pub told : Told
+  pub told : MarkedLiteral
   pub at : slice_get t.told place ≡ Some told
   pub literal : told.literal ≡ other
   pub clash : ClashesWith infinitesimal_cmp t.simplex.asserted (held_by k l (length t.told)) place
@@ -68,48 +64,43 @@ pub record Clashes (t : Theory) (l : Lit) (k : Known) (other : Lit) : Type 0 whe
 -- ---- Literals that aren't true together
 
 -- multiples of literals over a table
-abbrev pub multiples_over : List Node → Theory → List Multiple → List farkas.Multiple
-multiples_over ns t ms = map (λ (m : Multiple). record { literal = literal_over ns t m.literal; multiplier = m.multiplier }) ms
+abbrev pub multiples_over : List Node → Theory → List LitMultiple → List farkas.Multiple
+multiples_over ns t ms = map (λ (m : LitMultiple). record { literal = literal_over ns t m.literal; multiplier = m.multiplier }) ms
 
 -- the sum of these multiples is a contradiction, over each table
-abbrev pub Refutes : Theory → List Multiple → Type 0
+abbrev pub Refutes : Theory → List LitMultiple → Type 0
 Refutes t ms = (ns : List Node) → IsOver t ns → Contradicts (number_in ns) (multiples_over ns t ms)
 
 -- something is known of each
-abbrev pub AreKnown : Theory → List Multiple → Type 0
-AreKnown t ms = AllByRecursion (λ (m : Multiple). IsSome (known_at t m.literal.atom)) ms
+abbrev pub AreKnown : Theory → List LitMultiple → Type 0
+AreKnown t ms = AllByRecursion (λ (m : LitMultiple). IsSome (known_at t m.literal.atom)) ms
 
 -- they are of literals that were told
-abbrev pub AreOf : List Lit → List Multiple → Type 0
-AreOf ls ms = AllByRecursion (λ (m : Multiple). Contains ls m.literal) ms
+abbrev pub AreOf : List Lit → List LitMultiple → Type 0
+AreOf ls ms = AllByRecursion (λ (m : LitMultiple). Contains ls m.literal) ms
 
 -- a told literal and its multiplier
-abbrev pub multiple_at : Theory → ℕ × Fraction → Multiple
+abbrev pub multiple_at : Theory → ℕ × Fraction → LitMultiple
 multiple_at t w = record { literal = lit_at t w.0; multiplier = w.1 }
 
 -- An operation of the sum of these multiples leaves the numbers.
-pub record IsSumPlace (ns : List Node) (t : Theory) (ms : List Multiple) (place : Place) : Type 0 where
+pub record IsSumPlace (ns : List Node) (t : Theory) (ms : List LitMultiple) (place : Place) : Type 0 where
   pub site : site_of ns place.site ≡ sum_site (multiples_over ns t ms)
   pub of : Contains (sum_of_multiples (number_in ns) (multiples_over ns t ms)).operations (operation_of place.wide)
   pub leaves : LeavesNumbers (operation_of place.wide)
   pub within : IsSiteWithin ns place.site
 
 -- each of two literals, once
-abbrev pub both : Lit → Lit → List Multiple
+abbrev pub both : Lit → Lit → List LitMultiple
 both l other = record { literal = l; multiplier = whole (pos 1) } ∷ record { literal = other; multiplier = whole (pos 1) } ∷ []
 
-abbrev pub literals_of : List Multiple → List Lit
-literals_of ms = map (λ (m : Multiple). m.literal) ms
+abbrev pub literals_of : List LitMultiple → List Lit
+literals_of ms = map (λ (m : LitMultiple). m.literal) ms
 
 -- these bounds are what the literals of these multiples bound, with the multipliers
-pub record AreBoundsOf (ns : List Node) (atoms : List Atom) (ms : List Multiple) (bs : List lin.Multiple) : Type 0 where
+pub record AreBoundsOf (ns : List Node) (atoms : List Atom) (ms : List LitMultiple) (bs : List lin.BoundMultiple) : Type 0 where
   pub bounds : lin_bounds.multiples_over ns bs ≡ multiples_in ns atoms ms
-  pub units : AllByRecursion (λ (m : lin.Multiple). HasUnits ns m.bound) bs
-
--- the place of a computation of the simplex
-abbrev pub site_at : simplex.Site → Site
-site_at (Row leaves enters) = Exchange leaves enters
-site_at (Point form) = Value form
+  pub units : AllByRecursion (λ (m : lin.BoundMultiple). HasUnits ns m.bound) bs
 
 -- ---- A check
 

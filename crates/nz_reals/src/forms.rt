@@ -1,7 +1,7 @@
 //! What atoms say of the forms of a simplex.
 ghost use Rattle.std.specs.Prelude.{◌≡◌, Bool, IfOk, IfSome, List, None, true, false};
 ghost use Rattle.nz_fractions.specs.Fraction.{whole};
-ghost use Rattle.nz_spec.specs.Table.{IsTable, Node};
+ghost use Rattle.nz_spec.specs.terms.Table.{IsTable, Node};
 ghost use Rattle.nz_lin.specs.Bounds.{HasUnits};
 ghost use Rattle.nz_trail.specs.declared.limits.Side.TheVariants.{Lower};
 ghost use Rattle.nz_reals.specs.Exclusions.{IsAbove};
@@ -19,14 +19,14 @@ use std::cmp::Ordering;
 
 /// A bound on a side.
 #[derive(Clone, Copy, Debug)]
-pub(crate) struct Said {
+pub(crate) struct SideBound {
     pub side: Side,
     pub value: Delta,
 }
 
-impl Said {
+impl SideBound {
     /// Whether it is a lower bound, and the other one an upper bound below it.
-    pub(crate) fn is_above(&self, other: &Said) -> bool
+    pub(crate) fn is_above(&self, other: &SideBound) -> bool
         ensures above { result ≡ true → IsAbove (said_of self.now) (said_of other.now) }
         ensures meet { result ≡ false → IsAbove (said_of self.now) (said_of other.now) → ⊥ }
     {
@@ -45,8 +45,8 @@ impl Said {
 #[derive(Clone, Copy, Debug)]
 pub(crate) struct Bounded {
     pub var: Var,
-    pub yes: Said,
-    pub no: Said,
+    pub yes: SideBound,
+    pub no: SideBound,
 }
 
 impl Bounded {
@@ -94,7 +94,7 @@ impl Bounded {
     }
 
     /// What the atom says, or its negation.
-    pub(crate) fn said(&self, sign: bool) -> Said
+    pub(crate) fn said(&self, sign: bool) -> SideBound
         ensures said { said_of result ≡ said_by (known_of self.now) sign }
     {
         if sign { self.yes } else { self.no }
@@ -102,10 +102,10 @@ impl Bounded {
 }
 
 /// A number, and so many infinitesimals, on a side.
-fn on_side(side: Side, number: Frac, infinitesimals: i64) -> Said
+fn on_side(side: Side, number: Frac, infinitesimals: i64) -> SideBound
     ensures said { result ≡ record { side = side; value = record { c = number; k = whole infinitesimals } } }
 {
-    Said {
+    SideBound {
         side,
         value: Delta {
             c: number,

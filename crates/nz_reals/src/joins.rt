@@ -1,11 +1,11 @@
 //! Atoms that the theory learns of, and the forms that join for them.
 ghost use Rattle.std.specs.Prelude.{◌≡◌, ◌==◌, ◌<◌, ◌++◌, ℕ, List, [], ◌∷◌, IfErr, IfOk, IfSome, None, Ok, OnErr, OnOk, Some, length, slice_get, slice_index_or, true, if◌then◌else◌};
-ghost use Rattle.nz_spec.specs.Legal.{Task};
-ghost use Rattle.nz_spec.specs.Table.{Node};
+ghost use Rattle.nz_spec.specs.search.Legal.{Task};
+ghost use Rattle.nz_spec.specs.terms.Table.{Node};
 ghost use Rattle.nz_lin.specs.Forms.{AreUnits};
-ghost use Rattle.nz_log.specs.declared.stop.Stop.TheVariants as stop;
+ghost use Rattle.nz_search.specs.declared.stop.Stop.TheVariants as stop;
 ghost use Rattle.nz_log.specs.Atoms.{IsLitIn};
-ghost use Rattle.nz_log.specs.Standing.{Ends, Stands};
+ghost use Rattle.nz_search.specs.Standing.{Ends, Stands};
 ghost use Rattle.nz_simplex.specs.Moves.{joined_over};
 ghost use Rattle.nz_simplex.specs.State.{position_over};
 ghost use Rattle.nz_reals.specs.Arranging.{HasMoved, IsAtZero};
@@ -20,12 +20,14 @@ use crate::reals::{Reals, stored};
 use crate::refute::stopped;
 use nz_base::{Memory, Work};
 use nz_lin::Bound;
-use nz_log::{Atom, AtomId, Log, Note, Site, Stop};
+use nz_log::{Atom, AtomId, Log};
+use nz_place::Site;
+use nz_search::{Note, Stop};
 use nz_simplex::laws::joins_stop_at_rows;
 use nz_spec::derivation::tells_literals;
 use nz_spec::table::one_number;
 use nz_spec::work::legal_work_goes_on;
-use nz_tab::TabStop;
+use nz_term::ArithmeticStop;
 use nz_trail::Var;
 
 impl Reals {
@@ -117,8 +119,8 @@ impl Reals {
         self.forms.reserve(1)?;
         let var = match self.simplex.add_form(sum.form()) {
             Ok(var) => var,
-            Err(TabStop::Wide(wide)) => return Err(stopped(wide, Site::Joining)),
-            Err(TabStop::Memory) => return Err(Stop::Memory),
+            Err(ArithmeticStop::Wide(wide)) => return Err(stopped(wide, Site::Joining)),
+            Err(ArithmeticStop::Memory) => return Err(Stop::Memory),
         };
         self.forms.insert(Atom::AtMost(sum), var).unwrap();
         Ok(var)

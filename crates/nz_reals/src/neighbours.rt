@@ -3,7 +3,7 @@ ghost use Rattle.std.specs.Prelude.{◌≡◌, ◌<◌, ◌++◌, ℕ, List, [],
 ghost use Rattle.nz_log.specs.declared.atoms.Atom.{Atom};
 ghost use Rattle.nz_log.specs.declared.lits.Lit.{Lit};
 ghost use Rattle.nz_log.specs.Logs.{IsLive};
-ghost use Rattle.nz_log.specs.Theories.{IsClash};
+ghost use Rattle.nz_search.specs.Theories.{IsClash};
 ghost use Rattle.nz_reals.specs.Exclusions.{AddsOn, AreExcluded, AreJoined, AreLowers, AreOpposed, HasNeighbours, HasNoSum, IsExclusion, IsKnownOn, IsLower, IsPair, IsSaidLower, Joins, lits_of};
 ghost use Rattle.nz_reals.specs.Known.{known_of};
 ghost use Rattle.nz_reals.specs.Stands.{IsOf};
@@ -15,7 +15,8 @@ use crate::reals::{Reals, stored};
 use crate::refute::{both_once, refute};
 use nz_base::Memory;
 use nz_delta::Delta;
-use nz_log::{AtomId, ClauseId, Lit, Log, Stop};
+use nz_log::{AtomId, ClauseId, Lit, Log};
+use nz_search::Stop;
 use nz_simplex::laws::{clashes_contradict, literals_say_bounds, sums_stay};
 use nz_spec::derivation::tells_literals;
 use nz_spec::form::term_has_its_number;

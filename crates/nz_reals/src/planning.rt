@@ -3,7 +3,7 @@ ghost use Rattle.std.specs.Prelude.{◌<◌, All, IfSome, length};
 ghost use Rattle.nz_reals.specs.Arranging.{IsBoundAmong, IsSaidAt};
 ghost use Rattle.nz_reals.specs.Known.{said_of};
 
-use crate::forms::{Bounded, Said, zeroed};
+use crate::forms::{Bounded, SideBound, zeroed};
 use indexmap::IndexMap;
 use nz_base::Memory;
 use nz_delta::Delta;
@@ -43,7 +43,7 @@ pub(crate) struct Plan {
 
 /// Where a form is found, and the places of the atoms that bound it most tightly.
 #[derive(Clone, Copy, Debug)]
-struct Found<T> {
+struct FormLimits<T> {
     at: T,
     lower: Option<usize>,
     upper: Option<usize>,
@@ -57,8 +57,8 @@ struct Planned {
     unit_numbers: HashMap<TermId, usize>,
     // By the atoms that the sums are at most 0.
     sum_numbers: IndexMap<Atom, usize>,
-    units: Vec<Found<UnitAt>>,
-    sums: Vec<Found<usize>>,
+    units: Vec<FormLimits<UnitAt>>,
+    sums: Vec<FormLimits<usize>>,
 }
 
 /// A plan for the first check, under the bounds that these atoms say; truths are by the numbers of atoms.
@@ -79,9 +79,9 @@ pub(crate) fn plan_start(
     planned.plan()
 }
 
-impl<T> Found<T> {
-    fn new(at: T) -> Found<T> {
-        Found {
+impl<T> FormLimits<T> {
+    fn new(at: T) -> FormLimits<T> {
+        FormLimits {
             at,
             lower: None,
             upper: None,
@@ -151,7 +151,7 @@ impl Planned {
     }
 
     /// Adds what the atom of a place says.
-    fn add(&mut self, bound: &Bound, said: &Said, place: usize) -> Result<(), Memory> {
+    fn add(&mut self, bound: &Bound, said: &SideBound, place: usize) -> Result<(), Memory> {
         let form = match bound.parts() {
             [part] if is_alone(part) => {
                 Form::Unit(self.unit_number(part.unit, UnitAt { place, part: 0 })?)
@@ -193,7 +193,7 @@ impl Planned {
         }
         let number = self.system.add_unit()?;
         self.unit_numbers.insert(unit, number)?;
-        self.units.push(Found::new(at))?;
+        self.units.push(FormLimits::new(at))?;
         Ok(number)
     }
 
@@ -206,7 +206,7 @@ impl Planned {
         let cells = self.cells(&key)?;
         let number = self.system.add_sum(cells)?;
         self.sum_numbers.insert(key, number)?;
-        self.sums.push(Found::new(place))?;
+        self.sums.push(FormLimits::new(place))?;
         Ok(number)
     }
 
@@ -235,7 +235,7 @@ pub(crate) fn said_at<'a>(
     atoms: &[AtomId],
     truths: &[Option<bool>],
     place: usize,
-) -> Option<(&'a Bound, Said)>
+) -> Option<(&'a Bound, SideBound)>
     requires within { All (λ i. i < length log.now.atoms) atoms.now }
     ensures among { IfSome result (λ r. IsBoundAmong log.now.atoms atoms.now r.0.now) }
     ensures says { IfSome result (λ r. IsSaidAt r.0.now.sides.parts r.0.now.sides.offset (said_of r.1)) }

@@ -8,22 +8,22 @@ ghost use Rattle.nz_reals.specs.State.{empty_theory, known_at, told_lits};
 ghost use Rattle.nz_reals.specs.Stored.{AreForms, AreTolds};
 ghost use Rattle.nz_reals.specs.Tells.{AreKnown, Clashes, IsTold, Refutes, both, multiple_at};
 
-use crate::forms::{Bounded, Said};
+use crate::forms::{Bounded, SideBound};
 use indexmap::IndexMap;
 use nz_base::Memory;
 use nz_delta::Delta;
-use nz_log::{Atom, AtomId, Lit, Multiple};
+use nz_log::{Atom, AtomId, Lit, LitMultiple};
 use nz_simplex::laws::{clashes_contradict, literals_say_bounds, sums_stay};
 use nz_simplex::{Simplex, known_state};
 use nz_spec::derivation::tells_literals;
 use nz_spec::form::term_has_its_number;
-use nz_trail::{Bound, Var};
+use nz_trail::{AssertOutcome, Var};
 use std::alloc::Global;
 use std::marker::Model;
 
 /// A literal that was told, and how many bounds stood before.
 #[derive(Clone, Copy, Debug)]
-pub(crate) struct Told {
+pub(crate) struct MarkedLiteral {
     pub literal: Lit,
     pub mark: usize,
 }
@@ -38,7 +38,7 @@ pub struct Reals {
     pub(crate) forms: IndexMap<Atom, Var>,
     // By the numbers of atoms in the log.
     pub(crate) bounded: Vec<Option<Bounded>>,
-    pub(crate) told: Vec<Told>,
+    pub(crate) told: Vec<MarkedLiteral>,
 }
 
 impl Model for Reals {
@@ -116,7 +116,7 @@ impl Reals {
         &mut self,
         literal: Lit,
         bounded: &Bounded,
-        said: &Said,
+        said: &SideBound,
     ) -> Result<Option<Lit>, Memory>
         requires known { known_at self.old literal.atom ≡ Some (known_of bounded.now) }
         requires said { said_of said.now ≡ said_by (known_of bounded.now) literal.sign }
@@ -132,26 +132,26 @@ impl Reals {
             .simplex
             .assert_bound(bounded.var, said.side, said.value, reason)?
         {
-            Bound::Clash(_, other) => Ok(Some(self.told[other].literal)),
-            Bound::Kept => {
-                self.told.push(Told { literal, mark }).unwrap();
+            AssertOutcome::Clash(_, other) => Ok(Some(self.told[other].literal)),
+            AssertOutcome::Kept => {
+                self.told.push(MarkedLiteral { literal, mark }).unwrap();
                 Ok(None)
             }
-            Bound::Tighter => {
-                self.told.push(Told { literal, mark }).unwrap();
+            AssertOutcome::Tighter => {
+                self.told.push(MarkedLiteral { literal, mark }).unwrap();
                 Ok(None)
             }
         }
     }
 
     /// The multiples of literals that the last clash of the simplex rests on.
-    pub(crate) fn multiples(&self) -> Result<Vec<Multiple>, Memory>
+    pub(crate) fn multiples(&self) -> Result<Vec<LitMultiple>, Memory>
         requires told { All (λ w. w.0 < length self.now.told) self.now.simplex.why }
         ensures multiples { IfOk result (λ ms. ms.items ≡ map (multiple_at self.now) self.now.simplex.why) }
     {
         let mut multiples = Vec::new(self.alloc);
         for (reason, multiplier) in self.simplex.why() {
-            multiples.push(Multiple {
+            multiples.push(LitMultiple {
                 literal: self.told[*reason].literal,
                 multiplier: *multiplier,
             })?;

@@ -1,14 +1,15 @@
 //! Clauses that say why literals aren't true together.
 ghost use Rattle.std.specs.Prelude.{◌≡◌, ℕ, List, All, IfErr, IfOk};
 ghost use Rattle.nz_fractions.specs.Fraction.{IsNumber};
-ghost use Rattle.nz_spec.specs.Table.{Node};
+ghost use Rattle.nz_spec.specs.terms.Table.{Node};
 ghost use Rattle.nz_log.specs.declared.lits.Lit.{Lit};
-ghost use Rattle.nz_log.specs.declared.stop.Stop.TheVariants as stop;
+ghost use Rattle.nz_search.specs.declared.stop.Stop.TheVariants as stop;
 ghost use Rattle.nz_log.specs.Axioms.{AreMultiplesIn};
 ghost use Rattle.nz_log.specs.Leveled.{AreTold};
-ghost use Rattle.nz_log.specs.Places.{OnWide};
+ghost use Rattle.nz_search.specs.Places.{OnWide};
 ghost use Rattle.nz_log.specs.Sound.{IsLog};
-ghost use Rattle.nz_log.specs.Theories.{Grows, IsBoundIn, IsClash};
+ghost use Rattle.nz_search.specs.Theories.{IsBoundIn, IsClash};
+ghost use Rattle.nz_log.specs.Growth.{Grows};
 ghost use Rattle.nz_lin.specs.Bounds.{HasUnits, literal_over};
 ghost use Rattle.nz_log.specs.Atoms.{IsLitIn, literal_in};
 ghost use Rattle.nz_reals.specs.Exclusions.{Keeps};
@@ -19,19 +20,21 @@ use crate::reals::{Reals, stored};
 use nz_base::Memory;
 use nz_frac::{Frac, Wide};
 use nz_lin as lin;
-use nz_lin::LinStop;
 use nz_log::laws::tells_lits;
-use nz_log::{Atom, ClauseId, Lit, Log, Multiple, Place, Site, Stop};
+use nz_log::{Atom, ClauseId, Lit, LitMultiple, Log};
+use nz_place::{Place, Site};
+use nz_search::Stop;
 use nz_simplex::laws::{contradictions_stay, sums_stay};
 use nz_spec::derivation::tells_literals;
 use nz_spec::form::term_has_its_number;
+use nz_term::ArithmeticStop;
 use std::alloc::Global;
 
 /// The clause that one of these literals is false, since the sum of their multiples is a contradiction.
 pub(crate) fn refute(
     theory: &Reals,
     log: &mut Log,
-    multiples: &[Multiple],
+    multiples: &[LitMultiple],
 ) -> Result<ClauseId, Stop>
     requires of { (ids : List ℕ) × IsOf theory.now log.old.atoms ids }
     requires known { AreKnown theory.now multiples.now }
@@ -51,25 +54,25 @@ pub(crate) fn refute(
     stored(theory);
     match log.farkas(multiples) {
         Ok(clause) => Ok(clause),
-        Err(LinStop::Wide(wide)) => {
+        Err(ArithmeticStop::Wide(wide)) => {
             let bounds = bounds_of(theory.alloc, log, multiples)?;
             Err(stopped(wide, Site::Sum(bounds)))
         }
-        Err(LinStop::Memory) => Err(Stop::Memory),
+        Err(ArithmeticStop::Memory) => Err(Stop::Memory),
     }
 }
 
 /// Each of two literals, once.
-pub(crate) fn both_once(literal: Lit, other: Lit) -> [Multiple; 2]
+pub(crate) fn both_once(literal: Lit, other: Lit) -> [LitMultiple; 2]
     ensures both { result ≡ both literal other }
 {
     let one = Frac::whole(1);
     [
-        Multiple {
+        LitMultiple {
             literal,
             multiplier: one,
         },
-        Multiple {
+        LitMultiple {
             literal: other,
             multiplier: one,
         },
@@ -86,14 +89,18 @@ pub(crate) fn stopped(wide: Wide, site: Site) -> Stop
 }
 
 /// The bounds of these literals, with their multipliers.
-fn bounds_of(alloc: Global, log: &Log, multiples: &[Multiple]) -> Result<Vec<lin::Multiple>, Memory>
+fn bounds_of(
+    alloc: Global,
+    log: &Log,
+    multiples: &[LitMultiple],
+) -> Result<Vec<lin::BoundMultiple>, Memory>
     requires bounds { All (λ m. IsBoundIn log.now m.literal) multiples.now }
     ensures bounds { IfOk result (λ bs. (ns : List Node) → AreMultiplesIn ns log.now.atoms multiples.now → AreBoundsOf ns log.now.atoms multiples.now bs.items) }
 {
     let mut bounds = Vec::new(alloc);
     for multiple in multiples {
         let bound = bound_of(alloc, log, multiple.literal)?;
-        bounds.push(lin::Multiple {
+        bounds.push(lin::BoundMultiple {
             bound,
             multiplier: multiple.multiplier,
         })?;

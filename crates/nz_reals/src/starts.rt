@@ -2,13 +2,13 @@
 ghost use Rattle.std.specs.Prelude.{◌≡◌, ◌<◌, ℕ, List, [], IfOk, None, OnErr, OnOk, length, map, option_map, slice_index_or};
 ghost use Rattle.std.specs.declared.vec.Vec.{Vec};
 ghost use Rattle.std.specs.declared.alloc.Global.{Global};
-ghost use Rattle.nz_spec.specs.Legal.{Task, terms_known};
-ghost use Rattle.nz_spec.specs.Table.{Node};
+ghost use Rattle.nz_spec.specs.search.Legal.{Task, terms_known};
+ghost use Rattle.nz_spec.specs.terms.Table.{Node};
 ghost use Rattle.nz_delta.specs.DeltaSpace.{infinitesimal_of};
 ghost use Rattle.nz_lin.specs.declared.form.Part.{Part};
 ghost use Rattle.nz_log.specs.declared.atoms.Atom.{Atom};
-ghost use Rattle.nz_log.specs.Notes.{places_of};
-ghost use Rattle.nz_log.specs.Standing.{Stands};
+ghost use Rattle.nz_search.specs.Notes.{places_of};
+ghost use Rattle.nz_search.specs.Standing.{Stands};
 ghost use Rattle.nz_simplex.specs.State.{point_in};
 ghost use Rattle.nz_reals.specs.Stands.{HasTold, IsAt, IsOf, IsOver};
 ghost use Rattle.nz_reals.specs.State.{empty_theory};
@@ -18,7 +18,7 @@ use crate::reals::{Reals, stored};
 use nz_base::{Memory, Work};
 use nz_delta::Delta;
 use nz_lin::Part;
-use nz_log::{Note, Start};
+use nz_search::{Note, StartNote};
 use nz_trail::Var;
 
 impl Reals {
@@ -54,13 +54,13 @@ impl Reals {
     }
 
     /// The forms, and where the nonbasic ones stand.
-    fn start(&self) -> Result<Start, Memory>
+    fn start(&self) -> Result<StartNote, Memory>
         ensures start { IfOk result (IsStart self.now.simplex) }
     {
         stored(self);
         let forms = self.form_lists()?;
         let places = self.places()?;
-        Ok(Start { forms, places })
+        Ok(StartNote { forms, places })
     }
 
     /// The parts of each form.

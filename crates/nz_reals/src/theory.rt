@@ -1,24 +1,24 @@
 //! The theory as a search asks it.
 ghost use Rattle.std.specs.Prelude.{◌≡◌, List, IfErr, Ok, false, true};
-ghost use Rattle.nz_fractions.specs.Fraction.{IsNumber};
-ghost use Rattle.nz_log.specs.declared.stop.Stop.TheVariants as stop;
-ghost use Rattle.nz_spec.specs.Bland.{Point};
-ghost use Rattle.nz_spec.specs.Form.{Part};
-ghost use Rattle.nz_spec.specs.Literal.{Literal};
-ghost use Rattle.nz_spec.specs.LiteralBounds.{position_under};
-ghost use Rattle.nz_spec.specs.Table.{Node};
-ghost use Rattle.nz_spec.specs.Work.{IsSpent};
-ghost use Rattle.nz_log.specs.Places.{IsPlaceIn, OnWide};
+ghost use Rattle.nz_search.specs.declared.stop.Stop.TheVariants as stop;
+ghost use Rattle.nz_spec.specs.simplex.Bland.{Point};
+ghost use Rattle.nz_spec.specs.terms.Form.{Part};
+ghost use Rattle.nz_spec.specs.clauses.Literal.{Literal};
+ghost use Rattle.nz_spec.specs.simplex.LiteralBounds.{position_under};
+ghost use Rattle.nz_spec.specs.terms.Table.{Node};
+ghost use Rattle.nz_spec.specs.search.Work.{IsSpent};
+ghost use Rattle.nz_place.specs.Places.{IsPlaceIn};
+ghost use Rattle.nz_search.specs.Places.{OnWide};
 ghost use Rattle.nz_simplex.specs.Checks.{IsRefuted};
 ghost use Rattle.nz_simplex.specs.State.{position_over};
 ghost use Rattle.nz_reals.specs.Stands.{IsFeasible, IsOver};
-ghost use Rattle.nz_reals.specs.Tells.{IsMoved, site_at};
+ghost use Rattle.nz_reals.specs.Tells.{IsMoved};
 
 use crate::reals::{Reals, stored};
-use crate::refute::{both_once, refute, stopped};
+use crate::refute::{both_once, refute};
 use nz_base::Work;
-use nz_log::{ClauseId, Lit, Log, Note, Site, Stop, Theory};
-use nz_simplex as simplex;
+use nz_log::{ClauseId, Lit, Log};
+use nz_search::{Note, Stop, Theory};
 use nz_simplex::laws::{clashes_contradict, literals_say_bounds, sums_stay};
 use nz_simplex::{Check, SimplexStop, known_state};
 use nz_spec::deciding::telling_sets_bounds;
@@ -26,25 +26,6 @@ use nz_spec::derivation::tells_literals;
 use nz_spec::form::term_has_its_number;
 use nz_spec::infinitesimal::infinitesimals_are_ordered;
 use nz_spec::table::one_number;
-
-/// A stop at a place of the simplex.
-fn stopped_at(place: simplex::Place) -> Stop
-    ensures stop { result ≡ stop.Wide (record { wide = place.wide; site = site_at place.site }) }
-    ensures left { IsNumber place.wide.a }
-    ensures right { IsNumber place.wide.b }
-{
-    stopped(place.wide, site_of(place.site))
-}
-
-/// The place of a computation of the simplex.
-fn site_of(site: simplex::Site) -> Site
-    ensures site { result ≡ site_at site }
-{
-    match site {
-        simplex::Site::Row { leaves, enters } => Site::Exchange { leaves, enters },
-        simplex::Site::Point { form } => Site::Value { form },
-    }
-}
 
 impl Theory for Reals {
     ghost use Rattle.nz_reals.specs.Stands.{HasTold, IsAt, IsFeasible, IsOf, IsOver};
@@ -124,7 +105,7 @@ impl Reals {
             }
             Err(SimplexStop::Wide(place)) => {
                 known_state(&self.simplex);
-                Err(stopped_at(place))
+                Err(Stop::Wide(place))
             }
         }
     }

@@ -1,1 +1,1 @@
-mod Ordering
+mod TheoryOverLog

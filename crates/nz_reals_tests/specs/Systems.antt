@@ -1,7 +1,7 @@
 -- A theory with a log, over a table of terms and atoms on them.
 use Rattle.std.specs.Prelude.{◌≡◌, ℕ, ◌<◌, Bool, List, length, All, Contains, IsSome, Some, false, slice_get}
-use Rattle.nz_spec.specs.Table.{Node}
-use Rattle.nz_spec.specs.Term.{is_zero}
+use Rattle.nz_spec.specs.terms.Table.{Node}
+use Rattle.nz_spec.specs.terms.Term.{is_zero}
 use Rattle.nz_lin.specs.declared.bound.Bound.{Bound}
 use Rattle.nz_lin.specs.declared.form.Part.{Part}
 use Rattle.nz_log.specs.declared.atoms.Atom.TheVariants.{AtMost}

@@ -56,7 +56,7 @@ const CLASHES: &[Act] = &[
 ];
 
 #[test]
-fn bounds_clash_over_rows(rt: HostRuntime) -> Result<(), Fail> {
+fn test_bounds_clash_over_rows(rt: HostRuntime) -> Result<(), Fail> {
     run(rt.alloc(), ROWS, CLASHES)
 }
 
@@ -73,7 +73,7 @@ const REFUSED: &[Act] = &[
 ];
 
 #[test]
-fn a_bound_is_refused(rt: HostRuntime) -> Result<(), Fail> {
+fn test_a_bound_is_refused(rt: HostRuntime) -> Result<(), Fail> {
     run(rt.alloc(), ROWS, REFUSED)
 }
 
@@ -100,7 +100,7 @@ const RESTARTED: &[Act] = &[
 ];
 
 #[test]
-fn a_theory_begins_anew_over_its_forms(rt: HostRuntime) -> Result<(), Fail> {
+fn test_a_theory_begins_anew_over_its_forms(rt: HostRuntime) -> Result<(), Fail> {
     run(rt.alloc(), ROWS, RESTARTED)
 }
 
@@ -139,7 +139,7 @@ const ARRANGED: &[Act] = &[
 ];
 
 #[test]
-fn a_theory_begins_anew_over_arranged_forms(rt: HostRuntime) -> Result<(), Fail> {
+fn test_a_theory_begins_anew_over_arranged_forms(rt: HostRuntime) -> Result<(), Fail> {
     run(rt.alloc(), BROKEN, ARRANGED)
 }
 
@@ -151,6 +151,6 @@ const NEIGHBOURS: &[Act] = &[
 ];
 
 #[test]
-fn neighbouring_bounds_exclude_each_other(rt: HostRuntime) -> Result<(), Fail> {
+fn test_neighbouring_bounds_exclude_each_other(rt: HostRuntime) -> Result<(), Fail> {
     run(rt.alloc(), ROWS, NEIGHBOURS)
 }

@@ -2,17 +2,18 @@
 //! system's invariant is known to no other file.
 ghost use Rattle.std.specs.Prelude.{◌≡◌, ◌<◌, ℕ, [], All, IfOk, IfSome, IsSome, OnOk, false};
 ghost use Rattle.std.specs.Bool.{OnTrue};
-ghost use Rattle.nz_spec.specs.Term.{is_zero};
+ghost use Rattle.nz_spec.specs.terms.Term.{is_zero};
 ghost use Rattle.nz_lin.specs.Bounds.{HasUnits};
 ghost use Rattle.nz_log.specs.Logs.{IsLive, told_of};
 ghost use Rattle.nz_reals_tests.specs.Systems.{IsInOrder, IsSum};
 
 use nz_base::{Memory, Work};
 use nz_frac::Frac;
-use nz_lin::{Bound, LinStop, Part, lin};
-use nz_log::{Atom, AtomId, ClauseId, Lit, Literal, Log, Note, Stop, Theory};
+use nz_lin::{Bound, Part, lin};
+use nz_log::{Atom, AtomId, ClauseId, Lit, Literal, Log};
 use nz_reals::Reals;
-use nz_term::{Assign, NumberSort, Operator, Sort, TermId, Terms, known_table};
+use nz_search::{Note, Stop, Theory};
+use nz_term::{ArithmeticStop, Assign, NumberSort, Operator, Sort, TermId, Terms, known_table};
 use nz_term_samples::{constant, multiple, operation};
 use std::alloc::Global;
 use std::marker::Model;
@@ -256,11 +257,11 @@ fn place_all(log: &mut Log, count: usize) -> Result<(), Memory>
 }
 
 /// That a term is at most a number. A term that isn't linear fails the test.
-fn bound_on(alloc: Global, terms: &Terms, term: TermId, limit: i64) -> Result<Bound, LinStop>
+fn bound_on(alloc: Global, terms: &Terms, term: TermId, limit: i64) -> Result<Bound, ArithmeticStop>
     ensures units { IfOk result (HasUnits terms.now) }
 {
     if terms.len() <= term || !terms.is_linear(term) {
-        return Err(LinStop::Memory);
+        return Err(ArithmeticStop::Memory);
     }
     let form = lin(alloc, terms, term)?;
     Ok(Bound::at_most_zero(form).with_limit(Frac::whole(limit)))

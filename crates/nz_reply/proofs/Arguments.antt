@@ -1,7 +1,7 @@
 -- The argument of a command.
 use Rattle.std.proofs.Common.{◌≡◌, List, [], ◌∷◌, length, None, refl}
 use Rattle.nz_sexpr.specs.declared.tree.Tree as code
-use Rattle.nz_spec.specs.Argument.{argument_in}
+use Rattle.nz_script.specs.commands.Argument.{argument_in}
 use Rattle.nz_sexpr.specs.View.{seen}
 
 -- a list of another length than two has none

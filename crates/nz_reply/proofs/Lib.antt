@@ -1,7 +1,7 @@
 pub mod Arguments
-pub mod Keeping
+pub mod JournalPreservation
 pub mod Models
 pub mod Pairs
 pub mod Quotes
 pub mod Spaces
-pub mod Writing
+pub mod TextPieces

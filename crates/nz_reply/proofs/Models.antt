@@ -1,6 +1,6 @@
 -- The texts of models.
 use Rattle.std.proofs.Common.{◌≡◌, List, [], ◌∷◌, ◌++◌, map, flat_map, refl, ap}
-use Rattle.nz_spec.specs.Reply.{binding_text}
+use Rattle.nz_script.specs.replies.Reply.{binding_text}
 use Rattle.nz_reply.specs.declared.reply.Binding.{Binding}
 use Rattle.nz_reply.specs.Bindings.{binding_of}
 

@@ -1,6 +1,6 @@
 -- The texts of terms with what is told of them.
 use Rattle.std.proofs.Common.{◌≡◌, ℕ, ◌+◌, ◌<◌, ◌≤◌, zero, suc, List, [], ◌∷◌, ◌++◌, length, get_or, drop, map, codes, refl, sym, ap, ◌∙◌, append_assoc, arith, drop-cons, add-one, min}
-use Rattle.nz_spec.specs.Reply.{line_feed, list_text, shown_pair_text, shown_text, tree_text}
+use Rattle.nz_script.specs.replies.Reply.{list_text, shown_pair_text, shown_text, tree_text}
 use Rattle.nz_sexpr.specs.View.{view, seen}
 use Rattle.nz_sexpr.specs.declared.tree.Tree as code
 use Rattle.nz_reply.specs.Trees.{space_before}
@@ -41,7 +41,3 @@ pairs_end (t ∷ ts) (s ∷ ss) zero h = absurd (omega (arith, h))
 pairs_end [] ss (suc i) h = refl
 pairs_end (t ∷ ts) [] (suc i) h = pairs_of_none (drop i ts)
 pairs_end (t ∷ ts) (s ∷ ss) (suc i) h = pairs_end ts ss i (omega (arith, h))
-
--- the text of all
-pub values_whole : (text : List ℕ) → (40 ∷ text ++ 41 ∷ []) ++ line_feed ≡ codes "(" ++ text ++ codes ")\n"
-values_whole text = simp append_assoc

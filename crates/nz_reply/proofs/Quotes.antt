@@ -1,7 +1,7 @@
 -- A text with each quote twice, run by run.
 use Rattle.std.proofs.Common.{◌≡◌, ℕ, ◌+◌, ◌-◌, ◌<◌, ◌≤◌, ◌==◌, Bool, false, List, [], ◌∷◌, ◌++◌, length, get_or, take, drop, if◌then◌else◌, sym, ap, ◌∙◌, append-nil, append_assoc, arith}
 use Rattle.std.proofs.lemmas.List.{take_more, get_or-drop, length-drop, take_all, drop_all, drop_more}
-use Rattle.nz_spec.specs.Text.{with_quotes_doubled}
+use Rattle.nz_script.specs.text.Text.{with_quotes_doubled}
 
 -- the run from its start up to a place
 abbrev pub run : List ℕ → ℕ → ℕ → List ℕ

@@ -1,7 +1,7 @@
 -- Lists of texts with spaces, and the sizes of trees.
 use Rattle.std.proofs.Common.{◌≡◌, ℕ, ◌+◌, ◌<◌, ◌≤◌, zero, suc, List, [], ◌∷◌, ◌++◌, length, get_or, drop, flat_map, refl, sym, ap, ◌∙◌, append-nil, append_assoc, arith, drop-cons, add-one}
 use Rattle.std.proofs.lemmas.List.{drop_all}
-use Rattle.nz_spec.specs.Reply.{spaced, tree_text, tree_texts}
+use Rattle.nz_script.specs.replies.Reply.{spaced, tree_text, tree_texts}
 use Rattle.nz_sexpr.specs.View.{view, seen}
 use Rattle.nz_sexpr.specs.declared.tree.Tree as code
 use Rattle.nz_reply.specs.Trees.{space_before}

@@ -1,5 +1,5 @@
 -- What an info of the code is.
-use Rattle.nz_spec.specs.Command as commands
+use Rattle.nz_script.specs.commands.Command as commands
 use Rattle.nz_reply.specs.declared.reply.Info.{Info}
 use Rattle.nz_reply.specs.declared.reply.Info.TheVariants as info
 

@@ -1,7 +1,7 @@
 -- What a journal holds, where its numbers are those of a table.
 use Rattle.std.specs.Prelude.{List}
-use Rattle.nz_spec.specs.Table.{Node}
-use Rattle.nz_spec.specs.Transcript.{Kept}
+use Rattle.nz_spec.specs.terms.Table.{Node}
+use Rattle.nz_script.specs.run.Transcript.{Kept}
 use Rattle.nz_reply.specs.Replies.{all_kept}
 use Rattle.nz_reply.specs.declared.reply.Journal.{Journal}
 

@@ -1,5 +1,5 @@
 -- What a reason of the code is.
-use Rattle.nz_spec.specs.Live as live_state
+use Rattle.nz_script.specs.live.Live as live_state
 use Rattle.nz_frac.specs.Operations.{operation_of}
 use Rattle.nz_reply.specs.declared.reply.Reason.{Reason}
 use Rattle.nz_reply.specs.declared.reply.Reason.TheVariants.{UnitsSpent, Wide}

@@ -1,17 +1,17 @@
 -- What replies and their causes are.
 use Rattle.std.specs.Prelude.{◌≡◌, List, ◌++◌, map, ⊤}
 use Rattle.std.specs.List.{AllByRecursion}
-use Rattle.nz_spec.specs.Notes as notes
-use Rattle.nz_spec.specs.Reply as spec
-use Rattle.nz_spec.specs.Text as script
-use Rattle.nz_spec.specs.Transcript as transcript
-use Rattle.nz_spec.specs.Table.{Node}
-use Rattle.nz_spec.specs.Work.{WorkList}
+use Rattle.nz_spec.specs.search.Notes as notes
+use Rattle.nz_script.specs.replies.Reply as spec
+use Rattle.nz_script.specs.text.Text as script
+use Rattle.nz_script.specs.run.Transcript as transcript
+use Rattle.nz_spec.specs.terms.Table.{Node}
+use Rattle.nz_spec.specs.search.Work.{WorkList}
 use Rattle.nz_base.specs.Errors.{error_of}
 use Rattle.nz_sexpr.specs.Packed.{packed_heard_view}
 use Rattle.nz_reply.specs.Infos.{info_of}
-use Rattle.nz_log.specs.Notes.{noted_line, AreNotedWithin}
-use Rattle.nz_log.specs.Places.{IsSiteWithin, place_of}
+use Rattle.nz_search.specs.Notes.{noted_line, AreNotedWithin}
+use Rattle.nz_place.specs.Places.{IsSiteWithin, place_of}
 use Rattle.nz_reply.specs.Reasons.{reason_of}
 use Rattle.nz_reply.specs.Values.{asked_trees, echoed_in, with_shown}
 use Rattle.nz_reply.specs.declared.reply.Reply.{Reply}

@@ -1,11 +1,10 @@
 -- What is told of values, which trees of a command it is told of, and which text a command repeats.
-use Rattle.std.specs.Prelude.{ℕ, List, [], ◌∷◌, Option, None, Some}
-use Rattle.nz_spec.specs.Reply as spec
-use Rattle.nz_spec.specs.Text as script
-use Rattle.nz_spec.specs.Tree.{Tree, Trees, no_trees, trees}
-use Rattle.nz_spec.specs.Argument.{argument_of, trees_within, text_within}
+use Rattle.std.specs.Prelude.{ℕ, List, [], ◌∷◌}
+use Rattle.nz_script.specs.replies.Reply as spec
+use Rattle.nz_script.specs.text.Text as script
+use Rattle.nz_script.specs.text.Tree.{Tree, Trees, no_trees, trees}
+use Rattle.nz_script.specs.commands.Argument.{argument_of, trees_within, text_within}
 use Rattle.nz_frac.specs.Operations.{operation_of}
-use Rattle.nz_sexpr.specs.declared.tree.Tree as code
 use Rattle.nz_term.specs.Constants.{sort_of}
 use Rattle.nz_term.specs.Values.{value_of}
 use Rattle.nz_reply.specs.declared.reply.Shown.{Shown}

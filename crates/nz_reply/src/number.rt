@@ -1,7 +1,7 @@
 //! Numbers, as they are spelled (SMT-LIB 2.6, theory Reals_Ints).
 ghost use Rattle.std.specs.Prelude.{decimal, unsigned_abs};
 ghost use Rattle.nz_fractions.specs.Fraction.{denominator};
-ghost use Rattle.nz_spec.specs.Reply.{number_text, plain_text, quotient_text, signed_text};
+ghost use Rattle.nz_script.specs.replies.Reply.{number_text, plain_text, quotient_text, signed_text};
 ghost use Rattle.nz_term.specs.Constants.{sort_of};
 
 use crate::write::{Spell, WriteFault};

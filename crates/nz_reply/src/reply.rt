@@ -8,7 +8,8 @@ ghost use Rattle.nz_term.specs.Values.{value_of};
 
 use nz_base::{Error, Lines, Memory};
 use nz_frac::Wide;
-use nz_log::{Note, Place};
+use nz_place::Place;
+use nz_search::Note;
 use nz_sexpr::PackedHeard;
 use nz_spec::table::term_stays;
 use nz_term::{Constant, Sort, Value};
@@ -31,7 +32,7 @@ pub struct Bindings {
 
 impl Model for Bindings {
     ghost use Rattle.std.specs.Prelude.{List, map};
-    ghost use Rattle.nz_spec.specs.Model.{Binding};
+    ghost use Rattle.nz_spec.specs.terms.Model.{Binding};
 
     ghost Value = { List Binding };
 
@@ -102,7 +103,7 @@ pub struct Shows {
 
 impl Model for Shows {
     ghost use Rattle.std.specs.Prelude.{List, map};
-    ghost use Rattle.nz_spec.specs.Reply as spec;
+    ghost use Rattle.nz_script.specs.replies.Reply as spec;
 
     ghost Value = { List spec.Shown };
 
@@ -252,7 +253,7 @@ pub struct Journal {
 impl Journal {
     ghost use Rattle.nz_reply.specs.Journals.{journal_of};
     ghost use Rattle.nz_reply.specs.Replies.{all_kept};
-    ghost use Rattle.nz_spec.specs.Table.{Node};
+    ghost use Rattle.nz_spec.specs.terms.Table.{Node};
     ghost use Rattle.std.specs.Prelude.{List};
 
     /// The journal of these entries. Takes no memory.

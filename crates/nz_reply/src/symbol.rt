@@ -1,6 +1,6 @@
 //! Symbols and string literals, as they are spelled (SMT-LIB 2.6, section 3.1).
-ghost use Rattle.nz_spec.specs.Reply.{literal_text, symbol_text};
-ghost use Rattle.nz_spec.specs.Text.{with_quotes_doubled};
+ghost use Rattle.nz_script.specs.replies.Reply.{literal_text, symbol_text};
+ghost use Rattle.nz_script.specs.text.Text.{with_quotes_doubled};
 
 use crate::write::{Spell, WriteFault};
 use nz_base::Sink;

@@ -1,14 +1,14 @@
 //! The texts of replies (SMT-LIB 2.6, section 4.2).
 ghost use Rattle.std.specs.Prelude.{◌≡◌, map, None, Some, IfNone, IfSome};
 ghost use Rattle.nz_sexpr.specs.View.{token_view, view, what_view, seen};
-ghost use Rattle.nz_spec.specs.Reply.{binding_text, info as info_reply, operator_text, reason_text, reply_text, shown_pair_text, shown_text, sort_text, spaced, value_text, wide_text};
-ghost use Rattle.nz_spec.specs.Error.{error_line};
+ghost use Rattle.nz_script.specs.replies.Reply.{binding_text, info as info_reply, operator_text, reason_text, reply_text, shown_pair_text, shown_text, sort_text, spaced, value_text, wide_text};
+ghost use Rattle.nz_spec.specs.outside.Error.{error_line};
 ghost use Rattle.nz_base.specs.Errors.{error_of};
 ghost use Rattle.nz_reply.specs.Bindings.{binding_of};
 ghost use Rattle.nz_reply.specs.Infos.{info_of};
 ghost use Rattle.nz_reply.specs.Reasons.{reason_of};
 ghost use Rattle.nz_reply.specs.Replies.{reply_of};
-ghost use Rattle.nz_spec.specs.Argument.{argument_in as tree_argument_in, argument_of, literal_bytes, text_within, trees_within};
+ghost use Rattle.nz_script.specs.commands.Argument.{argument_in as tree_argument_in, argument_of, literal_bytes, text_within, trees_within};
 ghost use Rattle.nz_reply.specs.Values.{asked_by as trees_asked_by, asked_trees, echoed_by, echoed_in, shown_of, with_shown};
 ghost use Rattle.nz_frac.specs.Operations.{operation_of, operator_of};
 ghost use Rattle.nz_term.specs.Constants.{sort_of};

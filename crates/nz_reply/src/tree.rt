@@ -1,6 +1,6 @@
 //! Trees in their normal spelling: one space between neighbours, symbols and string literals as they are told.
 ghost use Rattle.nz_sexpr.specs.View.{token_view, view};
-ghost use Rattle.nz_spec.specs.Reply.{token_text, tree_text};
+ghost use Rattle.nz_script.specs.replies.Reply.{token_text, tree_text};
 ghost use Rattle.nz_reply.specs.Trees.{space_before};
 
 use crate::symbol::{Literal, Symbol};

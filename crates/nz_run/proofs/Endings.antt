@@ -1,11 +1,11 @@
 -- What the status of a run tells of how it ended.
 use Rattle.std.proofs.Common.{◌≡◌, ◌⊎◌, inl, inr, ℕ, ◌==◌, ◌||◌, Bool, true, false, List, Option, refl, sym, ap, ◌∙◌, true≢false, arith, if◌then◌else◌}
 use Rattle.std.specs.List.{list_any}
-use Rattle.nz_spec.specs.Transcript.{Kept}
-use Rattle.nz_spec.specs.Run.{IsBrokenOff, IsInterrupted, IsRun, is_error, is_memory_error, status_of}
+use Rattle.nz_script.specs.run.Transcript.{Kept}
+use Rattle.nz_script.specs.run.Run.{IsBrokenOff, IsInterrupted, IsRun, is_error, is_memory_error, status_of}
 use Rattle.nz_run.specs.declared.program.End.{End}
 use Rattle.nz_run.specs.declared.program.End.TheVariants.{Finished, Cut, ReadFault, WriteFault, Reads}
-use Rattle.nz_run.specs.Ending.{Ends, EndsAs, ends_by_read, ends_by_write, is_cut, status_by}
+use Rattle.nz_run.specs.Ending.{EndsAs, ends_by_read, ends_by_write, is_cut, status_by}
 
 -- ---- The status of what was kept is 0, 1 or 5
 
@@ -50,40 +50,12 @@ module _ (limit : ℕ) (input rest before after : Option (List ℕ)) (ks : List 
   broken_off Reads h s = absurd (omega (arith, s))
   broken_off WriteFault h s = h
 
-pub status_told : (e : End) (ks : List Kept) → Ends (status_by e ks) ⊎ (status_by e ks ≡ status_of (is_cut e) ks)
-status_told Finished ks = inr refl
-status_told Cut ks = inr refl
-status_told ReadFault ks = inl (inr (inl refl))
-status_told WriteFault ks = inl (inr (inr (inl refl)))
-status_told Reads ks = inl (inr (inr (inr (inr refl))))
-
-pub memory_told : (e : End) (ks : List Kept) → status_by e ks ≡ 5 → status_by e ks ≡ status_of (is_cut e) ks
-memory_told Finished ks s = refl
-memory_told Cut ks s = refl
-memory_told ReadFault ks s = absurd (omega (arith, s))
-memory_told WriteFault ks s = absurd (omega (arith, s))
-memory_told Reads ks s = absurd (omega (arith, s))
-
-pub cut_told : (e : End) (ks : List Kept) → is_cut e ≡ true → status_by e ks ≡ 5
-cut_told Finished ks c = absurd (true≢false (sym c))
-cut_told Cut ks c = refl
-cut_told ReadFault ks c = absurd (true≢false (sym c))
-cut_told WriteFault ks c = absurd (true≢false (sym c))
-cut_told Reads ks c = absurd (true≢false (sym c))
-
 pub reads_told : (e : End) (ks : List Kept) → status_by e ks ≡ 6 → e ≡ Reads
 reads_told Finished ks s = absurd (no_status 6 (refl, refl, refl) refl false ks s)
 reads_told Cut ks s = absurd (no_status 6 (refl, refl, refl) refl true ks s)
 reads_told ReadFault ks s = absurd (omega (arith, s))
 reads_told WriteFault ks s = absurd (omega (arith, s))
 reads_told Reads ks s = refl
-
-pub usage_told : (e : End) (ks : List Kept) → status_by e ks ≡ 2 → ⊥
-usage_told Finished ks s = no_status 2 (refl, refl, refl) refl false ks s
-usage_told Cut ks s = no_status 2 (refl, refl, refl) refl true ks s
-usage_told ReadFault ks s = omega (arith, s)
-usage_told WriteFault ks s = omega (arith, s)
-usage_told Reads ks s = omega (arith, s)
 
 -- a fault of the input has its status, and no other end has
 pub read_status : (e : End) (ks : List Kept) → (status_by e ks == 3) ≡ ends_by_read e

@@ -1,4 +1,4 @@
-pub mod Statuses
-pub mod Turning
-pub mod Units
 pub mod Endings
+pub mod ReadOutcomes
+pub mod Statuses
+pub mod Units

@@ -4,8 +4,8 @@ use Rattle.std.proofs.lemmas.List.{take_more}
 use Rattle.std.specs.List.{list_any}
 use Rattle.std.proofs.Math.Bool.{or-false, or_assoc}
 use Rattle.std.proofs.lemmas.Bool.{or_from, or_right}
-use Rattle.nz_spec.specs.Table.{Node}
-use Rattle.nz_spec.specs.Transcript.{Kept}
+use Rattle.nz_spec.specs.terms.Table.{Node}
+use Rattle.nz_script.specs.run.Transcript.{Kept}
 use Rattle.nz_reply.specs.declared.reply.Kept as kept
 use Rattle.nz_reply.specs.Replies.{all_kept, kept_of}
 

@@ -7,7 +7,7 @@ use Rattle.clap.specs.Faults.{is_simple_and_free}
 use Rattle.clap.proofs.OnLiterals.{clap_on_literals}
 use Rattle.clap.proofs.WalkLemmas.{one_text-rows}
 use Rattle.clap.specs.declared.parser.matches.Found.{Found}
-use Rattle.nz_spec.specs.Run.{solve_limit}
+use Rattle.nz_script.specs.run.Run.{solve_limit}
 use Rattle.nz_run.specs.Words.{AreUnitsBy, IsReadAs, nuz_command, work_of}
 
 -- a text that was read, and how

@@ -1,7 +1,7 @@
 -- How a run ends.
 use Rattle.std.specs.Prelude.{◌≡◌, ◌⊎◌, ℕ, Bool, true, false, List, Option, Some, None}
-use Rattle.nz_spec.specs.Transcript.{Kept}
-use Rattle.nz_spec.specs.Run.{IsBrokenOff, IsInterrupted, IsRun, status_of}
+use Rattle.nz_script.specs.run.Transcript.{Kept}
+use Rattle.nz_script.specs.run.Run.{IsBrokenOff, IsInterrupted, IsRun, status_of}
 use Rattle.nz_run.specs.declared.program.End.{End}
 use Rattle.nz_run.specs.declared.program.End.TheVariants.{Finished, Cut, ReadFault, WriteFault, Reads}
 

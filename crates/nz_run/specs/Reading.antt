@@ -1,10 +1,10 @@
 -- How far a run has come.
 use Rattle.std.specs.Prelude.{ℕ, ◌≤◌, ◌*◌, List, length, Option}
 use Rattle.std.specs.Io.KnownBytes.{Appends, Consumes}
-use Rattle.nz_spec.specs.Table.{Node}
-use Rattle.nz_spec.specs.Term.{Term}
-use Rattle.nz_spec.specs.Transcript.{texts_of}
-use Rattle.nz_spec.specs.Run.{buffer_size}
+use Rattle.nz_spec.specs.terms.Table.{Node}
+use Rattle.nz_spec.specs.terms.Term.{Term}
+use Rattle.nz_script.specs.run.Transcript.{texts_of}
+use Rattle.nz_script.specs.run.Run.{buffer_size}
 use Rattle.nz_session.specs.declared.session.Session.{Session}
 use Rattle.nz_session.specs.Serve.{Serves, kept_by}
 

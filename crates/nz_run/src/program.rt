@@ -1,9 +1,9 @@
 //! The top call: all that the program does, from the words of its command line and its input to its output.
 ghost use Rattle.std.specs.Prelude.{◌≡◌, ◌==◌, ◌<◌, ◌+◌, ◌^◌, ◌⊎◌, ℕ, true, false, List, [], map, IfSome, IfNone, Option, string_bytes};
 ghost use Rattle.std.specs.List.{list_any};
-ghost use Rattle.nz_spec.specs.Outside.{counted};
-ghost use Rattle.nz_spec.specs.Table.{Node};
-ghost use Rattle.nz_spec.specs.Run.{HasNotBegun, IsBrokenOff, IsInterrupted, IsRun, TookMany, is_error, is_memory_error, status_of};
+ghost use Rattle.nz_spec.specs.outside.Outside.{counted};
+ghost use Rattle.nz_spec.specs.terms.Table.{Node};
+ghost use Rattle.nz_script.specs.run.Run.{HasNotBegun, IsBrokenOff, IsInterrupted, IsRun, TookMany, is_error, is_memory_error, status_of};
 ghost use Rattle.nz_reply.specs.Journals.{journal_of};
 ghost use Rattle.nz_reply.specs.Replies.{all_kept, kept_of};
 ghost use Rattle.nz_session.specs.Serve.{kept_by};
@@ -14,8 +14,8 @@ ghost use Rattle.nz_run.specs.Words.{AreTaken, AreUnits};
 use crate::words::{Refused, units_of};
 use nz_base::{Error, Memory, Sink, Source};
 use nz_engine::Engine;
-use nz_log::Decide;
 use nz_reply::{Journal, Kept, Reply};
+use nz_search::Decide;
 use nz_session::{Fed, Session};
 use nz_term::Terms;
 use std::alloc::Global;

@@ -50,7 +50,7 @@ fn reads(rt: &impl Abort, alloc: Global, words: &[&[u8]], want: &[&[u8]]) -> Res
 }
 
 #[test]
-fn the_program_may_be_called_by_any_name(rt: HostRuntime) -> Result<(), Fail> {
+fn test_the_program_may_be_called_by_any_name(rt: HostRuntime) -> Result<(), Fail> {
     let want: &[&[u8]] = &[b"nuz", b"solve"];
     reads(&rt, rt.alloc(), &[b"nuz", b"solve"], want)?;
     reads(&rt, rt.alloc(), &[b"", b"solve"], want)?;
@@ -59,7 +59,7 @@ fn the_program_may_be_called_by_any_name(rt: HostRuntime) -> Result<(), Fail> {
 }
 
 #[test]
-fn a_word_that_is_not_text_is_refused(rt: HostRuntime) -> Result<(), Fail> {
+fn test_a_word_that_is_not_text_is_refused(rt: HostRuntime) -> Result<(), Fail> {
     let words = read(rt.alloc(), &[b"nuz", b"solve", b"caf\xe9"])?;
     holds(&rt, words.is_none(), "refused");
     Ok(())
@@ -77,7 +77,7 @@ fn comes_whole(rt: &impl Abort, alloc: Global, length: usize) -> Result<(), Fail
 }
 
 #[test]
-fn a_word_of_any_length_comes_whole(rt: HostRuntime) -> Result<(), Fail> {
+fn test_a_word_of_any_length_comes_whole(rt: HostRuntime) -> Result<(), Fail> {
     for length in [0, 255, 256, 257, 1000] {
         comes_whole(&rt, rt.alloc(), length)?;
     }

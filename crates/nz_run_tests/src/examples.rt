@@ -203,7 +203,7 @@ fn is_answered(rt: &impl Abort, alloc: Global, example: &Example) -> Result<(), 
 }
 
 #[test]
-fn each_example_is_answered(rt: HostRuntime) -> Result<(), Fail> {
+fn test_each_example_is_answered(rt: HostRuntime) -> Result<(), Fail> {
     for example in EXAMPLES {
         is_answered(&rt, rt.alloc(), example)?;
     }

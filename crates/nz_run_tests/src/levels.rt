@@ -160,52 +160,52 @@ fn try_seeds(rt: &impl Abort, alloc: Global, seeds: Range<u64>) -> Result<(), Fa
 }
 
 #[test]
-fn checks_of_seeds_0_to_49_are_as_fresh(rt: HostRuntime) -> Result<(), Fail> {
+fn test_checks_of_seeds_0_to_49_are_as_fresh(rt: HostRuntime) -> Result<(), Fail> {
     try_seeds(&rt, rt.alloc(), 0..50)
 }
 
 #[test]
-fn checks_of_seeds_50_to_99_are_as_fresh(rt: HostRuntime) -> Result<(), Fail> {
+fn test_checks_of_seeds_50_to_99_are_as_fresh(rt: HostRuntime) -> Result<(), Fail> {
     try_seeds(&rt, rt.alloc(), 50..100)
 }
 
 #[test]
-fn checks_of_seeds_100_to_149_are_as_fresh(rt: HostRuntime) -> Result<(), Fail> {
+fn test_checks_of_seeds_100_to_149_are_as_fresh(rt: HostRuntime) -> Result<(), Fail> {
     try_seeds(&rt, rt.alloc(), 100..150)
 }
 
 #[test]
-fn checks_of_seeds_150_to_199_are_as_fresh(rt: HostRuntime) -> Result<(), Fail> {
+fn test_checks_of_seeds_150_to_199_are_as_fresh(rt: HostRuntime) -> Result<(), Fail> {
     try_seeds(&rt, rt.alloc(), 150..200)
 }
 
 #[test]
-fn checks_of_seeds_200_to_249_are_as_fresh(rt: HostRuntime) -> Result<(), Fail> {
+fn test_checks_of_seeds_200_to_249_are_as_fresh(rt: HostRuntime) -> Result<(), Fail> {
     try_seeds(&rt, rt.alloc(), 200..250)
 }
 
 #[test]
-fn checks_of_seeds_250_to_299_are_as_fresh(rt: HostRuntime) -> Result<(), Fail> {
+fn test_checks_of_seeds_250_to_299_are_as_fresh(rt: HostRuntime) -> Result<(), Fail> {
     try_seeds(&rt, rt.alloc(), 250..300)
 }
 
 #[test]
-fn checks_of_seeds_300_to_349_are_as_fresh(rt: HostRuntime) -> Result<(), Fail> {
+fn test_checks_of_seeds_300_to_349_are_as_fresh(rt: HostRuntime) -> Result<(), Fail> {
     try_seeds(&rt, rt.alloc(), 300..350)
 }
 
 #[test]
-fn checks_of_seeds_350_to_399_are_as_fresh(rt: HostRuntime) -> Result<(), Fail> {
+fn test_checks_of_seeds_350_to_399_are_as_fresh(rt: HostRuntime) -> Result<(), Fail> {
     try_seeds(&rt, rt.alloc(), 350..400)
 }
 
 #[test]
-fn checks_of_seeds_400_to_449_are_as_fresh(rt: HostRuntime) -> Result<(), Fail> {
+fn test_checks_of_seeds_400_to_449_are_as_fresh(rt: HostRuntime) -> Result<(), Fail> {
     try_seeds(&rt, rt.alloc(), 400..450)
 }
 
 #[test]
-fn checks_of_seeds_450_to_499_are_as_fresh(rt: HostRuntime) -> Result<(), Fail> {
+fn test_checks_of_seeds_450_to_499_are_as_fresh(rt: HostRuntime) -> Result<(), Fail> {
     try_seeds(&rt, rt.alloc(), 450..500)
 }
 
@@ -230,7 +230,7 @@ fn answers(alloc: Global, script: &str, wanted: &str) -> Result<bool, Fail> {
 }
 
 #[test]
-fn a_thousand_levels_are_pushed_and_popped(rt: HostRuntime) -> Result<(), Fail> {
+fn test_a_thousand_levels_are_pushed_and_popped(rt: HostRuntime) -> Result<(), Fail> {
     let mut script = repeated(rt.alloc(), 1000, "(push)(assert (or a c))", "(pop)")?;
     script.push_str("(assert a)(get-info :assertion-stack-levels)(check-sat-assuming ((not a)))")?;
     let same = answers(rt.alloc(), &script, "(:assertion-stack-levels 0)\nunsat\n")?;
@@ -243,7 +243,7 @@ const SATISFIED: &str = "(push)(assert (and a d (not e)))(check-sat)(pop)";
 const REFUTED: &str = "(push 2)(assert (and c (> (+ x y) 3)))(check-sat)(pop 2)";
 
 #[test]
-fn levels_come_and_go(rt: HostRuntime) -> Result<(), Fail> {
+fn test_levels_come_and_go(rt: HostRuntime) -> Result<(), Fail> {
     let script = repeated(rt.alloc(), 200, SATISFIED, REFUTED)?;
     let wanted = repeated(rt.alloc(), 200, "sat\n", "unsat\n")?;
     let same = answers(rt.alloc(), &script, &wanted)?;

@@ -78,20 +78,20 @@ fn is_answered(
 }
 
 #[test]
-fn pieces_of_any_length_are_answered_alike(rt: HostRuntime) -> Result<(), Fail> {
+fn test_pieces_of_any_length_are_answered_alike(rt: HostRuntime) -> Result<(), Fail> {
     is_answered(&rt, rt.alloc(), SCRIPT, 43, DONE, 5, REPLIES)?;
     is_answered(&rt, rt.alloc(), SCRIPT, 1, DONE, 5, REPLIES)?;
     Ok(())
 }
 
 #[test]
-fn no_bytes_have_no_reply(rt: HostRuntime) -> Result<(), Fail> {
+fn test_no_bytes_have_no_reply(rt: HostRuntime) -> Result<(), Fail> {
     is_answered(&rt, rt.alloc(), b"", 43, DONE, 0, b"")?;
     Ok(())
 }
 
 #[test]
-fn an_open_command_is_an_error(rt: HostRuntime) -> Result<(), Fail> {
+fn test_an_open_command_is_an_error(rt: HostRuntime) -> Result<(), Fail> {
     let script = b"(check-sat) (check-sat";
     let wanted = b"sat\n(error \"10 incomplete command\")\n";
     is_answered(&rt, rt.alloc(), script, 43, ERROR, 2, wanted)?;
@@ -108,7 +108,7 @@ fn faulty_sink(alloc: Global, fails: &[u64]) -> Result<MemSink, Memory> {
 }
 
 #[test]
-fn a_read_that_fails_ends_the_run(rt: HostRuntime) -> Result<(), Fail> {
+fn test_a_read_that_fails_ends_the_run(rt: HostRuntime) -> Result<(), Fail> {
     let mut input = faulty_source(rt.alloc(), SCRIPT, &[1])?;
     let mut out = sink_with(rt.alloc(), ROOM)?;
     let ended = run_words(rt.alloc(), SOLVE, &mut input, &mut out)?;
@@ -119,7 +119,7 @@ fn a_read_that_fails_ends_the_run(rt: HostRuntime) -> Result<(), Fail> {
 }
 
 #[test]
-fn a_write_that_fails_ends_the_run(rt: HostRuntime) -> Result<(), Fail> {
+fn test_a_write_that_fails_ends_the_run(rt: HostRuntime) -> Result<(), Fail> {
     let mut input = source_of(rt.alloc(), SCRIPT, 43)?;
     let mut out = faulty_sink(rt.alloc(), &[0])?;
     let ended = run_words(rt.alloc(), SOLVE, &mut input, &mut out)?;
@@ -142,7 +142,7 @@ fn ends_with(rt: &impl Abort, alloc: Global, words: &[&str], status: u8) -> Resu
 }
 
 #[test]
-fn other_words_are_not_taken(rt: HostRuntime) -> Result<(), Fail> {
+fn test_other_words_are_not_taken(rt: HostRuntime) -> Result<(), Fail> {
     let alloc = rt.alloc();
     ends_with(&rt, alloc, &["nuz"], USAGE)?;
     ends_with(&rt, alloc, &["nuz", "solve", "--work", "x"], USAGE)?;
@@ -174,7 +174,7 @@ fn writes_within(
 }
 
 #[test]
-fn a_check_uses_no_more_units_than_the_words_allow(rt: HostRuntime) -> Result<(), Fail> {
+fn test_a_check_uses_no_more_units_than_the_words_allow(rt: HostRuntime) -> Result<(), Fail> {
     let wanted = b"unknown\n(:reason-unknown (spent 0))\n";
     writes_within(&rt, rt.alloc(), "0", UNDECIDED, 5, wanted)?;
     Ok(())
@@ -186,7 +186,7 @@ const EXCLUDED: &[u8] = b"(declare-const x Real)(assert (or (< x 1.0) (< x 2.0))
         (pop)(assert (>= x 3.0))(check-sat)";
 
 #[test]
-fn a_bound_excludes_others_of_its_form_without_a_unit(rt: HostRuntime) -> Result<(), Fail> {
+fn test_a_bound_excludes_others_of_its_form_without_a_unit(rt: HostRuntime) -> Result<(), Fail> {
     writes_within(&rt, rt.alloc(), "0", EXCLUDED, 9, b"unsat\nunsat\n")?;
     Ok(())
 }
@@ -196,7 +196,7 @@ const CHAIN: &[u8] = b"(declare-const x Real)(declare-const y Real)(declare-cons
         (assert (<= (+ x 1.0) y))(assert (<= (+ y 1.0) z))(check-sat)";
 
 #[test]
-fn a_conjunction_takes_no_unit(rt: HostRuntime) -> Result<(), Fail> {
+fn test_a_conjunction_takes_no_unit(rt: HostRuntime) -> Result<(), Fail> {
     writes_within(&rt, rt.alloc(), "0", CHAIN, 6, b"sat\n")?;
     Ok(())
 }
@@ -206,7 +206,7 @@ const GROWING_CHAIN: &[u8] = b"(declare-const x Real)(declare-const y Real)(decl
         (assert (<= (+ x 1.0) y))(check-sat)(assert (<= (+ y 1.0) z))(check-sat)";
 
 #[test]
-fn an_exchange_takes_a_unit(rt: HostRuntime) -> Result<(), Fail> {
+fn test_an_exchange_takes_a_unit(rt: HostRuntime) -> Result<(), Fail> {
     writes_within(&rt, rt.alloc(), "0", GROWING_CHAIN, 7, b"sat\nunknown\n")?;
     writes_within(&rt, rt.alloc(), "1", GROWING_CHAIN, 7, b"sat\nsat\n")?;
     Ok(())

@@ -1,16 +1,17 @@
 //! Of `nz_session`: each public call of the session once on its happy path, and a check that finds no memory.
 ghost use Rattle.std.specs.Prelude.{◌≡◌, List, []};
-ghost use Rattle.nz_spec.specs.Term.{Term};
+ghost use Rattle.nz_spec.specs.terms.Term.{Term};
 
 use crate::checks::{holds, is};
 use crate::run::{ROOM, sink_is, sink_with};
 use nz_base::{Error, Memory, PlainSink, Work};
 use nz_engine::Engine;
-use nz_log::{ClauseId, Decide, Note, Step, Stop, TermLit, Verdict};
+use nz_log::{ClauseId, Step};
 use nz_reply::{Journal, Reply};
+use nz_search::{Decide, Note, Stop, Verdict};
 use nz_session::{Fed, Session};
 use nz_spec::work::more_terms_may_begin;
-use nz_term::{TermId, Terms};
+use nz_term::{TermId, TermLit, Terms};
 use std::alloc::{AllocError, Global};
 use std::process::Abort;
 use std::test::Fail;
@@ -113,14 +114,14 @@ fn run_engine(alloc: Global, script: &[u8], sink: &mut PlainSink) -> Result<Outc
 }
 
 /// A script in one piece, how it ends, and what is written.
-struct Told {
+struct ScriptCase {
     script: &'static [u8],
     ended: Fed,
     replies: &'static [u8],
 }
 
 /// The script is answered so, where a check may use so many units.
-fn tells(rt: &impl Abort, alloc: Global, units: u64, told: &Told) -> Result<(), Memory> {
+fn tells(rt: &impl Abort, alloc: Global, units: u64, told: &ScriptCase) -> Result<(), Memory> {
     let mut sink = sink_with(alloc, ROOM)?;
     let ended = run_script(alloc, Engine::new(alloc)?, units, told.script, &mut sink)?;
     is(rt, ended.ended, told.ended);
@@ -148,7 +149,7 @@ fn is_refused(journal: &Journal) -> bool {
 }
 
 #[test]
-fn a_session_answers_what_is_no_command(rt: HostRuntime) -> Result<(), Fail> {
+fn test_a_session_answers_what_is_no_command(rt: HostRuntime) -> Result<(), Fail> {
     let mut sink = sink_with(rt.alloc(), ROOM)?;
     let script = too_deep(rt.alloc())?;
     let ended = run_engine(rt.alloc(), script.as_slice(), &mut sink)?;
@@ -167,7 +168,7 @@ fn has_stood(rt: &impl Abort, outcome: &Outcome, fed: Fed, ended: Fed, kept: usi
 const EXIT: &[u8] = b"(declare-const p Bool)(assert p)(check-sat)(get-model)(exit)(check-sat)";
 
 #[test]
-fn a_session_answers_to_its_exit(rt: HostRuntime) -> Result<(), Fail> {
+fn test_a_session_answers_to_its_exit(rt: HostRuntime) -> Result<(), Fail> {
     let mut sink = sink_with(rt.alloc(), ROOM)?;
     let ended = run_engine(rt.alloc(), EXIT, &mut sink)?;
     has_stood(&rt, &ended, Fed::Exited, Fed::Exited, 5);
@@ -176,7 +177,7 @@ fn a_session_answers_to_its_exit(rt: HostRuntime) -> Result<(), Fail> {
 }
 
 #[test]
-fn a_session_ends_with_its_script(rt: HostRuntime) -> Result<(), Fail> {
+fn test_a_session_ends_with_its_script(rt: HostRuntime) -> Result<(), Fail> {
     let mut sink = sink_with(rt.alloc(), ROOM)?;
     let ended = run_engine(rt.alloc(), b"(check-sat", &mut sink)?;
     has_stood(&rt, &ended, Fed::Going, Fed::Going, 1);
@@ -196,7 +197,7 @@ fn run_once(alloc: Global, script: &[u8], sink: &mut PlainSink) -> Result<Outcom
 }
 
 #[test]
-fn a_model_outlives_a_check_without_memory(rt: HostRuntime) -> Result<(), Fail> {
+fn test_a_model_outlives_a_check_without_memory(rt: HostRuntime) -> Result<(), Fail> {
     let mut sink = sink_with(rt.alloc(), ROOM)?;
     let ended = run_once(rt.alloc(), CHECKED_TWICE, &mut sink)?;
     is(&rt, ended.ended, Fed::Going);
@@ -205,7 +206,7 @@ fn a_model_outlives_a_check_without_memory(rt: HostRuntime) -> Result<(), Fail> 
     Ok(())
 }
 
-const REASON: Told = Told {
+const REASON: ScriptCase = ScriptCase {
     script: b"(declare-const a Bool)(declare-const b Bool)(assert (or a b))
         (check-sat)(get-info :reason-unknown)(assert x)(get-info :reason-unknown)
         (assert b)(get-info :reason-unknown)",
@@ -215,12 +216,12 @@ const REASON: Told = Told {
 };
 
 #[test]
-fn a_reason_is_shown_until_an_assertion_is_accepted(rt: HostRuntime) -> Result<(), Fail> {
+fn test_a_reason_is_shown_until_an_assertion_is_accepted(rt: HostRuntime) -> Result<(), Fail> {
     tells(&rt, rt.alloc(), 0, &REASON)?;
     Ok(())
 }
 
-const ONLY_THE_LAST: Told = Told {
+const ONLY_THE_LAST: ScriptCase = ScriptCase {
     script: b"(get-model)(get-info :reason-unknown)(check-sat)(get-info :reason-unknown)
         (assert false)(check-sat)(get-model)",
     ended: Fed::Going,
@@ -229,12 +230,12 @@ const ONLY_THE_LAST: Told = Told {
 };
 
 #[test]
-fn only_what_was_answered_last_is_shown(rt: HostRuntime) -> Result<(), Fail> {
+fn test_only_what_was_answered_last_is_shown(rt: HostRuntime) -> Result<(), Fail> {
     tells(&rt, rt.alloc(), UNITS, &ONLY_THE_LAST)?;
     Ok(())
 }
 
-const REFUSALS: Told = Told {
+const REFUSALS: ScriptCase = ScriptCase {
     script: b"(declare-const p Bool)(assert q)(assert (not p p))
         (set-info :size 170141183460469231731687303715884105728)(get-model)(declare-const p Bool)",
     ended: Fed::Going,
@@ -244,12 +245,12 @@ const REFUSALS: Told = Told {
 };
 
 #[test]
-fn a_refusal_is_told_by_its_number(rt: HostRuntime) -> Result<(), Fail> {
+fn test_a_refusal_is_told_by_its_number(rt: HostRuntime) -> Result<(), Fail> {
     tells(&rt, rt.alloc(), UNITS, &REFUSALS)?;
     Ok(())
 }
 
-const VALUES: Told = Told {
+const VALUES: ScriptCase = ScriptCase {
     script: b"(get-value (true))(declare-const p Bool)(assert p)(check-sat)
         (get-value (p (ite p 1 2) (/ 1 2)))",
     ended: Fed::Going,
@@ -258,12 +259,12 @@ const VALUES: Told = Told {
 };
 
 #[test]
-fn values_are_told_of_terms_over_numbers(rt: HostRuntime) -> Result<(), Fail> {
+fn test_values_are_told_of_terms_over_numbers(rt: HostRuntime) -> Result<(), Fail> {
     tells(&rt, rt.alloc(), UNITS, &VALUES)?;
     Ok(())
 }
 
-const WIDE: Told = Told {
+const WIDE: ScriptCase = ScriptCase {
     script: b"(check-sat)(get-value ((+ 170141183460469231731687303715884105727 1)))",
     ended: Fed::Going,
     replies: b"sat\n(((+ 170141183460469231731687303715884105727 1) \
@@ -271,12 +272,12 @@ const WIDE: Told = Told {
 };
 
 #[test]
-fn an_operation_that_leaves_the_numbers_is_told(rt: HostRuntime) -> Result<(), Fail> {
+fn test_an_operation_that_leaves_the_numbers_is_told(rt: HostRuntime) -> Result<(), Fail> {
     tells(&rt, rt.alloc(), UNITS, &WIDE)?;
     Ok(())
 }
 
-const SUCCESS: Told = Told {
+const SUCCESS: ScriptCase = ScriptCase {
     script: b"(declare-const p Bool)(set-option :print-success true)(assert p)
         (set-info :status sat)(set-option :print-success false)(assert p)(exit)",
     ended: Fed::Exited,
@@ -284,24 +285,24 @@ const SUCCESS: Told = Told {
 };
 
 #[test]
-fn success_is_told_from_the_option_on(rt: HostRuntime) -> Result<(), Fail> {
+fn test_success_is_told_from_the_option_on(rt: HostRuntime) -> Result<(), Fail> {
     tells(&rt, rt.alloc(), UNITS, &SUCCESS)?;
     Ok(())
 }
 
-const INFOS: Told = Told {
+const INFOS: ScriptCase = ScriptCase {
     script: b"(echo \"say \"\"no\"\"\")(get-info :name)(get-info :assertion-stack-levels)",
     ended: Fed::Going,
     replies: b"\"say \"\"no\"\"\"\n(:name \"nuz\")\n(:assertion-stack-levels 0)\n",
 };
 
 #[test]
-fn texts_and_infos_are_told(rt: HostRuntime) -> Result<(), Fail> {
+fn test_texts_and_infos_are_told(rt: HostRuntime) -> Result<(), Fail> {
     tells(&rt, rt.alloc(), UNITS, &INFOS)?;
     Ok(())
 }
 
-const REALS: Told = Told {
+const REALS: ScriptCase = ScriptCase {
     script: b"(declare-const a Real)(declare-const b Real)(assert (< a b))(assert (<= (+ a b) 3))
         (assert (= a 1))(check-sat)(get-value ((* 2 a)))(assert (>= b 2.5))(check-sat)",
     ended: Fed::Going,
@@ -309,12 +310,12 @@ const REALS: Told = Told {
 };
 
 #[test]
-fn reals_are_checked(rt: HostRuntime) -> Result<(), Fail> {
+fn test_reals_are_checked(rt: HostRuntime) -> Result<(), Fail> {
     tells(&rt, rt.alloc(), UNITS, &REALS)?;
     Ok(())
 }
 
-const STOPPED: Told = Told {
+const STOPPED: ScriptCase = ScriptCase {
     script: b"(declare-const x Real)
         (assert (< x (+ 170141183460469231731687303715884105727 1.0)))
         (check-sat)(get-info :reason-unknown)(get-model)",
@@ -325,12 +326,12 @@ const STOPPED: Told = Told {
 };
 
 #[test]
-fn a_check_that_stops_is_told_with_the_operation(rt: HostRuntime) -> Result<(), Fail> {
+fn test_a_check_that_stops_is_told_with_the_operation(rt: HostRuntime) -> Result<(), Fail> {
     tells(&rt, rt.alloc(), UNITS, &STOPPED)?;
     Ok(())
 }
 
-const INTEGERS: Told = Told {
+const INTEGERS: ScriptCase = ScriptCase {
     script: b"(define-fun two () Int 2)(check-sat)(get-value ((+ two two)))
         (declare-const x Int)(assert (= (* x x) two))(check-sat)",
     ended: Fed::Going,
@@ -338,12 +339,12 @@ const INTEGERS: Told = Told {
 };
 
 #[test]
-fn integers_are_defined_and_not_checked(rt: HostRuntime) -> Result<(), Fail> {
+fn test_integers_are_defined_and_not_checked(rt: HostRuntime) -> Result<(), Fail> {
     tells(&rt, rt.alloc(), UNITS, &INTEGERS)?;
     Ok(())
 }
 
-const ASSUMED: Told = Told {
+const ASSUMED: ScriptCase = ScriptCase {
     script: b"(declare-const p Bool)(declare-const q Bool)(assert (or p q))
         (check-sat-assuming ((not p)))(get-value (p q))(check-sat-assuming ((not p) (not q)))
         (check-sat-assuming (p (not p)))(get-model)(check-sat)",
@@ -353,12 +354,12 @@ const ASSUMED: Told = Told {
 };
 
 #[test]
-fn what_is_assumed_is_for_one_check(rt: HostRuntime) -> Result<(), Fail> {
+fn test_what_is_assumed_is_for_one_check(rt: HostRuntime) -> Result<(), Fail> {
     tells(&rt, rt.alloc(), UNITS, &ASSUMED)?;
     Ok(())
 }
 
-const POPPED: Told = Told {
+const POPPED: ScriptCase = ScriptCase {
     script: b"(declare-const p Bool)(push)(assert p)(check-sat)(push)(assert (not p))
         (check-sat)(pop)(check-sat)(pop)(get-model)(assert (not p))(check-sat)(get-value (p))",
     ended: Fed::Going,
@@ -366,12 +367,12 @@ const POPPED: Told = Told {
 };
 
 #[test]
-fn what_is_asserted_goes_with_its_level(rt: HostRuntime) -> Result<(), Fail> {
+fn test_what_is_asserted_goes_with_its_level(rt: HostRuntime) -> Result<(), Fail> {
     tells(&rt, rt.alloc(), UNITS, &POPPED)?;
     Ok(())
 }
 
-const DECLARED_AGAIN: Told = Told {
+const DECLARED_AGAIN: ScriptCase = ScriptCase {
     script: b"(push)(declare-const p Bool)(assert p)(check-sat)(pop)(assert p)
         (declare-const p Real)(assert (< p 1))(check-sat)(assert (> p 1))(check-sat)(pop)",
     ended: Fed::Going,
@@ -379,12 +380,12 @@ const DECLARED_AGAIN: Told = Told {
 };
 
 #[test]
-fn a_name_of_a_popped_level_is_free(rt: HostRuntime) -> Result<(), Fail> {
+fn test_a_name_of_a_popped_level_is_free(rt: HostRuntime) -> Result<(), Fail> {
     tells(&rt, rt.alloc(), UNITS, &DECLARED_AGAIN)?;
     Ok(())
 }
 
-const POPPED_UNDECIDED: Told = Told {
+const POPPED_UNDECIDED: ScriptCase = ScriptCase {
     script: b"(declare-const a Bool)(declare-const b Bool)(push)(assert (or a b))(check-sat)
         (get-info :reason-unknown)(pop)(get-info :reason-unknown)(check-sat)",
     ended: Fed::Going,
@@ -392,12 +393,12 @@ const POPPED_UNDECIDED: Told = Told {
 };
 
 #[test]
-fn a_pop_ends_an_answer_that_none_was_found_for(rt: HostRuntime) -> Result<(), Fail> {
+fn test_a_pop_ends_an_answer_that_none_was_found_for(rt: HostRuntime) -> Result<(), Fail> {
     tells(&rt, rt.alloc(), 0, &POPPED_UNDECIDED)?;
     Ok(())
 }
 
-const RESETS: Told = Told {
+const RESETS: ScriptCase = ScriptCase {
     script: b"(set-option :print-success true)(declare-const p Bool)(push 3)(assert false)
         (check-sat)(reset-assertions)(get-info :assertion-stack-levels)(assert p)(check-sat)
         (reset)(declare-const p Bool)(assert p)(check-sat)",
@@ -407,7 +408,7 @@ const RESETS: Told = Told {
 };
 
 #[test]
-fn resets_forget_what_is_live(rt: HostRuntime) -> Result<(), Fail> {
+fn test_resets_forget_what_is_live(rt: HostRuntime) -> Result<(), Fail> {
     tells(&rt, rt.alloc(), UNITS, &RESETS)?;
     Ok(())
 }

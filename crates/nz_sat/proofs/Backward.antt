@@ -14,7 +14,7 @@ use Rattle.nz_sat.specs.Trails.{EachBehind, IsFalseOn, IsNext, assigned, depth, 
 use Rattle.nz_sat.specs.Conflicts.{marked_of}
 use Rattle.nz_sat.proofs.Chains.{lit_is}
 use Rattle.nz_sat.proofs.Marks.{counted, false_entry, none_counted, not_itself, one_found, one_if}
-use Rattle.nz_sat.proofs.Trailing.{assigned_at, assigned_found, assigned_missing, depth_front, level_is, level_within}
+use Rattle.nz_sat.proofs.TrailEntries.{assigned_at, assigned_found, assigned_missing, depth_front, level_is, level_within}
 
 -- ---- False literals
 

@@ -9,7 +9,7 @@ use Rattle.nz_log.specs.Lits.{are_same_lit, negated_lit}
 use Rattle.nz_sat.specs.declared.trail.Assigned.{Assigned}
 use Rattle.nz_sat.specs.Trails.{IsFreeOn, assigned, truth_on}
 use Rattle.nz_sat.specs.Clauses.{IsOpen, by_true, by_two, Waits}
-use Rattle.nz_sat.proofs.Trailing.{assigned_found, assigned_missing, assigned_place}
+use Rattle.nz_sat.proofs.TrailEntries.{assigned_found, assigned_missing, assigned_place}
 
 -- ---- Literals
 
@@ -30,9 +30,6 @@ other_lit tells l m e same =
     cc
 
 -- ---- Truths
-
-sign_on : Assigned → Bool
-sign_on e = e.literal.sign
 
 pub truth_found : (es more : List Assigned) (t : ℕ) (b : Bool) → truth_on es t ≡ Some b → truth_on (es ++ more) t ≡ Some b
 truth_found es more t b at =

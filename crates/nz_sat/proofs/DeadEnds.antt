@@ -11,13 +11,13 @@ use Rattle.std.proofs.lemmas.Option.{get_or_from_slice_get, slice_get_within, sl
 use Rattle.nz_lists.proofs.Elements.{AllByRecursion-map}
 use Rattle.nz_lists.proofs.Tests.{no_contradiction}
 use Rattle.nz_lists.proofs.Members.{has_first, has_found, has_more}
-use Rattle.nz_spec.specs.Decide.{asserted_numbers, asserted_terms}
-use Rattle.nz_spec.specs.Gates.{holds}
-use Rattle.nz_spec.specs.Legal.{Task, literal_by, literals_by, signed_literal}
-use Rattle.nz_spec.specs.Literal.{Literal, AreTrueLiterals, IsClauseTrue, NegationIsOther, is_literal_true}
-use Rattle.nz_spec.specs.Model.{IsAssignment, IsModel}
-use Rattle.nz_spec.specs.Table.{Node, IsTable, term_in}
-use Rattle.nz_spec.specs.Term.{Assignment, IsTrueUnder, apply, falsum, no_terms}
+use Rattle.nz_spec.specs.search.Decide.{asserted_numbers, asserted_terms}
+use Rattle.nz_spec.specs.clauses.Gates.{holds}
+use Rattle.nz_spec.specs.search.Legal.{Task, literal_by, literals_by, signed_literal}
+use Rattle.nz_spec.specs.clauses.Literal.{Literal, AreTrueLiterals, IsClauseTrue, NegationIsOther, is_literal_true}
+use Rattle.nz_spec.specs.terms.Model.{IsAssignment, IsModel}
+use Rattle.nz_spec.specs.terms.Table.{Node, IsTable, term_in}
+use Rattle.nz_spec.specs.terms.Term.{Assignment, IsTrueUnder, apply, falsum, no_terms}
 use Rattle.nz_log.specs.declared.lits.Lit.{Lit}
 use Rattle.nz_log.specs.declared.atoms.Atom.{Atom}
 use Rattle.nz_log.specs.Atoms.{TellsLits, clause_in, literal_in}
@@ -35,9 +35,9 @@ use Rattle.nz_sat.proofs.Backward.{front_place}
 use Rattle.nz_sat.proofs.Chains.{filter_has, lit_is}
 use Rattle.nz_sat.proofs.Clausal.{other_lit}
 use Rattle.nz_sat.proofs.Marks.{false_entry}
-use Rattle.nz_sat.proofs.Numbering.{number_place, unnamed}
-use Rattle.nz_sat.proofs.Staying.{says}
-use Rattle.nz_sat.proofs.Trailing.{assigned_place}
+use Rattle.nz_sat.proofs.AtomNumbers.{number_place, unnamed}
+use Rattle.nz_sat.proofs.AtomPreservation.{says}
+use Rattle.nz_sat.proofs.TrailEntries.{assigned_place}
 
 -- ---- Atoms by their numbers
 

@@ -1,15 +1,15 @@
 -- What a conflict teaches: the clause that is put into the log, and its levels.
-use Rattle.std.proofs.Common.{◌≡◌, ◌≢◌, ℕ, ◌<◌, max, Bool, true, false, inl, inr, List, [], ◌∷◌, ◌++◌, length, take, drop, Some, None, refl, sym, ap, subst, ◌∙◌, true≢false, arith}
+use Rattle.std.proofs.Common.{◌≡◌, ◌≢◌, ℕ, ◌<◌, max, Bool, inl, inr, List, [], ◌∷◌, ◌++◌, length, take, drop, Some, None, sym, ap, subst, ◌∙◌, arith}
 use Rattle.std.specs.Prelude.{All, Contains, MatchOption, Option, ◌≤◌, slice_get}
 use Rattle.std.specs.Ordering.{nat_cmp, ord_max}
 use Rattle.std.proofs.lemmas.Bool.{cases_lt}
 use Rattle.std.proofs.lemmas.Bool.Decides.{nat_tests}
 use Rattle.std.proofs.lemmas.List.{take-append-drop}
 use Rattle.std.proofs.lemmas.List.Elements.{All-contains, All-contains_itself, All-weaker, Contains-append_left, Contains-push, Contains-push_cases}
-use Rattle.nz_spec.specs.Literal.{StandOnce}
+use Rattle.nz_spec.specs.clauses.Literal.{StandOnce}
 use Rattle.nz_log.specs.declared.lits.Lit.{Lit}
 use Rattle.nz_log.specs.declared.origins.Link.{Link}
-use Rattle.nz_spec.specs.Table.{Node}
+use Rattle.nz_spec.specs.terms.Table.{Node}
 use Rattle.nz_log.specs.declared.atoms.Atom.{Atom}
 use Rattle.nz_log.specs.Atoms.{IsLitIn, TellsLits}
 use Rattle.nz_log.specs.Logs.{Entry, LogState, IsLive, Puts, chain_entry, chained, literals_at}
@@ -17,10 +17,10 @@ use Rattle.nz_sat.specs.declared.analyze.Chain.{Chain}
 use Rattle.nz_sat.specs.declared.trail.Assigned.{Assigned}
 use Rattle.nz_sat.specs.Trails.{EachBehind, IsFalseOn, IsNext, depth, level_on}
 use Rattle.nz_sat.specs.Clauses.{IsFalsified}
-use Rattle.nz_sat.specs.Conflicts.{AreLinks, AreUnmarked, HasLast, HasTwoLast, IsChain, IsGreatest, IsGreatestBut, IsLearned, IsLearnable, IsLoneLast, is_marked}
+use Rattle.nz_sat.specs.Conflicts.{AreLinks, HasLast, HasTwoLast, IsChain, IsGreatest, IsGreatestBut, IsLearned, IsLearnable, IsLoneLast}
 use Rattle.nz_sat.proofs.Chains.{chained_once}
 use Rattle.nz_sat.proofs.Marks.{false_entry, level_found, marked_within}
-use Rattle.nz_sat.proofs.Trailing.{assigned_place, level_within}
+use Rattle.nz_sat.proofs.TrailEntries.{assigned_place, level_within}
 
 -- ---- The greatest level but one
 
@@ -191,20 +191,10 @@ lone_taught size es order log id l level live falsified like above lone greatest
 
 -- ---- The learned clause
 
-unless : (b : Bool) → (b ≡ true → ⊥) → b ≡ false
-unless true f = absurd (f refl)
-unless false f = refl
-
 module _ (old new : LogState) (es : List Assigned) (falsified : ℕ) (marks : List Bool) (c : Chain) (chain : IsChain old es falsified marks c) where
   -- the marks are those of the clause, within the list
   pub literals_within : (m : Lit) → Contains (chained old (literals_at old falsified) c.links.items) m → m.atom < length marks
   literals_within m has = marked_within marks m.atom (chain.marked.each m has)
-
-  pub all_unmarked : (left : List Bool) → ((t : ℕ) → is_marked left t ≡ true → is_marked marks t ≡ true)
-      → ((m : Lit) → Contains (chained old (literals_at old falsified) c.links.items) m → is_marked left m.atom ≡ false) → AreUnmarked left
-  all_unmarked left fewer off t = unless (is_marked left t) (λ on.
-      let w = chain.marked.only t (fewer t on) in
-      true≢false (sym on ∙ ap (is_marked left) (sym w.2) ∙ off w.0 w.1))
 
   module _ (id : ℕ) (puts : Puts old id (chain_entry old falsified c.links.items) new) where
     pub literals_are : literals_at new id ≡ chained old (literals_at old falsified) c.links.items

@@ -11,10 +11,10 @@ use Rattle.nz_sat.specs.declared.trail.Assigned.{Assigned}
 use Rattle.nz_sat.specs.Trails.{AreUpTo, DropsLast, EachBehind, IsFalseOn, IsFreeOn, IsFrontOf, IsNext, assigned, below, depth, is_decision, level_on, truth_on}
 use Rattle.nz_sat.proofs.Backward.{lower}
 use Rattle.nz_sat.proofs.Clausal.{missing_free, truth_found}
-use Rattle.nz_sat.proofs.Cutting.{above_level, below_all, below_last, front_all}
+use Rattle.nz_sat.proofs.CutTrails.{above_level, below_all, below_last, front_all}
 use Rattle.nz_sat.proofs.LearnedClauses.{all_from}
 use Rattle.nz_sat.proofs.Marks.{false_entry, level_found}
-use Rattle.nz_sat.proofs.Trailing.{assigned_found, level_is}
+use Rattle.nz_sat.proofs.TrailEntries.{assigned_found, level_is}
 
 -- ---- The entry of a term
 

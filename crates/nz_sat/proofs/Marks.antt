@@ -13,7 +13,7 @@ use Rattle.nz_log.specs.declared.lits.Lit.{Lit}
 use Rattle.nz_sat.specs.declared.trail.Assigned.{Assigned}
 use Rattle.nz_sat.specs.Trails.{EachBehind, HasValue, IsFalseOn, IsNext, assigned, level_on}
 use Rattle.nz_sat.specs.Conflicts.{AreFalseIn, MarksCounted, MarksFalse, is_marked, marked_of}
-use Rattle.nz_sat.proofs.Trailing.{assigned_found, assigned_missing, assigned_place}
+use Rattle.nz_sat.proofs.TrailEntries.{assigned_found, assigned_missing, assigned_place}
 
 -- ---- One mark
 

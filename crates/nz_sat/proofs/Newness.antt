@@ -5,8 +5,8 @@ use Rattle.std.proofs.Math.Bool.{not-not}
 use Rattle.std.proofs.lemmas.List.{length-map}
 use Rattle.std.proofs.lemmas.Option.{same_Some, slice_get-map, slice_get_within}
 use Rattle.nz_lists.proofs.Members.{has_cases, has_first, has_found, has_more, map_has}
-use Rattle.nz_spec.specs.Legal.{AreNamed}
-use Rattle.nz_spec.specs.Literal.{AreSameSet, Literal, StandOnce}
+use Rattle.nz_spec.specs.search.Legal.{AreNamed}
+use Rattle.nz_spec.specs.clauses.Literal.{AreSameSet, Literal, StandOnce}
 use Rattle.nz_log.specs.declared.lits.Lit.{Lit}
 use Rattle.nz_log.specs.Atoms.{TellsLits}
 use Rattle.nz_log.specs.Lits.{are_same_lit}

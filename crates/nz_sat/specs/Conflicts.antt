@@ -1,7 +1,7 @@
 -- What a conflict teaches.
 use Rattle.std.specs.Prelude.{◌≡◌, ◌≢◌, ℕ, ◌+◌, ◌<◌, ◌≤◌, ◌⊎◌, ◌==◌, ◌&&◌, Bool, true, false, All, List, length, Contains, count_by, slice_index_or, take}
-use Rattle.nz_spec.specs.Literal.{StandOnce}
-use Rattle.nz_spec.specs.Table.{Node}
+use Rattle.nz_spec.specs.clauses.Literal.{StandOnce}
+use Rattle.nz_spec.specs.terms.Table.{Node}
 use Rattle.nz_log.specs.declared.lits.Lit.{Lit}
 use Rattle.nz_log.specs.Atoms.{IsLitIn}
 use Rattle.nz_log.specs.Lits.{negated_lit}

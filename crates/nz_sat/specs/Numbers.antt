@@ -1,13 +1,13 @@
 -- Atoms by the numbers that a work list gives them.
 use Rattle.std.specs.Prelude.{◌≡◌, ℕ, suc, ◌==◌, Bool, true, false, List, [], ◌∷◌, map, slice_get, Option, Some, None, option_map, unwrap_or, slice_index_or, if◌then◌else◌, ⊤}
 use Rattle.std.specs.List.{AllByRecursion}
-use Rattle.nz_spec.specs.Literal.{Literal}
-use Rattle.nz_spec.specs.Table.{Node}
-use Rattle.nz_spec.specs.Work.{WorkLine, UnitLine, NoteLine}
+use Rattle.nz_spec.specs.clauses.Literal.{Literal}
+use Rattle.nz_spec.specs.terms.Table.{Node}
+use Rattle.nz_spec.specs.search.Work.{WorkLine, UnitLine, NoteLine}
 use Rattle.nz_log.specs.declared.atoms.Atom as log
 use Rattle.nz_log.specs.declared.lits.Lit.{Lit}
-use Rattle.nz_log.specs.declared.note.Note.{Note}
-use Rattle.nz_log.specs.declared.note.Note.TheVariants.{Start, Atom, Bound, Form, Told}
+use Rattle.nz_search.specs.declared.note.Note.{Note}
+use Rattle.nz_search.specs.declared.note.Note.TheVariants.{Start, Atom, Bound, Form, Told}
 use Rattle.nz_log.specs.Atoms.{IsLitIn, literal_in}
 
 -- the atoms that these lines name, in their order

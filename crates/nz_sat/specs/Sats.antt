@@ -1,15 +1,15 @@
 -- A search over clauses of a log, as its callers see it.
 use Rattle.std.specs.Prelude.{◌≡◌, ℕ, ◌++◌, Bool, All, Contains, List, map, filter, nat_le, Option, Some, None, IsSome, option_map, slice_index_or}
-use Rattle.nz_spec.specs.Table.{Node, IsTable}
-use Rattle.nz_spec.specs.Decide.{asserted_terms}
-use Rattle.nz_spec.specs.Legal.{Task}
-use Rattle.nz_spec.specs.Literal.{are_same_sign, StandOnce}
+use Rattle.nz_spec.specs.terms.Table.{Node, IsTable}
+use Rattle.nz_spec.specs.search.Decide.{asserted_terms}
+use Rattle.nz_spec.specs.search.Legal.{Task}
+use Rattle.nz_spec.specs.clauses.Literal.{are_same_sign, StandOnce}
 use Rattle.nz_log.specs.declared.lits.Lit.{Lit}
 use Rattle.nz_log.specs.Atoms.{literal_in}
 use Rattle.nz_log.specs.Lits.{negated_lit}
 use Rattle.nz_log.specs.Logs.{LogState, IsLive, literals_at, level_at}
 use Rattle.nz_log.specs.Sound.{IsLog}
-use Rattle.nz_log.specs.Theories.{IsBoundIn}
+use Rattle.nz_search.specs.Theories.{IsBoundIn}
 use Rattle.nz_sat.specs.declared.clauses.Held.{Held}
 use Rattle.nz_sat.specs.Numbers.{IsAtomAt}
 

@@ -1,23 +1,23 @@
 -- A search under way.
 use Rattle.std.specs.Prelude.{◌≡◌, ℕ, suc, ◌<◌, ◌≤◌, ◌++◌, ◌⊎◌, Bool, All, Contains, List, [], ◌∷◌, length, map, Option, Some, None, IfErr, IfOk, IfSome, IsSome, unwrap_or}
 use Rattle.std.specs.declared.result.Result.{Result}
-use Rattle.nz_spec.specs.Table.{Node}
-use Rattle.nz_spec.specs.Literal.{StandOnce}
-use Rattle.nz_spec.specs.Work.{DecisionEntry, IsSpent, LearnedEntry, UnitLine, WorkLine, WorkList, unit_count, with_line}
+use Rattle.nz_spec.specs.terms.Table.{Node}
+use Rattle.nz_spec.specs.clauses.Literal.{StandOnce}
+use Rattle.nz_spec.specs.search.Work.{DecisionEntry, IsSpent, LearnedEntry, UnitLine, WorkLine, WorkList, unit_count, with_line}
 use Rattle.nz_log.specs.declared.lits.Lit.{Lit}
-use Rattle.nz_log.specs.declared.note.Note.{Note}
-use Rattle.nz_log.specs.declared.stop.Stop.{Stop}
-use Rattle.nz_log.specs.declared.stop.Stop.TheVariants.{Spent}
+use Rattle.nz_search.specs.declared.note.Note.{Note}
+use Rattle.nz_search.specs.declared.stop.Stop.{Stop}
+use Rattle.nz_search.specs.declared.stop.Stop.TheVariants.{Spent}
 use Rattle.nz_log.specs.Logs.{LogState, IsLive, literals_at}
 use Rattle.nz_sat.specs.declared.clauses.Held.{Held}
 use Rattle.nz_sat.specs.declared.analyze.Learned.{Learned}
 use Rattle.nz_sat.specs.declared.search.Search.{Search}
 use Rattle.nz_sat.specs.declared.trail.Assigned.{Assigned}
 use Rattle.nz_log.specs.Sound.{IsLog}
-use Rattle.nz_log.specs.Standing.{search_after}
+use Rattle.nz_search.specs.Standing.{search_after}
 use Rattle.nz_sat.specs.Trails.{GoesOn, IsTrueOn, assigned, below, decided, depth, implied, with_entry}
 use Rattle.nz_sat.specs.Clauses.{HasReasonOf, IsAssumed, IsFalsified, IsListed, IsOfSize, IsOpen, Waits, ids_of}
-use Rattle.nz_log.specs.Theories.{Grows}
+use Rattle.nz_log.specs.Growth.{Grows}
 use Rattle.nz_sat.specs.Conflicts.{AreUnmarked, IsFalsifiedUnder}
 use Rattle.nz_sat.specs.Numbers.{IsAtomAt, number_of, numbered}
 use Rattle.nz_sat.specs.Sats.{AreConsistent, AreHeld, AreOn, HoldsMore}

@@ -1,24 +1,25 @@
 -- A trail, what a theory was told of it, and what a work list tells of it.
 use Rattle.std.specs.Prelude.{◌≡◌, ℕ, ◌≤◌, ◌++◌, ◌∷◌, Bool, true, false, All, Contains, List, [], Option, None, Some, IfOk, IfSome, OnOk, Result, drop, filter, length, map, slice_get, take, unwrap_or, ⊤}
 use Rattle.std.specs.List.{AllByRecursion}
-use Rattle.nz_spec.specs.Bland.{Point}
-use Rattle.nz_spec.specs.Legal.{MayTell, Task, ToldLiteral, at_first, literal_by, no_point, Lead}
-use Rattle.nz_spec.specs.Literal as spec
-use Rattle.nz_spec.specs.Table.{Node}
-use Rattle.nz_spec.specs.Work.{PivotEntry, DecisionEntry, LearnedEntry, NoteLine, UnitLine, WorkLine, WorkList}
+use Rattle.nz_spec.specs.simplex.Bland.{Point}
+use Rattle.nz_spec.specs.search.Legal.{MayTell, Task, ToldLiteral, at_first, literal_by, no_point, Lead}
+use Rattle.nz_spec.specs.clauses.Literal as spec
+use Rattle.nz_spec.specs.terms.Table.{Node}
+use Rattle.nz_spec.specs.search.Work.{PivotEntry, DecisionEntry, LearnedEntry, NoteLine, UnitLine, WorkLine, WorkList}
 use Rattle.nz_log.specs.declared.atoms.Atom.{Atom}
 use Rattle.nz_log.specs.declared.atoms.Atom.TheVariants.{Term, AtMost}
 use Rattle.nz_log.specs.declared.lits.Lit.{Lit}
-use Rattle.nz_log.specs.declared.note.Note as note
-use Rattle.nz_log.specs.declared.note.Note.{Note}
-use Rattle.nz_log.specs.declared.stop.Stop.{Stop}
+use Rattle.nz_search.specs.declared.note.Note as note
+use Rattle.nz_search.specs.declared.note.Note.{Note}
+use Rattle.nz_search.specs.declared.stop.Stop.{Stop}
 use Rattle.nz_log.specs.Atoms.{AreWithin, IsLitIn, clause_in, literal_in}
 use Rattle.nz_log.specs.Leveled.{AreTold, AreToldAtoms}
 use Rattle.nz_log.specs.Logs.{LogState}
-use Rattle.nz_log.specs.Notes.{noted_list}
+use Rattle.nz_search.specs.Notes.{noted_list}
 use Rattle.nz_log.specs.Sound.{IsLog}
-use Rattle.nz_log.specs.Standing.{Ends, Standing, Stands, search_after}
-use Rattle.nz_log.specs.Theories.{Grows, IsClash, told_after}
+use Rattle.nz_search.specs.Standing.{Ends, Standing, Stands, search_after}
+use Rattle.nz_search.specs.Theories.{IsClash, told_after}
+use Rattle.nz_log.specs.Growth.{Grows}
 use Rattle.nz_sat.specs.declared.consult.Bounds.{Bounds}
 use Rattle.nz_sat.specs.declared.trail.Assigned.{Assigned}
 use Rattle.nz_sat.specs.Clauses.{IsAssumed, IsImplied}

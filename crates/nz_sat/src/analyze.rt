@@ -3,7 +3,7 @@ ghost use Rattle.std.specs.Prelude.{◌≡◌, ◌≢◌, ℕ, ◌<◌, ◌≤�
 ghost use Rattle.nz_log.specs.declared.lits.Lit.{Lit};
 ghost use Rattle.nz_log.specs.Logs.{IsLive, chained, literals_at};
 ghost use Rattle.nz_sat.specs.Clauses.{IsFalsified, IsImplied};
-ghost use Rattle.nz_log.specs.Theories.{Grows};
+ghost use Rattle.nz_log.specs.Growth.{Grows};
 ghost use Rattle.nz_sat.specs.Conflicts.{AreLinks, AreUnmarked, HasLast, HasTwoLast, IsChain, IsGreatest, IsGreatestBut, IsLearnable, IsLearned, IsLoneLast, MarksCounted, RefutesFrom, StaysSound, is_marked};
 ghost use Rattle.nz_sat.specs.Trails.{EachBehind, IsTrail, depth, level_on};
 

@@ -1,9 +1,9 @@
 //! What a theory is told of a trail, and what it answers.
 ghost use Rattle.std.specs.Prelude.{◌≡◌, ◌+◌, ◌<◌, ◌^◌, ◌++◌, ◌∷◌, [], All, Contains, List, None, length, min, IfErr, IfOk, OnErr, OnOk};
-ghost use Rattle.nz_spec.specs.Work.{IsSpent, with_line};
-ghost use Rattle.nz_log.specs.declared.stop.Stop.TheVariants as stop;
+ghost use Rattle.nz_spec.specs.search.Work.{IsSpent, with_line};
+ghost use Rattle.nz_search.specs.declared.stop.Stop.TheVariants as stop;
 ghost use Rattle.nz_log.specs.Leveled.{AreToldAtoms};
-ghost use Rattle.nz_log.specs.Theories.{IsBoundIn};
+ghost use Rattle.nz_search.specs.Theories.{IsBoundIn};
 ghost use Rattle.nz_sat.specs.declared.trail.Assigned.{Assigned};
 ghost use Rattle.nz_sat.specs.Conflicts.{is_marked};
 ghost use Rattle.nz_sat.specs.Theories.{Consults, IsMet, IsTrailOn, TellsOne, TellsTrail, is_bound_at, state_of, told_line, told_lits, told_on};
@@ -12,7 +12,8 @@ use crate::atoms::Atoms;
 use crate::trail::Trail;
 use nz_base::{Memory, Work};
 use nz_log::laws::{clauses_are_true, tells_lits};
-use nz_log::{Atom, AtomId, ClauseId, Lit, Log, Note, Stop, Theory};
+use nz_log::{Atom, AtomId, ClauseId, Lit, Log};
+use nz_search::{Note, Stop, Theory};
 use nz_spec::derivation::negation_is_other;
 use nz_spec::work::pivots_are_legal;
 use std::alloc::Global;

@@ -1,17 +1,17 @@
 //! The search as its callers see it.
 ghost use Rattle.std.specs.Prelude.{◌≡◌, ℕ, ◌≤◌, ◌∷◌, ◌++◌, [], All, List, nat_le, None, IfErr, IfOk, IfSome, OnErr, OnOk};
-ghost use Rattle.nz_spec.specs.Legal.{Task};
-ghost use Rattle.nz_spec.specs.Table.{Node};
-ghost use Rattle.nz_spec.specs.Work.{IsSpent, unit_count};
+ghost use Rattle.nz_spec.specs.search.Legal.{Task};
+ghost use Rattle.nz_spec.specs.terms.Table.{Node};
+ghost use Rattle.nz_spec.specs.search.Work.{IsSpent, unit_count};
 ghost use Rattle.nz_log.specs.declared.lits.Lit.{Lit};
-ghost use Rattle.nz_log.specs.declared.stop.Stop.TheVariants as stop;
+ghost use Rattle.nz_search.specs.declared.stop.Stop.TheVariants as stop;
 ghost use Rattle.nz_log.specs.declared.atoms.Atom.{Atom};
 ghost use Rattle.nz_log.specs.Leveled.{AreToldAtoms};
 ghost use Rattle.nz_log.specs.Logs.{IsLive, literals_at};
-ghost use Rattle.nz_log.specs.Notes.{AreNotedWithin};
+ghost use Rattle.nz_search.specs.Notes.{AreNotedWithin};
 ghost use Rattle.nz_log.specs.Sound.{IsLog};
-ghost use Rattle.nz_log.specs.Standing.{Ends, Stands, search_after};
-ghost use Rattle.nz_log.specs.Theories.{Grows};
+ghost use Rattle.nz_search.specs.Standing.{Ends, Stands, search_after};
+ghost use Rattle.nz_log.specs.Growth.{Grows};
 ghost use Rattle.nz_sat.specs.Conflicts.{Refutes};
 ghost use Rattle.nz_sat.specs.Numbers.{AreBeginnings, AreNotedIn, IsAtomAt, noted_atoms};
 ghost use Rattle.nz_sat.specs.Sats.{AreConsistent, AreHeld, AreNamed, AreOn, HoldsMore, IsAsked, IsSatisfied, IsTheoryMet, held_of, held_up_to, literal_truth};
@@ -19,7 +19,8 @@ ghost use Rattle.nz_sat.specs.Sats.{AreConsistent, AreHeld, AreNamed, AreOn, Hol
 use crate::clauses::Held;
 use crate::search::Search;
 use nz_base::{Memory, Work};
-use nz_log::{AtomId, ClauseId, Lit, Log, Note, Stop, Theory};
+use nz_log::{AtomId, ClauseId, Lit, Log};
+use nz_search::{Note, Stop, Theory};
 use std::alloc::Global;
 use std::marker::Model;
 

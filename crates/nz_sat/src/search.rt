@@ -1,18 +1,18 @@
 //! The search: decisions, what follows from them, and what each conflict teaches.
 ghost use Rattle.std.specs.Prelude.{◌≡◌, ℕ, ◌<◌, ◌≤◌, ◌+◌, ◌++◌, ◌∷◌, [], All, Contains, List, None, length, map, min, take, IfErr, IfOk, IfSome, IsSome, OnErr, OnOk};
-ghost use Rattle.nz_spec.specs.Bland.{Point};
-ghost use Rattle.nz_spec.specs.Form as form;
-ghost use Rattle.nz_spec.specs.Literal as spec;
-ghost use Rattle.nz_spec.specs.Table.{Node};
-ghost use Rattle.nz_spec.specs.Work.{IsSpent, UnitLine, unit_count, with_line};
+ghost use Rattle.nz_spec.specs.simplex.Bland.{Point};
+ghost use Rattle.nz_spec.specs.terms.Form as form;
+ghost use Rattle.nz_spec.specs.clauses.Literal as spec;
+ghost use Rattle.nz_spec.specs.terms.Table.{Node};
+ghost use Rattle.nz_spec.specs.search.Work.{IsSpent, UnitLine, unit_count, with_line};
 ghost use Rattle.nz_base.specs.Entries.{entry_of};
 ghost use Rattle.nz_log.specs.declared.lits.Lit.{Lit};
-ghost use Rattle.nz_log.specs.declared.stop.Stop.TheVariants as stop;
+ghost use Rattle.nz_search.specs.declared.stop.Stop.TheVariants as stop;
 ghost use Rattle.nz_log.specs.Logs.{IsLive, literals_at};
 ghost use Rattle.nz_sat.specs.declared.clauses.Held.{Held};
 ghost use Rattle.nz_sat.specs.Clauses.{Adds, AreUsable, IsImplied, IsWithin};
-ghost use Rattle.nz_log.specs.Places.{OnWide};
-ghost use Rattle.nz_log.specs.Theories.{Grows};
+ghost use Rattle.nz_search.specs.Places.{OnWide};
+ghost use Rattle.nz_log.specs.Growth.{Grows};
 ghost use Rattle.nz_sat.specs.Conflicts.{GoesBackTo, HasLast, RefutesFrom, StaysSound};
 ghost use Rattle.nz_sat.specs.Numbers.{numbered};
 ghost use Rattle.nz_log.specs.Leveled.{AreToldAtoms};
@@ -30,7 +30,8 @@ use crate::propagate::{propagate, visit_held};
 use crate::trail::Trail;
 use nz_base::{Entry, Literals, Memory, Work};
 use nz_log::laws::{clauses_are_true, tells_lits};
-use nz_log::{AtomId, ClauseId, Lit, Log, Note, Stop, Theory};
+use nz_log::{AtomId, ClauseId, Lit, Log};
+use nz_search::{Note, Stop, Theory};
 use nz_spec::derivation::negation_is_other;
 use std::alloc::Global;
 

@@ -12,7 +12,8 @@ ghost use Rattle.nz_sat.specs.Trails.{assigned, depth};
 use crate::clauses::Held;
 use crate::search::Search;
 use nz_base::Work;
-use nz_log::{AtomId, ClauseId, Lit, Log, Note, Stop, Theory};
+use nz_log::{AtomId, ClauseId, Lit, Log};
+use nz_search::{Note, Stop, Theory};
 
 impl Search {
     /// Learns from a clause in which each literal is false, one of them of the last level, makes true what the clauses make true with that, and

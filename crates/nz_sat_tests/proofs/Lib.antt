@@ -1,3 +1,3 @@
-mod Assuming
-mod Noting
-mod Posing
+mod ConsistentLiterals
+mod HeldClauses
+mod NotedAtoms

@@ -2,7 +2,7 @@
 use Rattle.std.specs.Prelude.{ℕ, List}
 use Rattle.nz_log.specs.Leveled.{AreToldAtoms}
 use Rattle.nz_log.specs.Logs.{LogState}
-use Rattle.nz_log.specs.declared.theory.NoNumbers.{NoNumbers}
+use Rattle.nz_search.specs.declared.theory.NoNumbers.{NoNumbers}
 use Rattle.nz_sat.specs.Sats.{SatState, AreHeld, AreOn}
 
 pub record HeldState : Type 0 where

@@ -3,8 +3,8 @@
 
 use crate::problem::Problem;
 use nz_base::Memory;
-use nz_log::{Stop, TermLit};
-use nz_term::{Operator, TermId};
+use nz_search::Stop;
+use nz_term::{Operator, TermId, TermLit};
 use std::alloc::Global;
 use std::test::Fail;
 

@@ -2,21 +2,20 @@
 //! that the tests have nothing to prove: the problem's invariant is known to no other file.
 ghost use Rattle.std.specs.Prelude.{◌≡◌, ◌<◌, [], All, Contains, IfOk, IfSome, IsTrue, OnOk, length};
 ghost use Rattle.std.specs.Bool.{OnTrue};
-ghost use Rattle.nz_spec.specs.Literal.{StandOnce};
-ghost use Rattle.nz_spec.specs.Table.{HasItsArguments};
-ghost use Rattle.nz_spec.specs.Term.{head_fits};
+ghost use Rattle.nz_spec.specs.clauses.Literal.{StandOnce};
+ghost use Rattle.nz_spec.specs.terms.Table.{HasItsArguments};
+ghost use Rattle.nz_spec.specs.terms.Term.{head_fits};
 ghost use Rattle.nz_term.specs.Heads.{head_of};
 ghost use Rattle.nz_log.specs.Logs.{IsLive};
-ghost use Rattle.nz_log.specs.TermLits.{gates_at};
 ghost use Rattle.nz_sat.specs.Numbers.{AreBeginnings, AreNotedIn};
 ghost use Rattle.nz_sat.specs.Sats.{AreConsistent};
 
 use nz_base::{Memory, Text, Work};
-use nz_log::{
-    Atom, AtomId, ClauseId, Lit, Literal, Log, NoNumbers, Note, Stop, TermLit, gate_count,
-};
+use nz_log::{Atom, AtomId, ClauseId, Lit, Literal, Log};
+use nz_rows::gate_rows;
 use nz_sat::Sat;
-use nz_term::{Constant, Head, Operator, Sort, TermId, Terms, operators_are_no_leaves};
+use nz_search::{NoNumbers, Note, Stop};
+use nz_term::{Constant, Head, Operator, Sort, TermId, TermLit, Terms, operators_are_no_leaves};
 use nz_term_samples::are_below;
 use std::alloc::Global;
 use std::marker::Model;
@@ -165,9 +164,13 @@ impl Held {
     /// Adds the clause of this number of a term of the gate table.
     fn gate(&mut self, terms: &Terms, term: TermId, j: usize) -> Result<(), Memory>
         requires within { term < length terms.now }
-        requires table { j < length (gates_at terms.now term) }
     {
-        let clause = self.log.gate(terms, term, j)?;
+        let mut rows = gate_rows(*self.atoms.allocator(), terms, term)?;
+        if rows.len() <= j {
+            return Err(Memory);
+        }
+        let row = rows.remove(j);
+        let clause = self.log.gate(terms, term, j, row)?;
         self.hold(clause)
     }
 
@@ -200,7 +203,8 @@ fn add_gates(held: &mut Held, terms: &Terms, term: TermId) -> Result<(), Memory>
     if terms.len() <= term || terms.holds_integer(term) {
         return Err(Memory);
     }
-    for j in 0..gate_count(terms, term) {
+    let count = gate_rows(*held.atoms.allocator(), terms, term)?.len();
+    for j in 0..count {
         held.gate(terms, term, j)?;
     }
     Ok(())

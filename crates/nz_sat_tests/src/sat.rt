@@ -3,7 +3,7 @@
 use crate::acts::{Act, Case, Number, assert_one, follow, holds, over, run};
 use crate::problem::Problem;
 use nz_base::Memory;
-use nz_log::Stop;
+use nz_search::Stop;
 use nz_term::Operator;
 use std::alloc::Global;
 use std::test::Fail;
@@ -24,7 +24,7 @@ const UNITS: &Case = &Case {
 };
 
 #[test]
-fn units_follow(rt: HostRuntime) -> Result<(), Fail> {
+fn test_units_follow(rt: HostRuntime) -> Result<(), Fail> {
     run(rt.alloc(), UNITS)
 }
 
@@ -41,7 +41,7 @@ const EITHER_WAY: &Case = &Case {
 };
 
 #[test]
-fn a_conflict_teaches(rt: HostRuntime) -> Result<(), Fail> {
+fn test_a_conflict_teaches(rt: HostRuntime) -> Result<(), Fail> {
     run(rt.alloc(), EITHER_WAY)
 }
 
@@ -53,7 +53,7 @@ const OPPOSITES: &Case = &Case {
 };
 
 #[test]
-fn opposites_are_refuted(rt: HostRuntime) -> Result<(), Fail> {
+fn test_opposites_are_refuted(rt: HostRuntime) -> Result<(), Fail> {
     run(rt.alloc(), OPPOSITES)
 }
 
@@ -71,7 +71,7 @@ const IN_TURN: &Case = &Case {
 };
 
 #[test]
-fn assumed_literals_are_refuted(rt: HostRuntime) -> Result<(), Fail> {
+fn test_assumed_literals_are_refuted(rt: HostRuntime) -> Result<(), Fail> {
     run(rt.alloc(), IN_TURN)
 }
 
@@ -90,7 +90,7 @@ const ODD: &Case = &Case {
 };
 
 #[test]
-fn equations_and_exclusions(rt: HostRuntime) -> Result<(), Fail> {
+fn test_equations_and_exclusions(rt: HostRuntime) -> Result<(), Fail> {
     run(rt.alloc(), ODD)
 }
 
@@ -113,7 +113,7 @@ const THREE_IN_TWO: &Case = &Case {
 };
 
 #[test]
-fn three_birds_have_no_two_holes(rt: HostRuntime) -> Result<(), Fail> {
+fn test_three_birds_have_no_two_holes(rt: HostRuntime) -> Result<(), Fail> {
     run(rt.alloc(), THREE_IN_TWO)
 }
 
@@ -149,7 +149,7 @@ const FOUR_IN_THREE: &Case = &Case {
 };
 
 #[test]
-fn four_birds_have_no_three_holes(rt: HostRuntime) -> Result<(), Fail> {
+fn test_four_birds_have_no_three_holes(rt: HostRuntime) -> Result<(), Fail> {
     run(rt.alloc(), FOUR_IN_THREE)
 }
 
@@ -175,7 +175,7 @@ const THREE_IN_THREE: &Case = &Case {
 };
 
 #[test]
-fn three_birds_have_three_holes(rt: HostRuntime) -> Result<(), Fail> {
+fn test_three_birds_have_three_holes(rt: HostRuntime) -> Result<(), Fail> {
     run(rt.alloc(), THREE_IN_THREE)
 }
 
@@ -239,7 +239,7 @@ fn rows_hold(alloc: Global, set: u8) -> Result<bool, Stop> {
 }
 
 #[test]
-fn each_set_of_rows_is_answered(rt: HostRuntime) -> Result<(), Fail> {
+fn test_each_set_of_rows_is_answered(rt: HostRuntime) -> Result<(), Fail> {
     for set in 0..=255 {
         // Each assignment makes exactly one row false.
         assert_eq!(rt; rows_hold(rt.alloc(), set)?, set != 255);
@@ -262,7 +262,7 @@ const CHAIN: &[Act] = &[
 ];
 
 #[test]
-fn a_long_chain(rt: HostRuntime) -> Result<(), Fail> {
+fn test_a_long_chain(rt: HostRuntime) -> Result<(), Fail> {
     let mut problem = over(rt.alloc(), 1, 10)?;
     negations(&mut problem, 1000)?;
     follow(rt.alloc(), &mut problem, CHAIN)

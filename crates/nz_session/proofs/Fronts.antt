@@ -1,11 +1,11 @@
 -- What is kept, beside what is heard first.
 use Rattle.std.proofs.Common.{◌≡◌, ℕ, inl, inr, Bool, true, false, List, [], ◌∷◌, ◌++◌, refl, sym, ap, ◌∙◌, subst, append_assoc, append-nil}
-use Rattle.nz_spec.specs.Text.{Heard, Hears, script_limits, OneReading}
-use Rattle.nz_spec.specs.Kept.{AreToldAs}
-use Rattle.nz_spec.specs.Told.{IsTold, AreComplete, ReadingTellsFirst}
-use Rattle.nz_spec.specs.Live.{start}
-use Rattle.nz_spec.specs.Right.{beginning}
-use Rattle.nz_spec.specs.Transcript.{Kept, AreRight, GoesOn, EndsByExit, things_of, AreHeardFirst, IsFrontOf, IsCutOff, IsTranscript}
+use Rattle.nz_script.specs.text.Text.{Heard, Hears, script_limits, OneReading}
+use Rattle.nz_script.specs.text.ToldAs.{AreToldAs}
+use Rattle.nz_script.specs.text.Told.{IsTold, AreComplete, ReadingTellsFirst}
+use Rattle.nz_script.specs.live.Live.{start}
+use Rattle.nz_script.specs.replies.Right.{beginning}
+use Rattle.nz_script.specs.run.Transcript.{Kept, AreRight, GoesOn, EndsByExit, things_of, AreHeardFirst, IsFrontOf, IsCutOff, IsTranscript}
 use Rattle.nz_sexpr.specs.declared.reader.Reader.{Reader}
 use Rattle.nz_sexpr.specs.Matches.{told}
 use Rattle.nz_sexpr.specs.Fits.{Fits}

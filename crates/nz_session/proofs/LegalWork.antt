@@ -5,40 +5,41 @@ use Rattle.std.proofs.lemmas.Grind.{flat_map-append}
 use Rattle.std.proofs.lemmas.List.Sums.{sum_by-append}
 use Rattle.std.proofs.lemmas.List.Elements.{Contains-append_left, Contains-append_right, Contains-append_cases}
 use Rattle.nz_fractions.specs.Fraction.{Operation}
-use Rattle.nz_spec.specs.Term.{Term, apply, constant, no_terms, Assignment, is_true, value_of}
-use Rattle.nz_spec.specs.Bland.{Point}
-use Rattle.nz_spec.specs.Normal.{normal_of, NormalKeepsValue}
-use Rattle.nz_spec.specs.Table.{Node, term_in}
-use Rattle.nz_spec.specs.Order.{listing_order}
-use Rattle.nz_spec.specs.Literal.{Literal, term_literal, is_at_most, is_below, are_same_sign, is_literal_true, AreTrueLiterals}
-use Rattle.nz_spec.specs.Model.{IsModel}
-use Rattle.nz_spec.specs.Live.{Reason, units_spent, Item, declared, defined, asserted, sought, wished, cost_of, items_of, item_terms, assertions_in, assertions_of}
-use Rattle.nz_spec.specs.Work.{DecisionEntry, LearnedEntry, PivotEntry, WorkLine, UnitLine, NoteLine, WorkList, is_unit, unit_count, IsSpent}
-use Rattle.nz_spec.specs.Notes.{Note, start_note, atom_note, form_note, told_note, Site, term_site, joining_site, exchange_site, value_site, sum_site, limit_site, model_site, Place}
-use Rattle.nz_spec.specs.Legal.{Task, Search, at_first, no_point, point_at, terms_known, IsTabled, IsAtom, MayName, MayStart, MayTell, MayLearn, MayFollow, MoreTermsMayBegin, Lead, after_line, after_lines, AreLegal, IsSpentLegally}
-use Rattle.nz_spec.specs.Places.{IsOperationAt, IsStoppedLegally}
-use Rattle.nz_spec.specs.Reply.{unknown, Cause}
-use Rattle.nz_spec.specs.Tree.{Tree}
-use Rattle.nz_spec.specs.Command.{check_sat, accepted}
-use Rattle.nz_spec.specs.Script.{outcome_of}
-use Rattle.nz_spec.specs.Right.{Context, normals_in, listed_under, task_of, asked_of, IsRightCheck}
+use Rattle.nz_spec.specs.terms.Term.{Term, apply, constant, no_terms, Assignment, is_true, value_of}
+use Rattle.nz_spec.specs.simplex.Bland.{Point}
+use Rattle.nz_spec.specs.terms.Normal.{normal_of, NormalKeepsValue}
+use Rattle.nz_spec.specs.terms.Table.{Node, term_in}
+use Rattle.nz_spec.specs.terms.Order.{listing_order}
+use Rattle.nz_spec.specs.clauses.Literal.{Literal, term_literal, is_at_most, is_below, are_same_sign, is_literal_true, AreTrueLiterals}
+use Rattle.nz_spec.specs.terms.Model.{IsModel}
+use Rattle.nz_script.specs.live.Live.{Reason, units_spent, Item, declared, defined, asserted, sought, wished, cost_of, items_of, item_terms, assertions_in, assertions_of}
+use Rattle.nz_spec.specs.search.Work.{DecisionEntry, LearnedEntry, PivotEntry, WorkLine, UnitLine, NoteLine, WorkList, is_unit, unit_count, IsSpent}
+use Rattle.nz_spec.specs.search.Notes.{Note, start_note, atom_note, form_note, told_note, Site, term_site, joining_site, exchange_site, value_site, sum_site, limit_site, model_site, Place}
+use Rattle.nz_spec.specs.search.Legal.{Task, Search, at_first, no_point, point_at, terms_known, IsTabled, IsAtom, MayName, MayStart, MayTell, MayLearn, MayFollow, MoreTermsMayBegin, Lead, after_line, after_lines, AreLegal, IsSpentLegally}
+use Rattle.nz_spec.specs.search.Places.{IsOperationAt, IsStoppedLegally}
+use Rattle.nz_script.specs.replies.Reply.{unknown, Cause}
+use Rattle.nz_script.specs.text.Tree.{Tree}
+use Rattle.nz_script.specs.commands.Command.{check_sat, accepted}
+use Rattle.nz_script.specs.commands.Script.{outcome_of}
+use Rattle.nz_script.specs.replies.Right.{Context, normals_in, listed_under, task_of, asked_of, IsRightCheck}
+use Rattle.nz_sort.specs.Assuming.{IsAssumed, AreAssumed}
 use Rattle.nz_sort.specs.Live.{Standing, asserted_by, IsLive}
-use Rattle.nz_log.specs.declared.note.Note as own
-use Rattle.nz_log.specs.declared.place.Place as own_place
-use Rattle.nz_log.specs.declared.decide.Verdict.{Verdict}
-use Rattle.nz_log.specs.declared.stop.Stop.{Stop}
-use Rattle.nz_log.specs.declared.stop.Stop.TheVariants.{Wide, Spent, Memory}
-use Rattle.nz_log.specs.Notes.{note_of, noted_line, noted_list, AreNotedWithin}
-use Rattle.nz_log.specs.Places.{OnWide, IsSiteWithin, place_of}
-use Rattle.nz_log.specs.declared.term_lits.TermLit.{TermLit}
-use Rattle.nz_log.specs.TermLits.{literal_of}
-use Rattle.nz_log.specs.Verdicts.{OnSpent, task_in}
+use Rattle.nz_search.specs.declared.note.Note as own
+use Rattle.nz_place.specs.declared.place.Place as own_place
+use Rattle.nz_search.specs.declared.decide.Verdict.{Verdict}
+use Rattle.nz_search.specs.declared.stop.Stop.{Stop}
+use Rattle.nz_search.specs.declared.stop.Stop.TheVariants.{Wide, Spent, Memory}
+use Rattle.nz_search.specs.Notes.{note_of, noted_line, noted_list, AreNotedWithin}
+use Rattle.nz_place.specs.Places.{IsSiteWithin, place_of}
+use Rattle.nz_search.specs.Places.{OnWide}
+use Rattle.nz_term.specs.declared.term_lits.TermLit.{TermLit}
+use Rattle.nz_term.specs.TermLits.{literal_of}
+use Rattle.nz_search.specs.Verdicts.{OnSpent, task_in}
 use Rattle.nz_reply.specs.Replies.{work_of}
 use Rattle.nz_reply.specs.declared.reply.WorkDone.{WorkDone}
-use Rattle.nz_session.specs.Assumed.{IsLitOf, AreLitsOf}
 use Rattle.nz_session.specs.Desk.{asked_in}
 use Rattle.nz_session.specs.Undecided.{IfUndecided, IsUndecided, reason_by, cause_by}
-use Rattle.nz_session.proofs.Assigning.{normals_of_model}
+use Rattle.nz_session.proofs.LiveModels.{normals_of_model}
 
 -- ---- Questions of which one asks what the other does
 
@@ -150,37 +151,37 @@ all_listed items us t h =
     ])
 
 -- a literal by its number says what the literal says
-lit_true : NormalKeepsValue → (ns : List Node) (a : Assignment) (l : TermLit) (m : Literal) → IsLitOf ns l m → is_literal_true a (literal_of ns l) ≡ is_literal_true a m
+lit_true : NormalKeepsValue → (ns : List Node) (a : Assignment) (l : TermLit) (m : Literal) → IsAssumed ns l m → is_literal_true a (literal_of ns l) ≡ is_literal_true a m
 lit_true keeps ns a l (term_literal t sign) h =
-    ap (λ u. are_same_sign l.sign (is_true (value_of a u))) h.0 ∙ ap (λ v. are_same_sign l.sign (is_true v)) (keeps a t) ∙ ap (λ b. are_same_sign b (is_true (value_of a t))) h.1
+    ap (λ u. are_same_sign l.sign (is_true (value_of a u))) h.0.term ∙ ap (λ v. are_same_sign l.sign (is_true v)) (keeps a t) ∙ ap (λ b. are_same_sign b (is_true (value_of a t))) h.1
 lit_true keeps ns a l (is_at_most ps b) h = absurd h
 lit_true keeps ns a l (is_below ps b) h = absurd h
 
-pub lits_true : NormalKeepsValue → (ns : List Node) (a : Assignment) (ls : List TermLit) (ms : List Literal) → AreLitsOf ns ls ms → AreTrueLiterals a ms → AreTrueLiterals a (map (literal_of ns) ls)
+pub lits_true : NormalKeepsValue → (ns : List Node) (a : Assignment) (ls : List TermLit) (ms : List Literal) → AreAssumed ns ls ms → AreTrueLiterals a ms → AreTrueLiterals a (map (literal_of ns) ls)
 lits_true keeps ns a [] [] h k = tt
 lits_true keeps ns a [] (m ∷ ms) h k = absurd h
 lits_true keeps ns a (l ∷ ls) [] h k = absurd h
 lits_true keeps ns a (l ∷ ls) (m ∷ ms) h k = (subst IsTrue (sym (lit_true keeps ns a l m h.0)) k.0, lits_true keeps ns a ls ms h.1 k.1)
 
-pub literals_true : NormalKeepsValue → (ns : List Node) (a : Assignment) (ls : List TermLit) (ms : List Literal) → AreLitsOf ns ls ms → AreTrueLiterals a (map (literal_of ns) ls) → AreTrueLiterals a ms
+pub literals_true : NormalKeepsValue → (ns : List Node) (a : Assignment) (ls : List TermLit) (ms : List Literal) → AreAssumed ns ls ms → AreTrueLiterals a (map (literal_of ns) ls) → AreTrueLiterals a ms
 literals_true keeps ns a [] [] h k = tt
 literals_true keeps ns a [] (m ∷ ms) h k = absurd h
 literals_true keeps ns a (l ∷ ls) [] h k = absurd h
 literals_true keeps ns a (l ∷ ls) (m ∷ ms) h k = (subst IsTrue (lit_true keeps ns a l m h.0) k.0, literals_true keeps ns a ls ms h.1 k.1)
 
-lit_term : (ns : List Node) (l : TermLit) (m : Literal) → IsLitOf ns l m → term_in ns l.term ∷ [] ≡ normals_in m
-lit_term ns l (term_literal t sign) h = ap (λ u. u ∷ []) h.0
+lit_term : (ns : List Node) (l : TermLit) (m : Literal) → IsAssumed ns l m → term_in ns l.term ∷ [] ≡ normals_in m
+lit_term ns l (term_literal t sign) h = ap (λ u. u ∷ []) h.0.term
 lit_term ns l (is_at_most ps b) h = absurd h
 lit_term ns l (is_below ps b) h = absurd h
 
-lit_terms : (ns : List Node) (ls : List TermLit) (ms : List Literal) → AreLitsOf ns ls ms → map (λ (l : TermLit). term_in ns l.term) ls ≡ flat_map normals_in ms
+lit_terms : (ns : List Node) (ls : List TermLit) (ms : List Literal) → AreAssumed ns ls ms → map (λ (l : TermLit). term_in ns l.term) ls ≡ flat_map normals_in ms
 lit_terms ns [] [] h = refl
 lit_terms ns [] (m ∷ ms) h = absurd h
 lit_terms ns (l ∷ ls) [] h = absurd h
 lit_terms ns (l ∷ ls) (m ∷ ms) h = ap (λ ts. ts ++ map (λ (k : TermLit). term_in ns k.term) ls) (lit_term ns l m h.0) ∙ ap (λ ts. normals_in m ++ ts) (lit_terms ns ls ms h.1)
 
 -- what the search lists is listed by the check
-search_listed : (ns : List Node) (l : Standing) (c : Context) (ls : List TermLit) (ms : List Literal) → IsLive ns l c.state → AreLitsOf ns ls ms
+search_listed : (ns : List Node) (l : Standing) (c : Context) (ls : List TermLit) (ms : List Literal) → IsLive ns l c.state → AreAssumed ns ls ms
     → (t : Term) → Contains (task_in ns (asserted_by l) ls c.earlier).listed t → Contains (listed_under c.state ms) t
 search_listed ns l c ls ms h k t has =
     let s = c.state in
@@ -189,7 +190,7 @@ search_listed ns l c ls ms h k t has =
     (subst (λ ts. Contains (flat_map listing_order (ts ++ map (λ (i : TermLit). term_in ns i.term) ls)) t) h.terms has))
 
 -- so what searches were asked of is, once the search was asked, what they were asked of once the check is told
-pub search_known : (ns : List Node) (l : Standing) (c : Context) (t : Tree) (ls : List TermLit) (ms : List Literal) → IsLive ns l c.state → AreLitsOf ns ls ms
+pub search_known : (ns : List Node) (l : Standing) (c : Context) (t : Tree) (ls : List TermLit) (ms : List Literal) → IsLive ns l c.state → AreAssumed ns ls ms
     → outcome_of c.state t ≡ accepted (check_sat ms) → (u : Term) → Contains (terms_known (task_in ns (asserted_by l) ls c.earlier)) u → Contains (asked_in c t).earlier u
 search_known ns l c t ls ms h k e u has =
     let listed = listed_under c.state ms in
@@ -199,7 +200,7 @@ search_known ns l c t ls ms h k e u has =
       | inr here ↦ Contains-append_right c.earlier listed u (search_listed ns l c ls ms h k u here)
     ])
 
-asks_that : NormalKeepsValue → (ns : List Node) (l : Standing) (c : Context) (ls : List TermLit) (ms : List Literal) → IsLive ns l c.state → AreLitsOf ns ls ms
+asks_that : NormalKeepsValue → (ns : List Node) (l : Standing) (c : Context) (ls : List TermLit) (ms : List Literal) → IsLive ns l c.state → AreAssumed ns ls ms
     → AsksThat (task_in ns (asserted_by l) ls c.earlier) (task_of c ms)
 asks_that keeps ns l c ls ms h k =
     record {
@@ -249,7 +250,7 @@ undecided_in_levels ns levels told ls earlier begins limit work (Err (Wide place
       sited = sited;
     }
 
-module _ (keeps : NormalKeepsValue) (more : MoreTermsMayBegin) (ns : List Node) (l : Standing) (c : Context) (live : IsLive ns l c.state) (ls : List TermLit) (ms : List Literal) (are : AreLitsOf ns ls ms)
+module _ (keeps : NormalKeepsValue) (more : MoreTermsMayBegin) (ns : List Node) (l : Standing) (c : Context) (live : IsLive ns l c.state) (ls : List TermLit) (ms : List Literal) (are : AreAssumed ns ls ms)
     (limit : ℕ) (bounded : limit ≡ c.limit) (work : WorkList own.Note) (done : WorkDone) (lines : done.work ≡ work.lines) (limited : done.limit ≡ limit) where
   -- the work that is told is that of the search
   same_work : work.limit ≡ limit → noted_list ns work ≡ work_of ns done

@@ -4,10 +4,9 @@ use Rattle.std.specs.Prelude.{if◌then◌else◌}
 use Rattle.std.specs.List.{AllByRecursion}
 use Rattle.std.proofs.Math.Path.{fun_ext}
 use Rattle.std.proofs.lemmas.List.{take-append-drop}
-use Rattle.std.proofs.lemmas.Option.{slice_get_within}
-use Rattle.nz_spec.specs.Term.{Constant, Value, constant}
-use Rattle.nz_spec.specs.Table.{Node, assignment_by, is_node_of}
-use Rattle.nz_spec.specs.Decide.{IsFrontOfTable, IsValueOf}
+use Rattle.nz_spec.specs.terms.Term.{Constant, Value}
+use Rattle.nz_spec.specs.terms.Table.{Node, assignment_by, is_node_of}
+use Rattle.nz_spec.specs.search.Decide.{IsFrontOfTable}
 use Rattle.nz_session.specs.Desk.{KeepsValues}
 use Rattle.nz_session.specs.declared.desk.LastAnswer.{LastAnswer}
 use Rattle.nz_session.specs.declared.desk.LastAnswer.TheVariants.{Model}
@@ -40,8 +39,3 @@ pub values_stay : (old ns : List Node) (last : Option LastAnswer) → IsFrontOfT
 values_stay old ns (Some (Model m)) front h =
     record { within = within_still old ns front m.values h.within; assigns = fun_ext (λ c. assigned_still old ns front m.values c h.within) ∙ h.assigns }
 values_stay old ns last front h = tt
-
--- the values of constants of a table have their numbers in it
-pub values_within : (ns : List Node) (ps : List (ℕ × Value)) → AllByRecursion (IsValueOf ns) ps → AllByRecursion (λ (p : ℕ × Value). p.0 < length ns) ps
-values_within ns [] h = tt
-values_within ns (p ∷ ps) h = (slice_get_within ns p.0 (record { head = constant h.0.of; kids = h.0.kids }) h.0.node, values_within ns ps h.1)

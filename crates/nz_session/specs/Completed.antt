@@ -1,9 +1,9 @@
 -- A model of the live constants, by the values that a search gave some constants of the table.
 use Rattle.std.specs.Prelude.{ℕ, List, [], map, flat_map, Option, Some, None, slice_get}
-use Rattle.nz_spec.specs.Term.{Constant, Value}
-use Rattle.nz_spec.specs.Table.{Node, assignment_by}
-use Rattle.nz_spec.specs.Decide.{constants_of_head}
-use Rattle.nz_spec.specs.Model.{Binding}
+use Rattle.nz_spec.specs.terms.Term.{Constant, Value}
+use Rattle.nz_spec.specs.terms.Table.{Node, assignment_by}
+use Rattle.nz_spec.specs.search.Decide.{constants_of_head}
+use Rattle.nz_spec.specs.terms.Model.{Binding}
 
 -- the constant of a node, with what the values give it
 abbrev pub bound_at : List Node → List (ℕ × Value) → Option Node → List Binding

@@ -1,16 +1,16 @@
 -- What a desk holds, and what its answers are.
 use Rattle.std.specs.Prelude.{◌≡◌, ℕ, ◌<◌, Bool, true, false, List, length, map, Contains, option_map, Option, Some, ⊤}
 use Rattle.std.specs.List.{AllByRecursion}
-use Rattle.nz_spec.specs.Text.{What, intact}
-use Rattle.nz_spec.specs.Tree.{Tree}
-use Rattle.nz_spec.specs.Term.{Term, Value}
-use Rattle.nz_spec.specs.Table.{Node, assignment_by}
-use Rattle.nz_spec.specs.Decide.{IsFrontOfTable, asserted_terms}
-use Rattle.nz_spec.specs.Model.{Binding, assignment_of}
-use Rattle.nz_spec.specs.Live as live_state
-use Rattle.nz_spec.specs.Live.{State, constants_of}
-use Rattle.nz_spec.specs.Sorts.{IsSortedState}
-use Rattle.nz_spec.specs.Right.{Context, IsRight, IsExit, earlier_after, context_after, done}
+use Rattle.nz_script.specs.text.Text.{What, intact}
+use Rattle.nz_script.specs.text.Tree.{Tree}
+use Rattle.nz_spec.specs.terms.Term.{Term, Value}
+use Rattle.nz_spec.specs.terms.Table.{Node, assignment_by}
+use Rattle.nz_spec.specs.search.Decide.{IsFrontOfTable, asserted_terms}
+use Rattle.nz_spec.specs.terms.Model.{Binding, assignment_of}
+use Rattle.nz_script.specs.live.Live as live_state
+use Rattle.nz_script.specs.live.Live.{State, constants_of}
+use Rattle.nz_script.specs.laws.Sorts.{IsSortedState}
+use Rattle.nz_script.specs.replies.Right.{Context, IsRight, IsExit, earlier_after, context_after, done}
 use Rattle.nz_sort.specs.Live.{IsLive, asserted_by}
 use Rattle.nz_reply.specs.Reasons.{reason_of}
 use Rattle.nz_reply.specs.Replies.{reply_of, cause_of, IsCauseWithin}

@@ -1,17 +1,17 @@
 -- What a session has read, kept and answered.
 use Rattle.std.specs.Prelude.{◌≡◌, ℕ, ◌<◌, ◌^◌, Bool, true, false, List, [], ◌∷◌, ◌++◌, length, take, Option}
 use Rattle.std.specs.Io.KnownBytes.{Appends}
-use Rattle.nz_spec.specs.Text.{Heard, script_limits}
-use Rattle.nz_spec.specs.Live.{start}
-use Rattle.nz_spec.specs.Error.{out_of_memory}
-use Rattle.nz_spec.specs.Reply.{reply_text, error}
-use Rattle.nz_spec.specs.Right.{beginning}
-use Rattle.nz_spec.specs.Transcript.{BeginsText, Kept, AreRight, GoesOn, EndsByExit, context_of, things_of, texts_of, IsFrontBegun, IsCutOff, IsTranscript}
-use Rattle.nz_spec.specs.Told.{IsToldFirst}
-use Rattle.nz_spec.specs.Outside.{AddsFrontOf}
+use Rattle.nz_script.specs.text.Text.{Heard, script_limits}
+use Rattle.nz_script.specs.live.Live.{start}
+use Rattle.nz_spec.specs.outside.Error.{out_of_memory}
+use Rattle.nz_script.specs.replies.Reply.{reply_text, error}
+use Rattle.nz_script.specs.replies.Right.{beginning}
+use Rattle.nz_script.specs.run.Transcript.{BeginsText, Kept, AreRight, GoesOn, EndsByExit, context_of, things_of, texts_of, IsFrontBegun, IsCutOff, IsTranscript}
+use Rattle.nz_script.specs.text.Told.{IsToldFirst}
+use Rattle.nz_spec.specs.outside.Outside.{AddsFrontOf}
 use Rattle.nz_sexpr.specs.Fits.{Fits, owes}
-use Rattle.nz_spec.specs.Table.{Node}
-use Rattle.nz_spec.specs.Term.{Term}
+use Rattle.nz_spec.specs.terms.Table.{Node}
+use Rattle.nz_spec.specs.terms.Term.{Term}
 use Rattle.nz_session.specs.Desk.{Holds, table_of}
 use Rattle.nz_reply.specs.declared.reply.Kept as code
 use Rattle.nz_reply.specs.Replies.{all_kept, AreKeptWithin}

@@ -1,14 +1,14 @@
 -- What the engine was told of the assertions, by level.
 use Rattle.std.specs.Prelude.{◌≡◌, ℕ, ◌+◌, ◌≤◌, List, [], ◌∷◌, ◌++◌, length, take, ◌⊎◌}
-use Rattle.nz_session.specs.declared.told.Told.{Told}
+use Rattle.nz_session.specs.declared.told.ToldExtent.{ToldExtent}
 
 -- Nothing.
-pub record IsToldNothing (levels : List (List ℕ)) (t : Told) : Type 0 where
+pub record IsToldNothing (levels : List (List ℕ)) (t : ToldExtent) : Type 0 where
   pub none : levels ≡ []
   pub count : t.levels ≡ 0
 
 -- The first levels, and of the last of these the first so many assertions.
-pub record IsToldFirst (levels : List (List ℕ)) (t : Told) (asserted : List (List ℕ)) : Type 0 where
+pub record IsToldFirst (levels : List (List ℕ)) (t : ToldExtent) (asserted : List (List ℕ)) : Type 0 where
   pub before : List (List ℕ)
   pub newest : List ℕ
   pub later : List (List ℕ)
@@ -18,11 +18,11 @@ pub record IsToldFirst (levels : List (List ℕ)) (t : Told) (asserted : List (L
   pub count : t.levels ≡ length before + 1
 
 -- What the engine has is a front of what is asserted, level by level.
-abbrev pub IsTold : List (List ℕ) → Told → List (List ℕ) → Type 0
+abbrev pub IsTold : List (List ℕ) → ToldExtent → List (List ℕ) → Type 0
 IsTold levels t asserted = IsToldNothing levels t ⊎ IsToldFirst levels t asserted
 
 -- The engine has a level more, of which nothing was told yet.
-pub record IsBegun (levels : List (List ℕ)) (t : Told) (more : List (List ℕ)) (u : Told) : Type 0 where
+pub record IsBegun (levels : List (List ℕ)) (t : ToldExtent) (more : List (List ℕ)) (u : ToldExtent) : Type 0 where
   pub has : more ≡ levels ++ [] ∷ []
   pub count : u.levels ≡ t.levels + 1
   pub last : u.last ≡ 0

@@ -1,21 +1,21 @@
 -- Checks that weren't decided: the work of their search, and why it ended.
 use Rattle.std.specs.Prelude.{◌≡◌, ℕ, List, Option, None, Some, IfSome, ⊤}
-use Rattle.nz_spec.specs.Table.{Node}
-use Rattle.nz_spec.specs.Term.{Term}
-use Rattle.nz_spec.specs.Live as live_state
-use Rattle.nz_spec.specs.Legal.{Task, IsSpentLegally}
-use Rattle.nz_spec.specs.Places.{IsStoppedLegally}
-use Rattle.nz_spec.specs.Reply.{Cause, spent, stopped}
-use Rattle.nz_spec.specs.Work.{WorkList}
+use Rattle.nz_spec.specs.terms.Table.{Node}
+use Rattle.nz_spec.specs.terms.Term.{Term}
+use Rattle.nz_script.specs.live.Live as live_state
+use Rattle.nz_spec.specs.search.Legal.{Task, IsSpentLegally}
+use Rattle.nz_spec.specs.search.Places.{IsStoppedLegally}
+use Rattle.nz_script.specs.replies.Reply.{Cause, spent, stopped}
+use Rattle.nz_spec.specs.search.Work.{WorkList}
 use Rattle.nz_frac.specs.Operations.{operation_of}
-use Rattle.nz_log.specs.declared.note.Note.{Note}
-use Rattle.nz_log.specs.declared.place.Place.{Place}
-use Rattle.nz_log.specs.declared.stop.Stop.{Stop}
-use Rattle.nz_log.specs.declared.stop.Stop.TheVariants.{Wide, Spent, Memory}
-use Rattle.nz_log.specs.declared.term_lits.TermLit.{TermLit}
-use Rattle.nz_log.specs.Notes.{noted_list, AreNotedWithin}
-use Rattle.nz_log.specs.Places.{IsSiteWithin, place_of}
-use Rattle.nz_log.specs.Verdicts.{task_in}
+use Rattle.nz_search.specs.declared.note.Note.{Note}
+use Rattle.nz_place.specs.declared.place.Place.{Place}
+use Rattle.nz_search.specs.declared.stop.Stop.{Stop}
+use Rattle.nz_search.specs.declared.stop.Stop.TheVariants.{Wide, Spent, Memory}
+use Rattle.nz_term.specs.declared.term_lits.TermLit.{TermLit}
+use Rattle.nz_search.specs.Notes.{noted_list, AreNotedWithin}
+use Rattle.nz_place.specs.Places.{IsSiteWithin, place_of}
+use Rattle.nz_search.specs.Verdicts.{task_in}
 use Rattle.nz_reply.specs.Replies.{work_of}
 use Rattle.nz_reply.specs.declared.reply.WorkDone.{WorkDone}
 

@@ -1,8 +1,8 @@
 -- The values of terms in a model, by the outcomes that the code computes, and as they are told.
 use Rattle.std.specs.Prelude.{◌≡◌, ℕ, List, [], ◌∷◌, map}
-use Rattle.nz_spec.specs.Term.{Terms, no_terms, terms, Value, Assignment}
-use Rattle.nz_spec.specs.Table.{Node, assignment_by}
-use Rattle.nz_spec.specs.Reply.{Shown, term_shown}
+use Rattle.nz_spec.specs.terms.Term.{Terms, no_terms, terms, Value, Assignment}
+use Rattle.nz_spec.specs.terms.Table.{Node, assignment_by}
+use Rattle.nz_script.specs.replies.Reply.{Shown, term_shown}
 use Rattle.nz_reply.specs.Values.{shown_of}
 use Rattle.nz_reply.specs.declared.reply.Shown.TheVariants as shows
 use Rattle.nz_term.specs.declared.heads.Sort.{Sort}

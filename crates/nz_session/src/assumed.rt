@@ -1,28 +1,12 @@
-//! What a check assumes, as the engine is asked.
-ghost use Rattle.std.specs.Prelude.{◌≡◌, Bool, true, false, not, map, Some, IfOk};
-ghost use Rattle.nz_log.specs.TermLits.{AreConsistent};
-ghost use Rattle.nz_session.specs.Assumed.{DenyEachOther, lit_of};
+//! Whether what a check assumes denies itself.
+ghost use Rattle.std.specs.Prelude.{◌≡◌, Bool, true, false, not, Some, IfOk};
+ghost use Rattle.nz_term.specs.TermLits.{AreConsistent};
+ghost use Rattle.nz_session.specs.Assumed.{DenyEachOther};
 
 use nz_base::Memory;
-use nz_log::TermLit;
-use nz_sort::Assumed;
+use nz_term::TermLit;
 use std::alloc::Global;
 use std::collections::HashMap;
-
-/// The literals that terms are assumed by.
-pub(crate) fn literals_of(alloc: Global, assumed: &[Assumed]) -> Result<Vec<TermLit>, Memory>
-    ensures literals { IfOk result (λ ls. ls.items ≡ map lit_of assumed.now) }
-{
-    Ok(
-        assumed
-            .iter()
-            .map(|one| TermLit {
-                term: one.term,
-                sign: one.is_true,
-            })
-            .collect(alloc)?,
-    )
-}
 
 /// None of these literals is the negation of another.
 pub(crate) fn are_consistent(alloc: Global, literals: &[TermLit]) -> Result<bool, Memory>

@@ -1,7 +1,7 @@
 //! Models of the live constants.
 ghost use Rattle.std.specs.Prelude.{◌≡◌, ◌++◌, slice_get, unwrap_or, IfOk, OnOk};
-ghost use Rattle.nz_spec.specs.Table.{listed_value};
-ghost use Rattle.nz_spec.specs.Term.{default_value as default_at};
+ghost use Rattle.nz_spec.specs.terms.Table.{listed_value};
+ghost use Rattle.nz_spec.specs.terms.Term.{default_value as default_at};
 ghost use Rattle.nz_term.specs.Constants.{sort_of};
 ghost use Rattle.nz_term.specs.Values.{value_of};
 ghost use Rattle.nz_sort.specs.Items.{table_numbers};

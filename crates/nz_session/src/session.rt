@@ -3,23 +3,23 @@ ghost use Rattle.std.specs.Prelude.{◌≡◌, ◌≤◌, ◌+◌, ℕ, List, []
 ghost use Rattle.std.specs.Io.KnownBytes.{Appends};
 ghost use Rattle.nz_sexpr.specs.Packed.{packed_heard_view};
 ghost use Rattle.nz_sexpr.specs.View.{heard_view, what_view};
-ghost use Rattle.nz_spec.specs.Outside.{AddsFrontOf, counted};
-ghost use Rattle.nz_spec.specs.Error.{out_of_memory};
-ghost use Rattle.nz_spec.specs.Reply.{error, reply_text};
-ghost use Rattle.nz_spec.specs.Live.{start};
-ghost use Rattle.nz_spec.specs.Term.{Term};
-ghost use Rattle.nz_spec.specs.Right.{beginning};
-ghost use Rattle.nz_spec.specs.Transcript.{AreRight, EndsByExit, GoesOn};
+ghost use Rattle.nz_spec.specs.outside.Outside.{AddsFrontOf, counted};
+ghost use Rattle.nz_spec.specs.outside.Error.{out_of_memory};
+ghost use Rattle.nz_script.specs.replies.Reply.{error, reply_text};
+ghost use Rattle.nz_script.specs.live.Live.{start};
+ghost use Rattle.nz_spec.specs.terms.Term.{Term};
+ghost use Rattle.nz_script.specs.replies.Right.{beginning};
+ghost use Rattle.nz_script.specs.run.Transcript.{AreRight, EndsByExit, GoesOn};
 ghost use Rattle.nz_reply.specs.Replies.{reply_of};
 ghost use Rattle.nz_session.specs.Serve.{Answers, AnswersInPart, IsGoing, is_sink_fault, kept_at};
 
 use crate::desk::{Answer, Desk};
 use nz_base::{Error, Memory, Sink};
-use nz_log::Decide;
 use nz_reply::{Journal, Kept, Reply, WriteFault, kept_stay, write_reply};
+use nz_script::text::{one_reading, reading_tells_first};
+use nz_script::transcript::transcript_grows;
+use nz_search::Decide;
 use nz_sexpr::{Heard, Limits, PackedHeard, Reader, What};
-use nz_spec::text::{one_reading, reading_tells_first};
-use nz_spec::transcript::transcript_grows;
 use nz_term::Terms;
 use std::alloc::Global;
 

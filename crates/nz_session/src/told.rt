@@ -1,27 +1,27 @@
 //! What the engine is told of the live assertions.
 ghost use Rattle.std.specs.Prelude.{◌≡◌, ◌<◌, ◌≤◌, ◌+◌, ◌^◌, ℕ, List, [], ◌∷◌, ◌++◌, length, take, OnOk, OnErr};
-ghost use Rattle.nz_spec.specs.Term.{Term};
+ghost use Rattle.nz_spec.specs.terms.Term.{Term};
 ghost use Rattle.nz_sort.specs.Items.{table_numbers};
 ghost use Rattle.nz_sort.specs.Live.{IsCutBack, asserted_by};
 ghost use Rattle.nz_session.specs.Told.{IsBegun, IsTold};
 
 use nz_base::Memory;
-use nz_log::Decide;
+use nz_search::Decide;
 use nz_sort::{Accepted, Live};
 
 /// How much of the live assertions the engine has been told: of so many levels all, but of the last of these so many.
 #[derive(Clone, Copy, Debug)]
-pub(crate) struct Told {
+pub(crate) struct ToldExtent {
     pub levels: usize,
     pub last: usize,
 }
 
-impl Told {
-    pub const NOTHING: Told = Told { levels: 0, last: 0 };
+impl ToldExtent {
+    pub const NOTHING: ToldExtent = ToldExtent { levels: 0, last: 0 };
 }
 
 /// Takes the levels off the engine that are live no more. Takes no memory.
-pub(crate) fn pop_told<E: Decide>(engine: &mut E, told: &mut Told, live: &Live)
+pub(crate) fn pop_told<E: Decide>(engine: &mut E, told: &mut ToldExtent, live: &Live)
     requires told { (before : List (List ℕ)) × IsTold (E.levels engine.old) told.old before × IsCutBack before (asserted_by live.now) }
     ensures told { IsTold (E.levels engine.new) told.new (asserted_by live.now) }
     ensures table { E.table engine.new ≡ E.table engine.old }
@@ -32,14 +32,18 @@ pub(crate) fn pop_told<E: Decide>(engine: &mut E, told: &mut Told, live: &Live)
         return;
     }
     engine.pop(told.levels - count);
-    *told = Told {
+    *told = ToldExtent {
         levels: count,
         last: live.top().assertions().len(),
     };
 }
 
 /// Tells the engine the levels and the assertions that it hasn't been told.
-pub(crate) fn tell<E: Decide>(engine: &mut E, told: &mut Told, live: &Live) -> Result<(), Memory>
+pub(crate) fn tell<E: Decide>(
+    engine: &mut E,
+    told: &mut ToldExtent,
+    live: &Live,
+) -> Result<(), Memory>
     requires told { IsTold (E.levels engine.old) told.old (asserted_by live.now) }
     ensures told { IsTold (E.levels engine.new) told.new (asserted_by live.now) }
     ensures all { OnOk result (E.levels engine.new ≡ asserted_by live.now) }
@@ -56,7 +60,7 @@ pub(crate) fn tell<E: Decide>(engine: &mut E, told: &mut Told, live: &Live) -> R
 }
 
 /// Begins the first level in the engine, where it has none.
-fn begin_first<E: Decide>(engine: &mut E, told: &mut Told) -> Result<(), Memory>
+fn begin_first<E: Decide>(engine: &mut E, told: &mut ToldExtent) -> Result<(), Memory>
     ensures told { (asserted : List (List ℕ)) → 0 < length asserted → IsTold (E.levels engine.old) told.old asserted → IsTold (E.levels engine.new) told.new asserted }
     ensures some { OnOk result (0 < told.new.levels) }
     ensures table { E.table engine.new ≡ E.table engine.old }
@@ -69,7 +73,7 @@ fn begin_first<E: Decide>(engine: &mut E, told: &mut Told) -> Result<(), Memory>
 }
 
 /// Begins a level in the engine.
-fn begin_level<E: Decide>(engine: &mut E, told: &mut Told) -> Result<(), Memory>
+fn begin_level<E: Decide>(engine: &mut E, told: &mut ToldExtent) -> Result<(), Memory>
     requires small { told.old.levels < 2 ^ 63 }
     ensures begun { OnOk result (IsBegun (E.levels engine.old) told.old (E.levels engine.new) told.new) }
     ensures unchanged { OnErr result ((E.levels engine.new ≡ E.levels engine.old) × (told.new ≡ told.old)) }
@@ -77,7 +81,7 @@ fn begin_level<E: Decide>(engine: &mut E, told: &mut Told) -> Result<(), Memory>
     ensures begins { (ts : List Term) → E.begins engine.old ts → E.begins engine.new ts }
 {
     engine.push()?;
-    *told = Told {
+    *told = ToldExtent {
         levels: told.levels + 1,
         last: 0,
     };
@@ -87,7 +91,7 @@ fn begin_level<E: Decide>(engine: &mut E, told: &mut Told) -> Result<(), Memory>
 /// Tells the engine what it hasn't been told of the last level that it knows.
 fn tell_last<E: Decide>(
     engine: &mut E,
-    told: &mut Told,
+    told: &mut ToldExtent,
     assertions: &[Accepted],
 ) -> Result<(), Memory>
     requires first { (before : List (List ℕ)) × (E.levels engine.old ≡ before ++ take told.old.last (table_numbers assertions.now) ∷ []) × (told.old.last ≤ length assertions.now) }

@@ -1,6 +1,6 @@
 //! The values of terms in a model, as they are told.
 ghost use Rattle.std.specs.Prelude.{◌≡◌, IfOk};
-ghost use Rattle.nz_spec.specs.Term as term;
+ghost use Rattle.nz_spec.specs.terms.Term as term;
 ghost use Rattle.nz_reply.specs.Values.{shown_of};
 ghost use Rattle.nz_elaborate.specs.Typed.{AreTyped};
 ghost use Rattle.nz_session.specs.Valued.{AreShown, numbers_typed, outcome_shown, outcomes_shown};

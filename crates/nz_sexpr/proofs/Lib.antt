@@ -1,6 +1,6 @@
-pub mod Feeding
-pub mod Keeping
+pub mod FedBytes
+pub mod OpenCommands
+pub mod PackedTrees
+pub mod Quiet
 pub mod Runs
 pub mod WordTokens
-pub mod Packing
-pub mod Quiet

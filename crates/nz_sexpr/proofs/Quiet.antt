@@ -2,10 +2,10 @@
 use Rattle.std.proofs.Common.{◌≡◌, ℕ, ◌<◌, ◌==◌, ◌||◌, Bool, true, false, if◌then◌else◌, List, [], ◌∷◌, ◌++◌, length, nat_lt, refl, sym, ◌∙◌, ap, ap₂, subst, arith}
 use Rattle.std.proofs.lemmas.Bool.{ltb-true}
 use Rattle.std.proofs.Math.Bool.{or-false}
-use Rattle.nz_spec.specs.Tree.{Tree}
-use Rattle.nz_spec.specs.Text.{Limits, ByteClass, blank_byte, left_byte, right_byte, comment_byte, quote_byte, bar_byte, word_byte, class_of, is_blank_byte, is_quote, is_bar, Filler, word, string}
-use Rattle.nz_spec.specs.Reading as reading
-use Rattle.nz_spec.specs.Reading.{no_part, in_comment, in_word, in_string, after_quote, in_quoted, Reading, passed, taken, taken_by, told_token, told_token_by, told_closed_by, told_outside, told_in_word, told_in, told_at}
+use Rattle.nz_script.specs.text.Tree.{Tree}
+use Rattle.nz_script.specs.text.Text.{Limits, ByteClass, blank_byte, left_byte, right_byte, comment_byte, quote_byte, bar_byte, word_byte, class_of, is_blank_byte, is_quote, is_bar, Filler, word, string}
+use Rattle.nz_script.specs.text.Reading as reading
+use Rattle.nz_script.specs.text.Reading.{no_part, in_comment, in_word, in_string, after_quote, in_quoted, Reading, passed, taken, taken_by, told_token, told_token_by, told_closed_by, told_outside, told_in_word, told_in, told_at}
 use Rattle.nz_sexpr.specs.Part.{part_of, holds_no_token}
 use Rattle.nz_sexpr.specs.Matches.{is_quiet_at}
 use Rattle.nz_sexpr.specs.declared.part.Part.{Part}

@@ -1,9 +1,9 @@
 -- Runs of bytes that go on with what is being read.
 use Rattle.std.proofs.Common.{◌≡◌, ℕ, ◌+◌, ◌<◌, suc, zero, Bool, true, false, if◌then◌else◌, List, [], ◌∷◌, ◌++◌, length, get_or, take, refl, sym, ◌∙◌, ap, arith, append_assoc, append-nil, add-zero, ne_eqb}
 use Rattle.std.proofs.lemmas.List.Folds.{list_all-append}
-use Rattle.nz_spec.specs.Tree.{Tree}
-use Rattle.nz_spec.specs.Text.{Limits, ByteClass, blank_byte, left_byte, right_byte, comment_byte, quote_byte, bar_byte, word_byte, class_of, HasNone, is_line_end, is_quote, is_bar, is_literal_byte, is_quoted_byte, word, string, quoted}
-use Rattle.nz_spec.specs.Reading.{Part, no_part, in_comment, in_word, in_string, after_quote, in_quoted, Reading, begins_at, begun, goes_on, passed, taken, told_token, next_in, told_in, next_in_word, told_in_word, next_outside, told_outside, next, told_at, read_on, told_on}
+use Rattle.nz_script.specs.text.Tree.{Tree}
+use Rattle.nz_script.specs.text.Text.{Limits, ByteClass, blank_byte, left_byte, right_byte, comment_byte, quote_byte, bar_byte, word_byte, class_of, HasNone, is_line_end, is_quote, is_bar, is_literal_byte, is_quoted_byte, word, string, quoted}
+use Rattle.nz_script.specs.text.Reading.{Part, no_part, in_comment, in_word, in_string, after_quote, in_quoted, Reading, begins_at, begun, goes_on, passed, taken, told_token, next_in, told_in, next_in_word, told_in_word, next_outside, told_outside, next, told_at, read_on, told_on}
 use Rattle.nz_sexpr.specs.Bytes.{is_no_word, ends_word}
 use Rattle.nz_sexpr.specs.Words.{kind_after, kinds_after}
 use Rattle.nz_sexpr.specs.Part.{part_of, text_of_part, ends, part_after, begins_here, text_after}
@@ -166,15 +166,6 @@ begins_by (in_quoted w) ls s e = refl
 pub begins_so : (s : Reading) → begins_here (part_of s.part) (length s.levels) s.at s.from ≡ begins_in s.part s
 begins_so s = begins_by s.part s.levels s refl
 
--- no part is open exactly where the code keeps none
-pub absent_is : (p : Part) → part.Absent ≡ part_of p → p ≡ no_part
-absent_is no_part h = refl
-absent_is in_comment h = cc
-absent_is (in_word w) h = cc
-absent_is (in_string w) h = cc
-absent_is (after_quote w) h = cc
-absent_is (in_quoted w) h = cc
-
 -- ---- Bytes at which a run ends
 
 pub is_word_part : (k : WordKind) (p : Part) → part.Word k ≡ part_of p → (w : List ℕ) × (p ≡ in_word w)
@@ -184,14 +175,6 @@ is_word_part k (in_word w) h = (w, refl)
 is_word_part k (in_string w) h = cc
 is_word_part k (after_quote w) h = cc
 is_word_part k (in_quoted w) h = cc
-
-pub is_string_part : (c : Bool) (p : Part) → part.String c ≡ part_of p → (w : List ℕ) × (p ≡ in_string w)
-is_string_part c no_part h = cc
-is_string_part c in_comment h = cc
-is_string_part c (in_word w) h = cc
-is_string_part c (in_string w) h = (w, refl)
-is_string_part c (after_quote w) h = cc
-is_string_part c (in_quoted w) h = cc
 
 pub is_after_quote : (c : Bool) (p : Part) → part.AfterQuote c ≡ part_of p → (w : List ℕ) × (p ≡ after_quote w)
 is_after_quote c no_part h = cc
@@ -222,32 +205,8 @@ after_class word_byte w b s h = cc
 pub after_word : (w : List ℕ) (b : ℕ) (s : Reading) → ends_word b ≡ true → next_in (in_word w) b s ≡ next_outside (class_of b) b (taken (word w) s)
 after_word w b s h = after_class (class_of b) w b s h
 
-told_class : (c : ByteClass) (limits : Limits) (w : List ℕ) (s : Reading) → is_no_word c ≡ true → told_in_word c limits w s ≡ told_token s ++ told_outside c limits (taken (word w) s)
-told_class blank_byte limits w s h = sym (append-nil (told_token s))
-told_class left_byte limits w s h = sym (append-nil (told_token s))
-told_class right_byte limits w s h = refl
-told_class comment_byte limits w s h = sym (append-nil (told_token s))
-told_class quote_byte limits w s h = sym (append-nil (told_token s))
-told_class bar_byte limits w s h = sym (append-nil (told_token s))
-told_class word_byte limits w s h = cc
-
-pub told_after_word : (w : List ℕ) (b : ℕ) (limits : Limits) (s : Reading) → ends_word b ≡ true → told_in (in_word w) limits b s ≡ told_token s ++ told_outside (class_of b) limits (taken (word w) s)
-told_after_word w b limits s h = told_class (class_of b) limits w s h
-
-pub after_string : (w : List ℕ) (b : ℕ) (s : Reading) → is_quote b ≡ false → next_in (after_quote w) b s ≡ next_outside (class_of b) b (taken (string w) s)
-after_string w b s h = ap (λ t. if t then goes_on (in_string (w ++ b ∷ [])) s else next_outside (class_of b) b (taken (string w) s)) h
-
-pub told_after_string : (w : List ℕ) (b : ℕ) (limits : Limits) (s : Reading) → is_quote b ≡ false → told_in (after_quote w) limits b s ≡ told_token s ++ told_outside (class_of b) limits (taken (string w) s)
-told_after_string w b limits s h = ap (λ t. if t then [] else told_token s ++ told_outside (class_of b) limits (taken (string w) s)) h
-
 pub second_quote : (w : List ℕ) (b : ℕ) (s : Reading) → is_quote b ≡ true → next_in (after_quote w) b s ≡ goes_on (in_string (w ++ b ∷ [])) s
 second_quote w b s h = ap (λ t. if t then goes_on (in_string (w ++ b ∷ [])) s else next_outside (class_of b) b (taken (string w) s)) h
-
-pub told_second_quote : (w : List ℕ) (b : ℕ) (limits : Limits) (s : Reading) → is_quote b ≡ true → told_in (after_quote w) limits b s ≡ []
-told_second_quote w b limits s h = ap (λ t. if t then [] else told_token s ++ told_outside (class_of b) limits (taken (string w) s)) h
-
-pub closing_quote : (w : List ℕ) (b : ℕ) (s : Reading) → is_quote b ≡ true → next_in (in_string w) b s ≡ goes_on (after_quote w) s
-closing_quote w b s h = ap (λ t. goes_on (if t then after_quote w else in_string (w ++ b ∷ [])) s) h
 
 pub closing_bar : (w : List ℕ) (b : ℕ) (s : Reading) → is_bar b ≡ true → next_in (in_quoted w) b s ≡ taken (quoted w) (passed s)
 closing_bar w b s h = ap (λ t. if t then taken (quoted w) (passed s) else goes_on (in_quoted (w ++ b ∷ [])) s) h

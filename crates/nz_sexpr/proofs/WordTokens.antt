@@ -3,9 +3,9 @@ use Rattle.std.proofs.Common.{◌≡◌, ℕ, ◌==◌, ◌&&◌, not, Bool, tru
 use Rattle.std.specs.Prelude.{option_map}
 use Rattle.std.specs.List.{list_all}
 use Rattle.std.proofs.lemmas.Bool.{and_right}
-use Rattle.nz_spec.specs.Tree.{Token, symbol, keyword, numeral, decimal, hexadecimal, binary, literal, is_digit, is_symbol_byte, is_hexadecimal_digit, is_simple_symbol, is_numeral, is_decimal, is_keyword, is_hexadecimal, is_binary, are_digits, before_point, after_point, word_token}
-use Rattle.nz_spec.specs.Text.{string, quoted, token_of, is_literal_byte, is_quoted_byte}
-use Rattle.nz_spec.specs.Reading.{after_quote, in_quoted}
+use Rattle.nz_script.specs.text.Tree.{Token, symbol, keyword, numeral, decimal, hexadecimal, binary, literal, is_digit, is_symbol_byte, is_hexadecimal_digit, is_simple_symbol, is_numeral, is_decimal, is_keyword, is_hexadecimal, is_binary, are_digits, before_point, after_point, word_token}
+use Rattle.nz_script.specs.text.Text.{string, quoted, token_of, is_literal_byte, is_quoted_byte}
+use Rattle.nz_script.specs.text.Reading.{after_quote, in_quoted}
 use Rattle.nz_sexpr.specs.Words.{kind_of_word, kind_after, kinds_after, token_kind, token_by, is_binary_digit}
 use Rattle.nz_sexpr.specs.Part.{part_of, kind_where, kind_of_part}
 use Rattle.nz_sexpr.specs.declared.words.WordKind.{WordKind}
@@ -94,10 +94,6 @@ zero_step b bs false e = ap (λ t. token_kind (kinds_after (if t then kind.Point
 not_here : (test : ℕ → Bool) (c n : ℕ) → test c ≡ true → test n ≡ false → (c == n) ≡ false
 not_here test c n h k = ne_eqb c n (λ e. let f : true ≡ false = sym h ∙ ap test e ∙ k in cc)
 
--- and one that doesn't is none that does
-not_there : (test : ℕ → Bool) (c n : ℕ) → test c ≡ false → test n ≡ true → (c == n) ≡ false
-not_there test c n h k = ne_eqb c n (λ e. let f : false ≡ true = sym h ∙ ap test e ∙ k in cc)
-
 no_numeral : (c : ℕ) (bs : List ℕ) → is_digit c ≡ false → is_numeral (c ∷ bs) ≡ false
 no_numeral c [] d = d
 no_numeral c (b ∷ bs) d = and_right (not (c == 48)) (is_digit c && list_all is_digit (b ∷ bs)) (ap (λ t. t && list_all is_digit (b ∷ bs)) d)
@@ -162,14 +158,14 @@ firsts c d z s k h ed ez es ek eh =
 
 -- ---- Words by their first byte
 
-abbrev Told : ℕ → List ℕ → Type 0
-Told c bs = word_token (c ∷ bs) ≡ of_kind (c ∷ bs) (token_kind (kinds_after (kind_after kind.Empty c) bs))
+abbrev IsTokenOfKind : ℕ → List ℕ → Type 0
+IsTokenOfKind c bs = word_token (c ∷ bs) ≡ of_kind (c ∷ bs) (token_kind (kinds_after (kind_after kind.Empty c) bs))
 
 symbol_picked : (w : List ℕ) (s : Bool) → picked w s false false false false false ≡ of_kind w (kind_where s token.Symbol)
 symbol_picked w true = refl
 symbol_picked w false = refl
 
-symbol_told : (c : ℕ) (bs : List ℕ) → is_digit c ≡ false → is_symbol_byte c ≡ true → Told c bs
+symbol_told : (c : ℕ) (bs : List ℕ) → is_digit c ≡ false → is_symbol_byte c ≡ true → IsTokenOfKind c bs
 symbol_told c bs d s =
     let w : List ℕ = c ∷ bs in
     let colon : (c == 58) ≡ false = not_here is_symbol_byte c 58 s refl in
@@ -180,7 +176,7 @@ symbol_told c bs d s =
     ∙ symbol_picked w (list_all is_symbol_byte bs)
     ∙ sym (ap (of_kind w) (ap (λ k. token_kind (kinds_after k bs)) first ∙ loop_token kind.Symbol token.Symbol is_symbol_byte (λ b. refl) refl bs))
 
-bad_told : (c : ℕ) (bs : List ℕ) → is_digit c ≡ false → is_symbol_byte c ≡ false → (c == 58) ≡ false → (c == 35) ≡ false → Told c bs
+bad_told : (c : ℕ) (bs : List ℕ) → is_digit c ≡ false → is_symbol_byte c ≡ false → (c == 58) ≡ false → (c == 35) ≡ false → IsTokenOfKind c bs
 bad_told c bs d s colon hash =
     let w : List ℕ = c ∷ bs in
     let simple : is_simple_symbol w ≡ false = ap₂ (λ (d t : Bool). not d && (t && list_all is_symbol_byte bs)) d s in
@@ -196,16 +192,12 @@ keyword_picked : (w : List ℕ) (k : Bool) → picked w false false false k fals
 keyword_picked w true = refl
 keyword_picked w false = refl
 
-colon_told : (bs : List ℕ) → Told 58 bs
+colon_told : (bs : List ℕ) → IsTokenOfKind 58 bs
 colon_told bs =
     let w : List ℕ = 58 ∷ bs in
     picks w false false false (some_all is_symbol_byte bs) false false refl (no_numeral 58 bs refl) (no_decimal 58 bs refl) (keyword_is bs) (no_hexadecimal 58 bs refl) (no_binary 58 bs refl)
     ∙ keyword_picked w (some_all is_symbol_byte bs)
     ∙ sym (ap (of_kind w) (first_token kind.Colon kind.Keyword token.Keyword is_symbol_byte (λ b. refl) (λ b. refl) refl refl bs))
-
--- what follows # is, by whether it is x or b
-abbrev prefixed : List ℕ → Bool → Bool → Bool → Bool → Option Token
-prefixed w x b h d = if x && h then Some (hexadecimal w) else (if b && d then Some (binary w) else None)
 
 hexadecimal_is : (b : ℕ) (bs : List ℕ) → is_hexadecimal (35 ∷ b ∷ bs) ≡ (b == 120) && some_all is_hexadecimal_digit bs
 hexadecimal_is b [] = sym (and_right (b == 120) false refl)
@@ -223,7 +215,7 @@ binary_picked : (w : List ℕ) (k : Bool) → picked w false false false false f
 binary_picked w true = refl
 binary_picked w false = refl
 
-hash_then : (b : ℕ) (bs : List ℕ) (x y : Bool) → (b == 120) ≡ x → (b == 98) ≡ y → Told 35 (b ∷ bs)
+hash_then : (b : ℕ) (bs : List ℕ) (x y : Bool) → (b == 120) ≡ x → (b == 98) ≡ y → IsTokenOfKind 35 (b ∷ bs)
 hash_then b bs true y ex ey =
     let w : List ℕ = 35 ∷ b ∷ bs in
     let other : (b == 98) ≡ false = ap (λ k. k == 98) (eqb-true b 120 ex) in
@@ -240,7 +232,7 @@ hash_then b bs false false ex ey =
     picks w false false false false false false refl (no_numeral 35 (b ∷ bs) refl) (no_decimal 35 (b ∷ bs) refl) (no_keyword 35 (b ∷ bs) refl) (hexadecimal_is b bs ∙ ap (λ t. t && some_all is_hexadecimal_digit bs) ex) (binary_is b bs ∙ ap (λ t. t && some_all is_binary_digit bs) ey)
     ∙ sym (ap (of_kind w) (ap₂ (λ (s t : Bool). token_kind (kinds_after (if s then kind.HexadecimalPrefix else (if t then kind.BinaryPrefix else kind.Bad)) bs)) ex ey ∙ ap token_kind (bad_stays bs)))
 
-hash_told : (bs : List ℕ) → Told 35 bs
+hash_told : (bs : List ℕ) → IsTokenOfKind 35 bs
 hash_told [] = refl
 hash_told (b ∷ bs) = hash_then b bs (b == 120) (b == 98) refl refl
 
@@ -253,7 +245,7 @@ numeral_tail : (c : ℕ) (bs : List ℕ) → is_digit c ≡ true → (c == 48) �
 numeral_tail c [] d z = d
 numeral_tail c (b ∷ bs) d z = ap₂ (λ (z d : Bool). not z && (d && list_all is_digit (b ∷ bs))) z d
 
-digits_told : (c : ℕ) (bs : List ℕ) → is_digit c ≡ true → (c == 48) ≡ false → Told c bs
+digits_told : (c : ℕ) (bs : List ℕ) → is_digit c ≡ true → (c == 48) ≡ false → IsTokenOfKind c bs
 digits_told c bs d z =
     let w : List ℕ = c ∷ bs in
     let point : (c == 46) ≡ false = not_here is_digit c 46 d refl in
@@ -272,7 +264,7 @@ zero_then : (b : ℕ) (bs : List ℕ) (t : Bool) → (b == 46) ≡ t → is_deci
 zero_then b bs true e = ap (λ (t : Bool). is_numeral (48 ∷ (if t then [] else b ∷ before_point bs)) && are_digits (if t then bs else after_point bs)) e
 zero_then b bs false e = ap (λ (t : Bool). is_numeral (48 ∷ (if t then [] else b ∷ before_point bs)) && are_digits (if t then bs else after_point bs)) e
 
-zero_told : (bs : List ℕ) → Told 48 bs
+zero_told : (bs : List ℕ) → IsTokenOfKind 48 bs
 zero_told [] = refl
 zero_told (b ∷ bs) =
     let w : List ℕ = 48 ∷ b ∷ bs in
@@ -280,16 +272,16 @@ zero_told (b ∷ bs) =
     ∙ number_picked w false ((b == 46) && are_digits bs)
     ∙ sym (ap (of_kind w) (zero_step b bs (b == 46) refl))
 
-digit_told : (c : ℕ) (bs : List ℕ) (z : Bool) → is_digit c ≡ true → (c == 48) ≡ z → Told c bs
-digit_told c bs true d e = subst (λ k. Told k bs) (sym (eqb-true c 48 e)) (zero_told bs)
+digit_told : (c : ℕ) (bs : List ℕ) (z : Bool) → is_digit c ≡ true → (c == 48) ≡ z → IsTokenOfKind c bs
+digit_told c bs true d e = subst (λ k. IsTokenOfKind k bs) (sym (eqb-true c 48 e)) (zero_told bs)
 digit_told c bs false d e = digits_told c bs d e
 
-other_told : (c : ℕ) (bs : List ℕ) (k h : Bool) → is_digit c ≡ false → is_symbol_byte c ≡ false → (c == 58) ≡ k → (c == 35) ≡ h → Told c bs
-other_told c bs true h d s ek eh = subst (λ k. Told k bs) (sym (eqb-true c 58 ek)) (colon_told bs)
-other_told c bs false true d s ek eh = subst (λ k. Told k bs) (sym (eqb-true c 35 eh)) (hash_told bs)
+other_told : (c : ℕ) (bs : List ℕ) (k h : Bool) → is_digit c ≡ false → is_symbol_byte c ≡ false → (c == 58) ≡ k → (c == 35) ≡ h → IsTokenOfKind c bs
+other_told c bs true h d s ek eh = subst (λ k. IsTokenOfKind k bs) (sym (eqb-true c 58 ek)) (colon_told bs)
+other_told c bs false true d s ek eh = subst (λ k. IsTokenOfKind k bs) (sym (eqb-true c 35 eh)) (hash_told bs)
 other_told c bs false false d s ek eh = bad_told c bs d s ek eh
 
-first_told : (c : ℕ) (bs : List ℕ) (d s : Bool) → is_digit c ≡ d → is_symbol_byte c ≡ s → Told c bs
+first_told : (c : ℕ) (bs : List ℕ) (d s : Bool) → is_digit c ≡ d → is_symbol_byte c ≡ s → IsTokenOfKind c bs
 first_told c bs true s ed es = digit_told c bs (c == 48) ed refl
 first_told c bs false true ed es = symbol_told c bs ed es
 first_told c bs false false ed es = other_told c bs (c == 58) (c == 35) ed es refl refl

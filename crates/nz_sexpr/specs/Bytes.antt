@@ -1,6 +1,6 @@
 -- The kinds of bytes that the code tells apart.
 use Rattle.std.specs.Prelude.{ℕ, Bool, true, false}
-use Rattle.nz_spec.specs.Text.{ByteClass, blank_byte, left_byte, right_byte, comment_byte, quote_byte, bar_byte, word_byte, class_of}
+use Rattle.nz_script.specs.text.Text.{ByteClass, blank_byte, left_byte, right_byte, comment_byte, quote_byte, bar_byte, word_byte, class_of}
 use Rattle.nz_sexpr.specs.declared.bytes.Kind.{Kind}
 use Rattle.nz_sexpr.specs.declared.bytes.Kind.TheVariants as kind
 

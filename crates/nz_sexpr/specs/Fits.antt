@@ -1,8 +1,8 @@
 -- What a reader has read and told.
 use Rattle.std.specs.Prelude.{ℕ, List, ◌++◌, Bool, is_some}
-use Rattle.nz_spec.specs.Text.{Limits, Heard}
-use Rattle.nz_spec.specs.Kept.{AreToldAs}
-use Rattle.nz_spec.specs.Reading.{reading_start, read_on, told_on}
+use Rattle.nz_script.specs.text.Text.{Limits, Heard}
+use Rattle.nz_script.specs.text.ToldAs.{AreToldAs}
+use Rattle.nz_script.specs.text.Reading.{reading_start, read_on, told_on}
 use Rattle.nz_sexpr.specs.Matches.{Matches, told}
 use Rattle.nz_sexpr.specs.declared.reader.Reader.{Reader}
 

@@ -1,10 +1,10 @@
 -- The state of the reader, against the text read byte by byte.
 use Rattle.std.specs.Prelude.{◌≡◌, ◌<◌, ◌≤◌, ◌+◌, ◌-◌, ◌^◌, ℕ, List, length, Bool, nat_lt, ◌==◌, ◌||◌, if◌then◌else◌, Option, option_map, option_to_list, IfSome}
-use Rattle.nz_spec.specs.Text.{Limits, Heard}
-use Rattle.nz_spec.specs.Kept.{AreToldAs}
-use Rattle.nz_spec.specs.Reading.{Reading}
+use Rattle.nz_script.specs.text.Text.{Limits, Heard}
+use Rattle.nz_script.specs.text.ToldAs.{AreToldAs}
+use Rattle.nz_script.specs.text.Reading.{Reading}
 use Rattle.nz_sexpr.specs.Part.{part_of, text_of_part, holds_no_token}
-use Rattle.nz_sexpr.specs.Store.{Kept, kept_of}
+use Rattle.nz_sexpr.specs.Store.{OpenCommand, kept_of}
 use Rattle.nz_sexpr.specs.View.{heard_view}
 use Rattle.nz_sexpr.specs.declared.part.Part.{Part}
 use Rattle.nz_sexpr.specs.declared.scan.Scan.{Scan}
@@ -15,7 +15,7 @@ abbrev pub limits_view : bounds.Limits → Limits
 limits_view l = record { depth = l.depth; bytes = l.bytes }
 
 -- what is kept is what stands in the open command
-pub record IsWhatStands (s : Reading) (k : Kept) : Type 0 where
+pub record IsWhatStands (s : Reading) (k : OpenCommand) : Type 0 where
   pub inside : 0 < length s.levels
   pub all : k ≡ record { text = text_of_part s.part; levels = s.levels }
 

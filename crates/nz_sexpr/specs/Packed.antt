@@ -1,8 +1,8 @@
 -- The bytes of a packed tree, and the tree that they say.
 use Rattle.std.specs.Prelude.{ℕ, ◌==◌, nat_lt, not, ◌||◌, Bool, true, false, List, [], ◌∷◌, ◌++◌, flat_map, if◌then◌else◌}
-use Rattle.nz_spec.specs.Tree.{Token, symbol, keyword, numeral, decimal, hexadecimal, binary, literal, Tree, leaf, node, Trees, no_trees, trees}
-use Rattle.nz_spec.specs.Reading.{trees_from, with_trees, with_closed}
-use Rattle.nz_spec.specs.Text as script
+use Rattle.nz_script.specs.text.Tree.{Token, symbol, keyword, numeral, decimal, hexadecimal, binary, literal, Tree, leaf, node, Trees, no_trees, trees}
+use Rattle.nz_script.specs.text.Reading.{trees_from, with_trees, with_closed}
+use Rattle.nz_script.specs.text.Text as script
 use Rattle.nz_base.specs.Errors.{error_of}
 use Rattle.nz_sexpr.specs.declared.packed.Packed as code
 use Rattle.nz_sexpr.specs.declared.packed.PackedWhat as whats

@@ -1,8 +1,8 @@
 -- The parts that the code tells apart, against those of the reading.
 use Rattle.std.specs.Prelude.{ℕ, ◌==◌, ◌&&◌, Bool, true, false, List, [], ◌++◌, Option, Some, None, if◌then◌else◌}
 use Rattle.std.specs.List.{list_all}
-use Rattle.nz_spec.specs.Text.{is_line_end, is_quote, is_bar, is_literal_byte, is_quoted_byte, Filler, word, string, quoted}
-use Rattle.nz_spec.specs.Reading as reading
+use Rattle.nz_script.specs.text.Text.{is_line_end, is_quote, is_bar, is_literal_byte, is_quoted_byte, Filler, word, string, quoted}
+use Rattle.nz_script.specs.text.Reading as reading
 use Rattle.nz_sexpr.specs.Bytes.{ends_word}
 use Rattle.nz_sexpr.specs.Words.{kind_of_word, kinds_after, token_kind}
 use Rattle.nz_sexpr.specs.declared.part.Part.{Part}

@@ -1,6 +1,6 @@
 -- How large a tree is: the measure of a recursion down it.
 use Rattle.std.specs.Prelude.{ℕ, suc, ◌+◌}
-use Rattle.nz_spec.specs.Tree.{Tree, leaf, node, Trees, no_trees, trees}
+use Rattle.nz_script.specs.text.Tree.{Tree, leaf, node, Trees, no_trees, trees}
 
 abbrev mutual
   pub tree_size : Tree → ℕ

@@ -1,8 +1,8 @@
 -- The data that tokens, trees and things heard stand for.
 use Rattle.std.specs.Prelude.{List, map}
-use Rattle.nz_spec.specs.Tree as text
-use Rattle.nz_spec.specs.Reading.{trees_from}
-use Rattle.nz_spec.specs.Text as script
+use Rattle.nz_script.specs.text.Tree as text
+use Rattle.nz_script.specs.text.Reading.{trees_from}
+use Rattle.nz_script.specs.text.Text as script
 use Rattle.nz_base.specs.Errors.{error_of}
 use Rattle.nz_sexpr.specs.declared.tree.Token.{Token}
 use Rattle.nz_sexpr.specs.declared.tree.Token.TheVariants as token

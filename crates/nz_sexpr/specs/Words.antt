@@ -1,6 +1,6 @@
 -- How a word stands after some of its bytes, and what token it is then.
 use Rattle.std.specs.Prelude.{ℕ, ◌==◌, ◌||◌, Bool, List, [], ◌∷◌, Option, Some, None, if◌then◌else◌}
-use Rattle.nz_spec.specs.Tree.{Token, symbol, keyword, numeral, decimal, hexadecimal, binary, literal, is_symbol_byte, is_digit, is_hexadecimal_digit}
+use Rattle.nz_script.specs.text.Tree.{Token, symbol, keyword, numeral, decimal, hexadecimal, binary, literal, is_symbol_byte, is_digit, is_hexadecimal_digit}
 use Rattle.nz_sexpr.specs.declared.words.WordKind.{WordKind}
 use Rattle.nz_sexpr.specs.declared.words.WordKind.TheVariants as word
 use Rattle.nz_sexpr.specs.declared.words.TokenKind.{TokenKind}

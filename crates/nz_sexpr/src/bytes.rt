@@ -1,7 +1,7 @@
 //! Bytes by their kind.
 ghost use Rattle.std.specs.Prelude.{◌≡◌, ◌==◌, ◌||◌};
-ghost use Rattle.nz_spec.specs.Text as script;
-ghost use Rattle.nz_spec.specs.Tree as text;
+ghost use Rattle.nz_script.specs.text.Text as script;
+ghost use Rattle.nz_script.specs.text.Tree as text;
 ghost use Rattle.nz_sexpr.specs.Bytes.{class_view};
 
 /// What a byte is, where no word goes on and no comment, string or quoted symbol is open.

@@ -1,7 +1,7 @@
 //! Trees as blocks of bytes, for what is kept of commands that were answered. Short commands are most of a long script, and as a
 //! tree each takes many times its bytes.
 ghost use Rattle.std.specs.Prelude.{◌≡◌, ◌∷◌, [], ◌++◌, IfOk, OnOk};
-ghost use Rattle.nz_spec.specs.Tree.{node};
+ghost use Rattle.nz_script.specs.text.Tree.{node};
 ghost use Rattle.nz_sexpr.specs.Packed.{escaped, escaped_byte, packed, packed_token, packed_tree, packed_trees, packed_what_view};
 ghost use Rattle.nz_sexpr.specs.View.{seen, token_view, view, what_view};
 

@@ -1,7 +1,7 @@
 //! What is being read that may have more bytes than one.
 ghost use Rattle.std.specs.Prelude.{◌≡◌, ◌≤◌, ◌<◌, ◌&&◌, Bool, true, length, take, slice_index};
 ghost use Rattle.std.specs.List.{list_all};
-ghost use Rattle.nz_spec.specs.Text.{HasNone, is_literal_byte as literal_byte, is_quoted_byte as quoted_byte};
+ghost use Rattle.nz_script.specs.text.Text.{HasNone, is_literal_byte as literal_byte, is_quoted_byte as quoted_byte};
 ghost use Rattle.nz_sexpr.specs.Bytes.{ends_word};
 ghost use Rattle.nz_sexpr.specs.Part.{ends, part_after, kind_of_part, keeps_text, holds_no_token};
 

@@ -1,11 +1,11 @@
 //! The reader: bytes are fed to it in pieces of any size.
 ghost use Rattle.std.specs.Prelude.{◌≡◌, ◌≤◌, ◌<◌, ◌+◌, ◌^◌, ◌++◌, ℕ, List, [], length, take, false, true, None, IsSome, IsNone};
-ghost use Rattle.nz_spec.specs.Text.{Limits as Bounds, Heard as Thing};
-ghost use Rattle.nz_spec.specs.Told.{IsTold, IsToldFirst};
+ghost use Rattle.nz_script.specs.text.Text.{Limits as Bounds, Heard as Thing};
+ghost use Rattle.nz_script.specs.text.Told.{IsTold, IsToldFirst};
 
 use crate::heard::{Heard, Limits};
 use crate::scan::Scan;
-use nz_spec::text::{reading_is_heard, reading_tells_first};
+use nz_script::text::{reading_is_heard, reading_tells_first};
 use std::alloc::Global;
 
 /// Reads a script in pieces of any size.

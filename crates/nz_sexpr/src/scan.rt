@@ -1,12 +1,12 @@
 //! The state of a reader between bytes, and its steps.
 ghost use Rattle.std.specs.Prelude.{◌≡◌, ◌≢◌, ◌≤◌, ◌<◌, ◌+◌, ◌-◌, ◌^◌, ◌++◌, ◌||◌, ℕ, List, [], ◌∷◌, length, take, slice_index, is_none, nat_lt, min, true, Some, None, IfSome};
-ghost use Rattle.nz_spec.specs.Text.{Limits as Bounds, class_of, HasNone};
-ghost use Rattle.nz_spec.specs.Kept.{IsToldWhat, AreToldAs};
-ghost use Rattle.nz_spec.specs.Reading as text_part;
-ghost use Rattle.nz_spec.specs.Reading.{Reading, reading_start, opened, closed, begun, goes_on, taken, told_closed, told_token, next_outside, told_outside, next, told_at, read_on, told_open, what_of};
-ghost use Rattle.nz_spec.specs.Tree as text;
+ghost use Rattle.nz_script.specs.text.Text.{Limits as Bounds, class_of, HasNone};
+ghost use Rattle.nz_script.specs.text.ToldAs.{IsToldWhat, AreToldAs};
+ghost use Rattle.nz_script.specs.text.Reading as text_part;
+ghost use Rattle.nz_script.specs.text.Reading.{Reading, reading_start, opened, closed, begun, goes_on, taken, told_closed, told_token, next_outside, told_outside, next, told_at, read_on, told_open, what_of};
+ghost use Rattle.nz_script.specs.text.Tree as text;
 ghost use Rattle.nz_sexpr.specs.Part.{part_of, text_of_part, text_after, filler_of, ends, begins_here};
-ghost use Rattle.nz_sexpr.specs.Store.{Kept, kept_of, Keeps, TakesToken};
+ghost use Rattle.nz_sexpr.specs.Store.{OpenCommand, kept_of, Keeps, TakesToken};
 ghost use Rattle.nz_sexpr.specs.View.{what_view};
 ghost use Rattle.nz_sexpr.specs.Matches.{Matches, Follows, Tells, GoesOnBy, EndsWithin, told, limits_view, is_quiet_at};
 
@@ -89,7 +89,7 @@ impl Scan {
     /// Keeps a run of a token's bytes, and none of a comment's.
     fn keep_run(&mut self, run: &[u8])
         ensures rest { self.new ≡ record self.old { store = self.new.store } }
-        ensures kept { Keeps (kept_of self.old.store) (kept_of self.new.store) (λ (k : Kept). record k { text = text_after self.old.part k.text run.now }) }
+        ensures kept { Keeps (kept_of self.old.store) (kept_of self.new.store) (λ (k : OpenCommand). record k { text = text_after self.old.part k.text run.now }) }
     {
         if self.part.is_of_token() {
             self.store.extend_text(run);

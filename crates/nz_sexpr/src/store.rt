@@ -1,7 +1,7 @@
 //! What is kept of an open command while it is read: its trees so far, and the text of the token that is being read.
 ghost use Rattle.std.specs.Prelude.{◌≡◌, List, [], ◌∷◌, ◌++◌, Some, None, IfSome, IsSomeAnd, OnOk};
-ghost use Rattle.nz_spec.specs.Tree as text;
-ghost use Rattle.nz_spec.specs.Reading.{trees_from, with_trees, with_closed};
+ghost use Rattle.nz_script.specs.text.Tree as text;
+ghost use Rattle.nz_script.specs.text.Reading.{trees_from, with_trees, with_closed};
 ghost use Rattle.nz_sexpr.specs.Words.{token_by};
 ghost use Rattle.nz_sexpr.specs.View.{token_view};
 
@@ -29,7 +29,7 @@ pub(crate) struct Store {
 
 impl Store {
     ghost use Rattle.nz_sexpr.specs.View.{list_view};
-    ghost use Rattle.nz_sexpr.specs.Store.{Kept, kept_of, Keeps};
+    ghost use Rattle.nz_sexpr.specs.Store.{OpenCommand, kept_of, Keeps};
 
     pub(crate) fn new(alloc: Global) -> Self
         ensures { kept_of result ≡ None }
@@ -64,7 +64,7 @@ impl Store {
 
     /// The token's text goes on.
     pub(crate) fn extend_text(&mut self, run: &[u8])
-        ensures { Keeps (kept_of self.old) (kept_of self.new) (λ (k : Kept). record k { text = k.text ++ run.now }) }
+        ensures { Keeps (kept_of self.old) (kept_of self.new) (λ (k : OpenCommand). record k { text = k.text ++ run.now }) }
     {
         if self.keeps && self.text.push_slice(run).is_err() {
             self.stop();
@@ -73,7 +73,7 @@ impl Store {
 
     /// The token ends, and is of this kind.
     pub(crate) fn end_token(&mut self, kind: TokenKind)
-        ensures { Keeps (kept_of self.old) (kept_of self.new) (λ (k : Kept). record { text = []; levels = with_trees (text.leaf (token_by kind k.text) ∷ []) k.levels }) }
+        ensures { Keeps (kept_of self.old) (kept_of self.new) (λ (k : OpenCommand). record { text = []; levels = with_trees (text.leaf (token_by kind k.text) ∷ []) k.levels }) }
     {
         if self.keeps {
             let text = mem::replace(&mut self.text, Text::new(self.alloc));
@@ -85,7 +85,7 @@ impl Store {
 
     /// A list opens in the innermost one.
     pub(crate) fn open(&mut self)
-        ensures { Keeps (kept_of self.old) (kept_of self.new) (λ (k : Kept). record k { levels = [] ∷ k.levels }) }
+        ensures { Keeps (kept_of self.old) (kept_of self.new) (λ (k : OpenCommand). record k { levels = [] ∷ k.levels }) }
     {
         if self.keeps {
             let mut opened = mem::replace(&mut self.spare, TreeList::new(self.alloc));
@@ -99,7 +99,7 @@ impl Store {
 
     /// A list closes, within another.
     pub(crate) fn close(&mut self)
-        ensures { Keeps (kept_of self.old) (kept_of self.new) (λ (k : Kept). record k { levels = with_closed k.levels }) }
+        ensures { Keeps (kept_of self.old) (kept_of self.new) (λ (k : OpenCommand). record k { levels = with_closed k.levels }) }
     {
         if self.keeps {
             match self.outer.pop() {
@@ -125,7 +125,7 @@ impl Store {
 
     /// The command closes: its own list, where it was kept.
     pub(crate) fn end(&mut self) -> Option<TreeList>
-        ensures kept { IfSome result (λ l. IsSomeAnd (kept_of self.old) (λ (k : Kept). (outer : List (List text.Tree)) × (k.levels ≡ list_view l ∷ outer))) }
+        ensures kept { IfSome result (λ l. IsSomeAnd (kept_of self.old) (λ (k : OpenCommand). (outer : List (List text.Tree)) × (k.levels ≡ list_view l ∷ outer))) }
         ensures ended { kept_of self.new ≡ None }
     {
         if self.keeps {

@@ -1,6 +1,6 @@
 //! Tokens and trees of a script (SMT-LIB 2.6, sections 3.1 and 3.2).
 ghost use Rattle.std.specs.Prelude.{◌≡◌, [], ◌∷◌, ◌++◌, None, IfOk, OnOk, OnErr, IfSome, IfNone};
-ghost use Rattle.nz_spec.specs.Tree.{symbol, symbol_name};
+ghost use Rattle.nz_script.specs.text.Tree.{symbol, symbol_name};
 
 use nz_base::{Memory, Text};
 use std::alloc::Global;

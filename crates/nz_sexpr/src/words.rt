@@ -1,6 +1,6 @@
 //! Words by their kind, while their bytes come.
 ghost use Rattle.std.specs.Prelude.{◌≡◌, if◌then◌else◌};
-ghost use Rattle.nz_spec.specs.Tree as text;
+ghost use Rattle.nz_script.specs.text.Tree as text;
 ghost use Rattle.nz_sexpr.specs.Words.{kind_after, kinds_after, token_kind};
 
 use crate::bytes::{is_binary_digit, is_digit, is_hexadecimal_digit, is_symbol_byte};

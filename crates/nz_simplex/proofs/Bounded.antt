@@ -6,14 +6,14 @@ use Rattle.std.specs.Cmp.{IsTotalOrder}
 use Rattle.std.proofs.Math.Path.{fun_ext}
 use Rattle.std.proofs.lemmas.List.{length-map, map_push}
 use Rattle.nz_fractions.specs.Fraction.{Fraction}
-use Rattle.nz_spec.specs.Infinitesimal.{Infinitesimal, infinitesimal_cmp}
-use Rattle.nz_spec.specs.InfinitesimalMoves.{InfinitesimalsMove}
-use Rattle.nz_spec.specs.Basis.{NonbasicFormIsItself}
-use Rattle.nz_spec.specs.Bland as bland
-use Rattle.nz_spec.specs.Bland.{HasValue, IsOutside, Point, Position, PositionsHaveValues, SumMoves, bound_on}
-use Rattle.nz_spec.specs.PositionMoves as moves
-use Rattle.nz_spec.specs.PositionMoves.{IsReadyToCheck, MovesKeepReady, bounds_with}
-use Rattle.nz_spec.specs.Table.{Node}
+use Rattle.nz_spec.specs.numbers.Infinitesimal.{Infinitesimal, infinitesimal_cmp}
+use Rattle.nz_spec.specs.laws.InfinitesimalMoves.{InfinitesimalsMove}
+use Rattle.nz_spec.specs.simplex.Basis.{NonbasicFormIsItself}
+use Rattle.nz_spec.specs.simplex.Bland as bland
+use Rattle.nz_spec.specs.simplex.Bland.{HasValue, IsOutside, Point, Position, PositionsHaveValues, SumMoves, bound_on}
+use Rattle.nz_spec.specs.simplex.PositionMoves as moves
+use Rattle.nz_spec.specs.simplex.PositionMoves.{IsReadyToCheck, MovesKeepReady, bounds_with}
+use Rattle.nz_spec.specs.terms.Table.{Node}
 use Rattle.nz_lin.specs.Forms.{parts_over}
 use Rattle.nz_tab.specs.Tables.{IsTableau, Table}
 use Rattle.nz_trail.specs.Bounds.{IsExcluded, IsImplied, TrailState, asserted, other_side, with_bound}
@@ -25,9 +25,9 @@ use Rattle.nz_simplex.specs.Standing.{Held, half, bound_in, told}
 use Rattle.nz_simplex.specs.State.{State, nonbasic_in, point_in, IsOver, IsSound, position_over}
 use Rattle.nz_simplex.specs.Stored.{state_of}
 use Rattle.nz_simplex.specs.Tabled.{marks_in, rows_in}
-use Rattle.nz_simplex.proofs.Asserting.{bound_more, moving_marked, moving_point, news_told, point_kept, value_left, within}
-use Rattle.nz_simplex.proofs.Helping.{bound_told, half_other}
-use Rattle.nz_simplex.proofs.Moving.{known_there, point_there, right_there}
+use Rattle.nz_simplex.proofs.AssertedBounds.{bound_more, moving_marked, moving_point, news_told, point_kept, value_left, within}
+use Rattle.nz_simplex.proofs.HelpfulForms.{bound_told, half_other}
+use Rattle.nz_simplex.proofs.NonbasicMoves.{known_there, point_there, right_there}
 use Rattle.nz_simplex.proofs.ValuesAfter.{same_number}
 
 module _ {S : Type 0} (stands_for : S → Infinitesimal) (order : S → S → Ordering) (total : IsTotalOrder order)

@@ -1,6 +1,6 @@
 -- No form: everything holds of it.
 use Rattle.std.proofs.Common.{refl}
-use Rattle.nz_spec.specs.PositionMoves.{MovesKeepReady}
+use Rattle.nz_spec.specs.simplex.PositionMoves.{MovesKeepReady}
 use Rattle.nz_simplex.specs.State.{IsSound, empty_state}
 
 pub sound_empty : MovesKeepReady → IsSound empty_state

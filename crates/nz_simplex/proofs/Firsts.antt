@@ -1,7 +1,7 @@
 -- The first of the numbers that passes a test is the least one that does.
 use Rattle.std.proofs.Common.{◌≡◌, ℕ, zero, suc, ◌<◌, ◌⊎◌, inl, inr, Bool, true, false, List, [], ◌∷◌, ◌++◌, Option, Some, None, refl, sym, ap, ◌∙◌, subst, true≢false, arith}
 use Rattle.std.specs.Prelude.{if◌then◌else◌}
-use Rattle.nz_spec.specs.BasisMoves.{numbers}
+use Rattle.nz_spec.specs.simplex.BasisMoves.{numbers}
 use Rattle.nz_simplex.specs.Stored.{first_passing}
 
 -- ---- Lists
@@ -36,48 +36,48 @@ pub record IsLeast (n : ℕ) (listed test : ℕ → Bool) (j : ℕ) : Type 0 whe
   pub least : (k : ℕ) → k < j → listed k ≡ true → test k ≡ false
 
 -- what it says that this is the first one, or that there is none
-abbrev Found : ℕ → (ℕ → Bool) → (ℕ → Bool) → Option ℕ → Type 0
-Found n f t None = (k : ℕ) → k < n → f k ≡ true → t k ≡ false
-Found n f t (Some j) = IsLeast n f t j
+abbrev IsFirstFound : ℕ → (ℕ → Bool) → (ℕ → Bool) → Option ℕ → Type 0
+IsFirstFound n f t None = (k : ℕ) → k < n → f k ≡ true → t k ≡ false
+IsFirstFound n f t (Some j) = IsLeast n f t j
 
 same_or_below : (k n : ℕ) → k < suc n → (k ≡ n) ⊎ (k < n)
 same_or_below k n h = grind (arith, h)
 
 module _ (n : ℕ) (f t : ℕ → Bool) where
   -- the last number is the first that passes, or doesn't pass either
-  last_found : ((k : ℕ) → k < n → f k ≡ true → t k ≡ false) → f n ≡ true → Found (suc n) f t (if t n then Some n else None)
+  last_found : ((k : ℕ) → k < n → f k ≡ true → t k ≡ false) → f n ≡ true → IsFirstFound (suc n) f t (if t n then Some n else None)
   last_found none e = by_test (t n) refl
     where
       either : t n ≡ false → (k : ℕ) → (k ≡ n) ⊎ (k < n) → f k ≡ true → t k ≡ false
       either p k (inl same) g = ap t same ∙ p
       either p k (inr below) g = none k below g
 
-      by_test : (b : Bool) → t n ≡ b → Found (suc n) f t (if b then Some n else None)
+      by_test : (b : Bool) → t n ≡ b → IsFirstFound (suc n) f t (if b then Some n else None)
       by_test true p = record { below = omega arith; is_listed = e; passes = p; least = none }
       by_test false p = λ k h g. either p k (same_or_below k n h) g
 
-  found_more : (b : Bool) → f n ≡ b → (o : Option ℕ) → first_passing t (numbers n f) ≡ o → Found n f t o
-      → Found (suc n) f t (first_passing t (if b then numbers n f ++ n ∷ [] else numbers n f))
+  found_more : (b : Bool) → f n ≡ b → (o : Option ℕ) → first_passing t (numbers n f) ≡ o → IsFirstFound n f t o
+      → IsFirstFound (suc n) f t (first_passing t (if b then numbers n f ++ n ∷ [] else numbers n f))
   found_more true e None is none =
-      subst (Found (suc n) f t) (sym (first_later t (numbers n f) (n ∷ []) is)) (last_found none e)
+      subst (IsFirstFound (suc n) f t) (sym (first_later t (numbers n f) (n ∷ []) is)) (last_found none e)
   found_more true e (Some j) is found =
-      subst (Found (suc n) f t) (sym (first_kept t (numbers n f) (n ∷ []) j is))
+      subst (IsFirstFound (suc n) f t) (sym (first_kept t (numbers n f) (n ∷ []) j is))
       (record { below = omega (arith, found.below); is_listed = found.is_listed; passes = found.passes; least = found.least })
-  found_more false e None is none = subst (Found (suc n) f t) (sym is) (λ k h g. either k (same_or_below k n h) g)
+  found_more false e None is none = subst (IsFirstFound (suc n) f t) (sym is) (λ k h g. either k (same_or_below k n h) g)
     where
       either : (k : ℕ) → (k ≡ n) ⊎ (k < n) → f k ≡ true → t k ≡ false
       either k (inl same) g = absurd (true≢false (sym g ∙ ap f same ∙ e))
       either k (inr below) g = none k below g
   found_more false e (Some j) is found =
-      subst (Found (suc n) f t) (sym is)
+      subst (IsFirstFound (suc n) f t) (sym is)
       (record { below = omega (arith, found.below); is_listed = found.is_listed; passes = found.passes; least = found.least })
 
-first_found : (n : ℕ) (f t : ℕ → Bool) → Found n f t (first_passing t (numbers n f))
+first_found : (n : ℕ) (f t : ℕ → Bool) → IsFirstFound n f t (first_passing t (numbers n f))
 first_found zero f t = λ k h g. absurd (omega (arith, h))
 first_found (suc n) f t = found_more n f t (f n) refl (first_passing t (numbers n f)) refl (first_found n f t)
 
 pub first_least : (n : ℕ) (f t : ℕ → Bool) (j : ℕ) → first_passing t (numbers n f) ≡ Some j → IsLeast n f t j
-first_least n f t j e = subst (Found n f t) e (first_found n f t)
+first_least n f t j e = subst (IsFirstFound n f t) e (first_found n f t)
 
 pub first_none : (n : ℕ) (f t : ℕ → Bool) → first_passing t (numbers n f) ≡ None → (k : ℕ) → k < n → f k ≡ true → t k ≡ false
-first_none n f t e = subst (Found n f t) e (first_found n f t)
+first_none n f t e = subst (IsFirstFound n f t) e (first_found n f t)

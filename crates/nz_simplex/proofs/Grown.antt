@@ -2,15 +2,15 @@
 use Rattle.std.proofs.Common.{◌≡◌, ℕ, ◌+◌, ◌<◌, ◌≤◌, Bool, true, false, List, [], ◌∷◌, ◌++◌, length, map, take, Option, Some, None, refl, sym, ap, ap₂, ◌∙◌, subst, arith, length-append}
 use Rattle.std.specs.Prelude.{Err, is_some, option_map, slice_index_or, if◌then◌else◌}
 use Rattle.nz_fractions.specs.Fraction.{Fraction}
-use Rattle.nz_spec.specs.Infinitesimal.{Infinitesimal}
-use Rattle.nz_spec.specs.InfinitesimalMoves.{InfinitesimalsMove}
-use Rattle.nz_spec.specs.Basis.{NonbasicFormIsItself}
-use Rattle.nz_spec.specs.Bland.{PositionsHaveValues, zero_infinitesimal}
-use Rattle.nz_spec.specs.Table.{IsTable, Node}
+use Rattle.nz_spec.specs.numbers.Infinitesimal.{Infinitesimal}
+use Rattle.nz_spec.specs.laws.InfinitesimalMoves.{InfinitesimalsMove}
+use Rattle.nz_spec.specs.simplex.Basis.{NonbasicFormIsItself}
+use Rattle.nz_spec.specs.simplex.Bland.{PositionsHaveValues, zero_infinitesimal}
+use Rattle.nz_spec.specs.terms.Table.{IsTable, Node}
 use Rattle.nz_lin.specs.declared.form.Part.{Part}
 use Rattle.nz_lin.specs.Forms.{AreUnits}
-use Rattle.nz_tab.specs.declared.tab.TabStop.{TabStop}
-use Rattle.nz_tab.specs.declared.tab.TabStop.TheVariants.{Wide, Memory}
+use Rattle.nz_term.specs.declared.stops.ArithmeticStop.{ArithmeticStop}
+use Rattle.nz_term.specs.declared.stops.ArithmeticStop.TheVariants.{Wide, Memory}
 use Rattle.nz_tab.specs.Joins.{IsFormJoined, IsUnitJoined, Joins, UnitJoins}
 use Rattle.nz_tab.specs.Tables.{IsTableau, Table}
 use Rattle.nz_tab.specs.Units.{is_unit_form, new_units, unit_number, unit_of, with_units}
@@ -107,7 +107,7 @@ joined_shown {S} stands_for origin old_tab new_tab trail later old now new why t
     }
 
 -- an error is want of memory, or has its place in the row of the form
-pub join_stops : {S : Type 0} (stands_for : S → Infinitesimal) (tab new_tab : Table) (trail : TrailState S) (values : List (Option S)) (why : List (ℕ × Fraction)) (seen : State) (f : List Part) (e : TabStop)
+pub join_stops : {S : Type 0} (stands_for : S → Infinitesimal) (tab new_tab : Table) (trail : TrailState S) (values : List (Option S)) (why : List (ℕ × Fraction)) (seen : State) (f : List Part) (e : ArithmeticStop)
     → state_of stands_for tab trail values why ≡ seen → IsSound (state_of stands_for tab trail values why) → IsTableau tab
     → (is_unit_form f ≡ true → UnitJoins tab new_tab f (Err e)) → (is_unit_form f ≡ false → (ns : List Node) → IsTable ns → AreUnits ns f → Joins ns tab new_tab f (Err e))
     → (ns : List Node) → IsOver ns seen → AreUnits ns f → JoinStops ns seen f e

@@ -7,13 +7,13 @@ use Rattle.std.proofs.lemmas.List.{get_or-take, get_or_past, length-map}
 use Rattle.nz_lists.proofs.Numbers.{below, below_or_past, not_below}
 use Rattle.nz_lists.proofs.Places.{slice_index_or-map}
 use Rattle.nz_fractions.specs.Fraction.{Fraction}
-use Rattle.nz_spec.specs.Infinitesimal.{Infinitesimal, ◌=δ◌}
-use Rattle.nz_spec.specs.InfinitesimalMoves.{InfinitesimalsMove}
-use Rattle.nz_spec.specs.Basis.{Coefficients, IsBasis, NonbasicFormIsItself}
-use Rattle.nz_spec.specs.Bland as bland
-use Rattle.nz_spec.specs.Bland.{HasBasis, HasValue, IsOutside, NonbasicFormsFit, Position, PositionsHaveValues, bound_on, lower_side, upper_side, sum_at, zero_infinitesimal}
-use Rattle.nz_spec.specs.PositionMoves.{IsReadyToCheck}
-use Rattle.nz_spec.specs.Table.{Node}
+use Rattle.nz_spec.specs.numbers.Infinitesimal.{Infinitesimal, ◌=δ◌}
+use Rattle.nz_spec.specs.laws.InfinitesimalMoves.{InfinitesimalsMove}
+use Rattle.nz_spec.specs.simplex.Basis.{Coefficients, IsBasis, NonbasicFormIsItself}
+use Rattle.nz_spec.specs.simplex.Bland as bland
+use Rattle.nz_spec.specs.simplex.Bland.{HasBasis, HasValue, IsOutside, NonbasicFormsFit, Position, PositionsHaveValues, bound_on, lower_side, upper_side, sum_at, zero_infinitesimal}
+use Rattle.nz_spec.specs.simplex.PositionMoves.{IsReadyToCheck}
+use Rattle.nz_spec.specs.terms.Table.{Node}
 use Rattle.nz_lin.specs.declared.form.Part.{Part}
 use Rattle.nz_lin.specs.Forms.{AreUnits, parts_over}
 use Rattle.nz_tab.specs.Joins.{with_nonbasic_units}

@@ -5,13 +5,13 @@ use Rattle.std.proofs.Math.Path.{fun_ext}
 use Rattle.std.proofs.lemmas.List.{append-nil, get_or_past, length-map, length_push, map-append}
 use Rattle.nz_lists.proofs.Numbers.{below, below_or_past, not_below}
 use Rattle.nz_fractions.specs.Fraction.{Fraction}
-use Rattle.nz_spec.specs.Infinitesimal.{Infinitesimal}
-use Rattle.nz_spec.specs.Bland.{Point, Position, zero_infinitesimal}
-use Rattle.nz_spec.specs.Form as spec
-use Rattle.nz_spec.specs.Form.{unit_form}
-use Rattle.nz_spec.specs.PositionMoves.{with_form, with_unit}
-use Rattle.nz_spec.specs.Table.{Node}
-use Rattle.nz_spec.specs.Term.{Term}
+use Rattle.nz_spec.specs.numbers.Infinitesimal.{Infinitesimal}
+use Rattle.nz_spec.specs.simplex.Bland.{Point, Position, zero_infinitesimal}
+use Rattle.nz_spec.specs.terms.Form as spec
+use Rattle.nz_spec.specs.terms.Form.{unit_form}
+use Rattle.nz_spec.specs.simplex.PositionMoves.{with_form, with_unit}
+use Rattle.nz_spec.specs.terms.Table.{Node}
+use Rattle.nz_spec.specs.terms.Term.{Term}
 use Rattle.nz_lin.specs.declared.form.Part.{Part}
 use Rattle.nz_lin.specs.Forms.{parts_over}
 use Rattle.nz_tab.specs.Tables.{Table}

@@ -6,13 +6,13 @@ use Rattle.nz_fractions.specs.Fraction.{Fraction, whole, ◌=ℚ◌, ◌+ℚ◌,
 use Rattle.nz_fractions.proofs.Laws.{=ℚ-from_same, =ℚ_sym}
 use Rattle.nz_fractions.proofs.Identities.{zero_left}
 use Rattle.nz_fractions.proofs.Solver.{◌∙ℚ◌}
-use Rattle.nz_spec.specs.Term.{Term, is_zero}
-use Rattle.nz_spec.specs.Form.{Numbering, Part}
-use Rattle.nz_spec.specs.Literal.{Literal, term_literal, is_at_most, is_below}
-use Rattle.nz_spec.specs.LinearLiteral.{is_without_units}
-use Rattle.nz_spec.specs.Same.{TellsTerms}
-use Rattle.nz_spec.specs.Basis.{Valuation, worth, WorthIsByUnits}
-use Rattle.nz_spec.specs.Farkas.{Bound, Multiple, bound_of, bound_scaled, bounds_joined, empty_bound, is_linear_literal, is_multiple, multiples_onto, sum_of_multiples}
+use Rattle.nz_spec.specs.terms.Term.{Term, is_zero}
+use Rattle.nz_spec.specs.terms.Form.{Numbering, Part}
+use Rattle.nz_spec.specs.clauses.Literal.{Literal, term_literal, is_at_most, is_below}
+use Rattle.nz_spec.specs.clauses.LinearLiteral.{is_without_units}
+use Rattle.nz_spec.specs.terms.Same.{TellsTerms}
+use Rattle.nz_spec.specs.simplex.Basis.{Valuation, worth, WorthIsByUnits}
+use Rattle.nz_spec.specs.clauses.Farkas.{Bound, Multiple, bound_of, bound_scaled, bounds_joined, empty_bound, is_linear_literal, is_multiple, multiples_onto, sum_of_multiples}
 use Rattle.nz_simplex.specs.Contradictions.{AreSum, Contradicts}
 use Rattle.nz_simplex.specs.OtherUnits.{ContradictionsStay, other_literal, other_multiple, other_part}
 use Rattle.nz_simplex.proofs.SumsInOrder.{no_units, onto_sum}

@@ -5,19 +5,19 @@ use Rattle.std.specs.List.{AllByRecursion}
 use Rattle.std.proofs.lemmas.List.{length-map, length_push}
 use Rattle.std.proofs.lemmas.List.Elements.{All-from_recursion}
 use Rattle.nz_lists.proofs.Places.{slice_index_or-map}
-use Rattle.nz_fractions.specs.Fraction.{Fraction, Operation, first_wide}
-use Rattle.nz_spec.specs.Infinitesimal.{Infinitesimal, ◌=δ◌}
-use Rattle.nz_spec.specs.Basis.{Coefficients, IsRow}
-use Rattle.nz_spec.specs.BasisMoves.{AreRows, numbers}
-use Rattle.nz_spec.specs.Bland as bland
-use Rattle.nz_spec.specs.Bland.{is_nonbasic, value_onto, row_value, zero_infinitesimal, times, plus, sum_at, HasValue, ValueIsComputed}
-use Rattle.nz_spec.specs.Table.{Node}
+use Rattle.nz_fractions.specs.Fraction.{Fraction, IsNumber, Operation, first_wide}
+use Rattle.nz_spec.specs.numbers.Infinitesimal.{Infinitesimal, ◌=δ◌}
+use Rattle.nz_spec.specs.simplex.Basis.{Coefficients, IsRow}
+use Rattle.nz_spec.specs.simplex.BasisMoves.{AreRows, numbers}
+use Rattle.nz_spec.specs.simplex.Bland as bland
+use Rattle.nz_spec.specs.simplex.Bland.{is_nonbasic, value_onto, row_value, zero_infinitesimal, times, plus, sum_at, HasValue, ValueIsComputed}
+use Rattle.nz_spec.specs.terms.Table.{Node}
 use Rattle.nz_lin.specs.Forms.{parts_over}
 use Rattle.nz_tab.specs.Tables.{Table, IsTableau}
 use Rattle.nz_trail.specs.Bounds.{TrailState}
 use Rattle.nz_frac.specs.Operations.{operation_of}
 use Rattle.nz_frac.specs.declared.frac.Wide.{Wide}
-use Rattle.nz_simplex.specs.declared.answer.Site.TheVariants as sites
+use Rattle.nz_place.specs.declared.place.Site.TheVariants as sites
 use Rattle.nz_simplex.specs.Checks.{IsPlace}
 use Rattle.nz_simplex.specs.Choices.{numbers_in}
 use Rattle.nz_simplex.specs.State.{State, nonbasic_in, value_in, point_in, IsOver, IsSound, position_over}
@@ -196,9 +196,11 @@ module _ {S : Type 0} (stands_for : S → Infinitesimal) (tab : Table) (trail : 
   -- the operation at which the value of a basic form stops has its place
   pub point_place : IsTableau tab → (ns : List Node) → IsOver ns here → (i : ℕ) → i < length tab.forms → nonbasic_in here i ≡ false → (w : Wide)
       → first_wide (value_onto (rows_in tab i) (numbers_in stands_for values) zero_infinitesimal (nonbasic_numbers here)).operations ≡ Some (operation_of w)
-      → IsPlace ns here (record { wide = w; site = sites.Point i })
-  point_place tableau ns over i inside basic w e = record {
+      → IsNumber w.a → IsNumber w.b → IsPlace ns here (record { wide = w; site = sites.Value i })
+  point_place tableau ns over i inside basic w e left right = record {
     site = (inside, basic);
+    left = left;
+    right = right;
     rows = rows_in tab;
     are_rows = rows_told tableau ns over;
     first = ap first_wide (sym (computed_operations (rows_in tab i))) ∙ e;

@@ -6,8 +6,8 @@ use Rattle.std.specs.declared.cmp.Ordering.{Ordering}
 use Rattle.std.specs.declared.cmp.Ordering.TheVariants.{Less, Equal, Greater}
 use Rattle.std.specs.Cmp.{IsTotalOrder}
 use Rattle.std.proofs.lemmas.List.Elements.{All-head, All-tail}
-use Rattle.nz_spec.specs.Infinitesimal.{Infinitesimal, infinitesimal_cmp}
-use Rattle.nz_spec.specs.PositionMoves.{is_outside}
+use Rattle.nz_spec.specs.numbers.Infinitesimal.{Infinitesimal, infinitesimal_cmp}
+use Rattle.nz_spec.specs.simplex.PositionMoves.{is_outside}
 use Rattle.nz_trail.specs.Bounds.{Asserted, IsOn, IsTighter, Stands, asserted}
 use Rattle.nz_trail.specs.declared.limits.Limit.{Limit}
 use Rattle.nz_trail.specs.declared.limits.Side.{Side}

@@ -8,12 +8,12 @@ use Rattle.nz_fractions.proofs.Laws.{=ℚ_refl, =ℚ-from_same, =ℚ_sym}
 use Rattle.nz_fractions.proofs.Order.{fraction_eq-same}
 use Rattle.nz_fractions.proofs.Arithmetic.{+ℚ-zero}
 use Rattle.nz_fractions.proofs.Solver.{◌∙ℚ◌, plus_right}
-use Rattle.nz_spec.specs.Term.{Term, is_zero}
-use Rattle.nz_spec.specs.Computation.{operated, at_once, turned_into}
-use Rattle.nz_spec.specs.Form.{Numbering, Part, AreRising, MayPrecede, part_alone, part_joined, parts_joined, parts_scaled, with_part}
-use Rattle.nz_spec.specs.Same.{are_same_term, TellsTerms}
-use Rattle.nz_spec.specs.Basis.{Valuation, unit_coefficient, worth, WorthIsByUnits}
-use Rattle.nz_spec.specs.Farkas.{Bound, Multiple, bound_of, bound_scaled, bounds_joined, multiples_onto}
+use Rattle.nz_spec.specs.terms.Term.{Term, is_zero}
+use Rattle.nz_spec.specs.numbers.Computation.{operated, at_once, turned_into}
+use Rattle.nz_spec.specs.terms.Form.{Numbering, Part, AreRising, MayPrecede, part_alone, part_joined, parts_joined, parts_scaled, with_part}
+use Rattle.nz_spec.specs.terms.Same.{are_same_term, TellsTerms}
+use Rattle.nz_spec.specs.simplex.Basis.{Valuation, unit_coefficient, worth, WorthIsByUnits}
+use Rattle.nz_spec.specs.clauses.Farkas.{Bound, Multiple, bound_of, bound_scaled, bounds_joined, multiples_onto}
 use Rattle.nz_simplex.specs.Contradictions.{AreSum}
 
 abbrev IsNonzero : Part → Type 0

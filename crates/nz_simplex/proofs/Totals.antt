@@ -9,13 +9,13 @@ use Rattle.nz_fractions.proofs.Order.{same-fraction_eq}
 use Rattle.nz_fractions.proofs.Arithmetic.{+ℚ_comm, +ℚ_assoc, +ℚ-zero, +ℚ-same, *ℚ_assoc, *ℚ-+ℚ, outcome-sum, outcome-product}
 use Rattle.nz_fractions.proofs.Identities.{times_zero, zero_left, zero_times}
 use Rattle.nz_fractions.proofs.Solver.{◌∙ℚ◌, plus_left, plus_right, solve, times_left, times_right}
-use Rattle.nz_spec.specs.Term.{Term, is_zero}
-use Rattle.nz_spec.specs.Computation.{operated, at_once, turned_into}
-use Rattle.nz_spec.specs.Form.{Numbering, Part, part_alone, part_joined, parts_joined, parts_scaled, with_part}
-use Rattle.nz_spec.specs.Literal.{Literal}
-use Rattle.nz_spec.specs.Same.{are_same_term, TellsTerms}
-use Rattle.nz_spec.specs.Basis.{Valuation, worth}
-use Rattle.nz_spec.specs.Farkas.{Bound, Multiple, bound_of, bound_scaled, bounds_joined, multiples_onto}
+use Rattle.nz_spec.specs.terms.Term.{Term, is_zero}
+use Rattle.nz_spec.specs.numbers.Computation.{operated, at_once, turned_into}
+use Rattle.nz_spec.specs.terms.Form.{Numbering, Part, part_alone, part_joined, parts_joined, parts_scaled, with_part}
+use Rattle.nz_spec.specs.clauses.Literal.{Literal}
+use Rattle.nz_spec.specs.terms.Same.{are_same_term, TellsTerms}
+use Rattle.nz_spec.specs.simplex.Basis.{Valuation, worth}
+use Rattle.nz_spec.specs.clauses.Farkas.{Bound, Multiple, bound_of, bound_scaled, bounds_joined, multiples_onto}
 
 -- the sum of what literals have, each times its multiplier
 abbrev pub total : (Literal → Fraction) → List Multiple → Fraction

@@ -3,10 +3,10 @@ use Rattle.std.proofs.Common.{◌≡◌, ℕ, zero, suc, ◌<◌, ◌⊎◌, inl
 use Rattle.std.specs.Prelude.{◌==◌, ◌≢◌, is_some, option_map, slice_index_or, unwrap_or}
 use Rattle.nz_fractions.specs.Fraction.{whole}
 use Rattle.nz_fractions.proofs.Laws.{=ℚ_sym}
-use Rattle.nz_spec.specs.Infinitesimal.{Infinitesimal, ◌=δ◌}
-use Rattle.nz_spec.specs.InfinitesimalMoves.{InfinitesimalsMove}
-use Rattle.nz_spec.specs.Basis.{NonbasicFormIsItself, alone}
-use Rattle.nz_spec.specs.Bland.{Position, HasBasis, HasValue, is_nonbasic, sum_at, value_in}
+use Rattle.nz_spec.specs.numbers.Infinitesimal.{Infinitesimal, ◌=δ◌}
+use Rattle.nz_spec.specs.laws.InfinitesimalMoves.{InfinitesimalsMove}
+use Rattle.nz_spec.specs.simplex.Basis.{NonbasicFormIsItself, alone}
+use Rattle.nz_spec.specs.simplex.Bland.{Position, HasBasis, HasValue, is_nonbasic, sum_at, value_in}
 
 -- the value of a nonbasic form stands in the point
 pub point_is_value : NonbasicFormIsItself → (p : Position) → HasBasis p → (k : ℕ) (x : Infinitesimal) → p.point k ≡ Some x → HasValue p k x

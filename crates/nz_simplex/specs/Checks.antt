@@ -1,22 +1,22 @@
 -- What a check does and answers.
 use Rattle.std.specs.Prelude.{◌≡◌, ℕ, ◌<◌, false, List, [], ◌∷◌, length, flat_map, fold, pos, Option, Some, IsSome, Result, Ok, Err, if◌then◌else◌}
-use Rattle.nz_fractions.specs.Fraction.{Fraction, whole, first_wide, Operation}
-use Rattle.nz_spec.specs.Infinitesimal.{Infinitesimal}
-use Rattle.nz_spec.specs.Term.{is_zero}
-use Rattle.nz_spec.specs.Basis.{Coefficients}
-use Rattle.nz_spec.specs.BasisMoves.{Rows, AreRows, numbers, exchange}
-use Rattle.nz_spec.specs.Bland as bland
-use Rattle.nz_spec.specs.Bland.{Position, is_nonbasic, HasValue, Breaks, MeetsBounds, IsRefutation, row_value}
-use Rattle.nz_spec.specs.Pivots.{Pivot, pivot, MayPivot, Lead}
-use Rattle.nz_spec.specs.Table.{Node}
+use Rattle.nz_fractions.specs.Fraction.{Fraction, IsNumber, whole, first_wide, Operation}
+use Rattle.nz_spec.specs.numbers.Infinitesimal.{Infinitesimal}
+use Rattle.nz_spec.specs.terms.Term.{is_zero}
+use Rattle.nz_spec.specs.simplex.Basis.{Coefficients}
+use Rattle.nz_spec.specs.simplex.BasisMoves.{Rows, AreRows, numbers, exchange}
+use Rattle.nz_spec.specs.simplex.Bland as bland
+use Rattle.nz_spec.specs.simplex.Bland.{Position, is_nonbasic, HasValue, Breaks, MeetsBounds, IsRefutation, row_value}
+use Rattle.nz_spec.specs.simplex.Pivots.{Pivot, pivot, MayPivot, Lead}
+use Rattle.nz_spec.specs.terms.Table.{Node}
 use Rattle.nz_frac.specs.Operations.{operation_of}
+use Rattle.nz_place.specs.declared.place.Place.{Place}
+use Rattle.nz_place.specs.declared.place.Site.{Site}
+use Rattle.nz_place.specs.declared.place.Site.TheVariants.{Exchange, Value}
 use Rattle.nz_trail.specs.Bounds.{other_side}
 use Rattle.nz_trail.specs.declared.limits.Side.{Side}
 use Rattle.nz_simplex.specs.declared.answer.Check.{Check}
 use Rattle.nz_simplex.specs.declared.answer.Check.TheVariants.{Feasible, Clash}
-use Rattle.nz_simplex.specs.declared.answer.Place.{Place}
-use Rattle.nz_simplex.specs.declared.answer.Site.{Site}
-use Rattle.nz_simplex.specs.declared.answer.Site.TheVariants.{Row, Point}
 use Rattle.nz_simplex.specs.declared.answer.SimplexStop.{SimplexStop}
 use Rattle.nz_simplex.specs.declared.answer.SimplexStop.TheVariants.{Wide, Spent}
 use Rattle.nz_simplex.specs.Choices.{is_below_zero, size_of}
@@ -74,19 +74,23 @@ pub record IsRefuted (ns : List Node) (s : State) : Type 0 where
 
 -- ---- Wide
 
--- the operations of the computation at a place
+-- the operations of the computation at a place: an exchange, or the value of a form
 abbrev pub site_operations : State → Rows → Site → List Operation
-site_operations s rows (Row leaves enters) = (exchange (length s.forms) (nonbasic_in s) rows leaves enters).operations
-site_operations s rows (Point form) = (row_value (length s.forms) (rows form) (point_in s)).operations
+site_operations s rows (Exchange leaves enters) = (exchange (length s.forms) (nonbasic_in s) rows leaves enters).operations
+site_operations s rows (Value form) = (row_value (length s.forms) (rows form) (point_in s)).operations
+site_operations s rows site = []
 
 -- an exchange is that of the step that may be next; a value is that of a basic form
 abbrev pub IsSite : List Node → State → Site → Type 0
-IsSite ns s (Row leaves enters) = MayPivot (position_over ns s) (pivot leaves enters)
-IsSite ns s (Point form) = (form < length s.forms) × (nonbasic_in s form ≡ false)
+IsSite ns s (Exchange leaves enters) = MayPivot (position_over ns s) (pivot leaves enters)
+IsSite ns s (Value form) = (form < length s.forms) × (nonbasic_in s form ≡ false)
+IsSite ns s site = ⊥
 
--- The operation is the first of the computation that leaves the numbers.
+-- The operation is the first of the computation that leaves the numbers, and its operands are numbers.
 pub record IsPlace (ns : List Node) (s : State) (place : Place) : Type 0 where
   pub site : IsSite ns s place.site
+  pub left : IsNumber place.wide.a
+  pub right : IsNumber place.wide.b
   pub rows : Rows
   pub are_rows : AreRows (position_over ns s).forms (is_nonbasic (position_over ns s).point) rows
   pub first : first_wide (site_operations s rows place.site) ≡ Some (operation_of place.wide)

@@ -1,11 +1,11 @@
 -- How the forms of a step are chosen, by tests, and how values follow.
 use Rattle.std.specs.Prelude.{◌≡◌, ℕ, Bool, true, false, ◌&&◌, List, slice_index_or, pos, int_lt, Option, Some, None, IfSome, option_map, unwrap_or, if◌then◌else◌}
 use Rattle.nz_fractions.specs.Fraction.{Fraction, neg_ℚ}
-use Rattle.nz_spec.specs.Infinitesimal.{Infinitesimal, ◌=δ◌, ◌+δ◌, ◌-δ◌, scaled}
-use Rattle.nz_spec.specs.Term.{is_zero}
-use Rattle.nz_spec.specs.Computation.{Computation, and_then}
-use Rattle.nz_spec.specs.Bland.{zero_infinitesimal, times, plus}
-use Rattle.nz_spec.specs.PositionMoves.{is_outside}
+use Rattle.nz_spec.specs.numbers.Infinitesimal.{Infinitesimal, ◌=δ◌, ◌+δ◌, ◌-δ◌, scaled}
+use Rattle.nz_spec.specs.terms.Term.{is_zero}
+use Rattle.nz_spec.specs.numbers.Computation.{Computation, and_then}
+use Rattle.nz_spec.specs.simplex.Bland.{zero_infinitesimal, times, plus}
+use Rattle.nz_spec.specs.simplex.PositionMoves.{is_outside}
 use Rattle.nz_trail.specs.Bounds.{other_side}
 use Rattle.nz_trail.specs.declared.limits.Limit.{Limit}
 use Rattle.nz_trail.specs.declared.limits.Side.{Side}

@@ -3,12 +3,12 @@
 use Rattle.std.specs.Prelude.{◌≡◌, ℕ, Bool, true, List, [], ◌∷◌, pos, negsuc, IsTrue, ⊤, if◌then◌else◌}
 use Rattle.std.specs.List.{list_all, AllByRecursion}
 use Rattle.nz_fractions.specs.Fraction.{Fraction, whole, ◌=ℚ◌, ◌<ℚ◌, ◌*ℚ◌, neg_ℚ}
-use Rattle.nz_spec.specs.Infinitesimal.{Infinitesimal, infinitesimal_cmp}
-use Rattle.nz_spec.specs.Form.{Numbering, Part, IsSum}
-use Rattle.nz_spec.specs.Literal.{Literal}
-use Rattle.nz_spec.specs.Farkas.{Multiple, bound_of, is_linear_literal, is_multiple, sum_of_multiples, is_contradiction}
-use Rattle.nz_spec.specs.Basis.{Valuation, worth, form_at}
-use Rattle.nz_spec.specs.Table.{Node}
+use Rattle.nz_spec.specs.numbers.Infinitesimal.{Infinitesimal, infinitesimal_cmp}
+use Rattle.nz_spec.specs.terms.Form.{Numbering, Part, IsSum}
+use Rattle.nz_spec.specs.clauses.Literal.{Literal}
+use Rattle.nz_spec.specs.clauses.Farkas.{Multiple, bound_of, is_linear_literal, is_multiple, sum_of_multiples, is_contradiction}
+use Rattle.nz_spec.specs.simplex.Basis.{Valuation, worth, form_at}
+use Rattle.nz_spec.specs.terms.Table.{Node}
 use Rattle.nz_trail.specs.Bounds.{ClashesWith}
 use Rattle.nz_trail.specs.declared.limits.Side.{Side}
 use Rattle.nz_trail.specs.declared.limits.Side.TheVariants.{Lower, Upper}

@@ -2,9 +2,9 @@
 use Rattle.std.specs.Prelude.{◌≡◌, List}
 use Rattle.std.specs.declared.cmp.Ordering.{Ordering}
 use Rattle.nz_fractions.specs.Fraction.{Fraction, Operation, first_wide}
-use Rattle.nz_spec.specs.Infinitesimal as spec
-use Rattle.nz_spec.specs.Infinitesimal.{Infinitesimal, ◌=δ◌, ◌+δ◌, ◌-δ◌, infinitesimal_cmp}
-use Rattle.nz_spec.specs.Bland.{zero_infinitesimal, times, plus}
+use Rattle.nz_spec.specs.numbers.Infinitesimal as spec
+use Rattle.nz_spec.specs.numbers.Infinitesimal.{Infinitesimal, ◌=δ◌, ◌+δ◌, ◌-δ◌, infinitesimal_cmp}
+use Rattle.nz_spec.specs.simplex.Bland.{zero_infinitesimal, times, plus}
 
 -- Zero, sums, products and the order are those of the numbers that the scalars stand for, and an operation stops at the same operation on fractions. A
 -- difference, and a sum with a multiple, have the value of those of the numbers.

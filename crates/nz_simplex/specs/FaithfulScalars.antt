@@ -6,9 +6,9 @@ use Rattle.std.specs.declared.cmp.Ordering.TheVariants.{Less, Equal, Greater}
 use Rattle.std.proofs.Common.{sym, ap, subst, ◌∙◌, lit≤}
 use Rattle.nz_ints.specs.Division.{gcd, gcd_within}
 use Rattle.nz_fractions.specs.Fraction.{Fraction, denominator, whole, ◌=ℚ◌, ◌+ℚ◌, ◌-ℚ◌, ◌*ℚ◌, fraction_cmp, outcome, Sum, Difference, Product, Operation, first_wide, is_wide, IsNumber}
-use Rattle.nz_spec.specs.Infinitesimal as spec
-use Rattle.nz_spec.specs.Infinitesimal.{Infinitesimal, ◌+δ◌, ◌-δ◌, infinitesimal_cmp}
-use Rattle.nz_spec.specs.Bland.{standing}
+use Rattle.nz_spec.specs.numbers.Infinitesimal as spec
+use Rattle.nz_spec.specs.numbers.Infinitesimal.{Infinitesimal, ◌+δ◌, ◌-δ◌, infinitesimal_cmp}
+use Rattle.nz_spec.specs.simplex.Bland.{standing}
 use Rattle.nz_fractions.proofs.Laws.{=ℚ_refl, =ℚ_sym}
 use Rattle.nz_fractions.proofs.Order.{fraction_cmp_is}
 use Rattle.nz_fractions.proofs.Arithmetic.{outcome-difference, outcome-product, +ℚ-neg}

@@ -1,13 +1,13 @@
 -- Where a form that joins leaves the numbers.
 use Rattle.std.specs.Prelude.{◌≡◌, false, List, []}
-use Rattle.nz_spec.specs.LiteralBounds.{position_under}
-use Rattle.nz_spec.specs.Places.{IsOfJoining}
-use Rattle.nz_spec.specs.Table.{Node}
+use Rattle.nz_spec.specs.simplex.LiteralBounds.{position_under}
+use Rattle.nz_spec.specs.search.Places.{IsOfJoining}
+use Rattle.nz_spec.specs.terms.Table.{Node}
 use Rattle.nz_frac.specs.declared.frac.Wide as frac
 use Rattle.nz_frac.specs.Operations.{operation_of}
 use Rattle.nz_lin.specs.declared.form.Part.{Part}
 use Rattle.nz_lin.specs.Forms.{AreUnits}
-use Rattle.nz_tab.specs.declared.tab.TabStop.TheVariants.{Wide}
+use Rattle.nz_term.specs.declared.stops.ArithmeticStop.TheVariants.{Wide}
 use Rattle.nz_tab.specs.Units.{is_unit_form}
 use Rattle.nz_simplex.specs.Moves.{JoinStops, joined_over}
 use Rattle.nz_simplex.specs.State.{State, IsOver, IsSound}

@@ -1,21 +1,21 @@
 -- What the calls outside of a check leave.
 use Rattle.std.specs.Prelude.{◌≡◌, ℕ, ◌<◌, ◌==◌, ◌||◌, Bool, true, false, List, [], ◌∷◌, ◌++◌, length, nat_lt, Some, None, fold, if◌then◌else◌}
-use Rattle.nz_spec.specs.Bland.{zero_infinitesimal, is_nonbasic, Position}
-use Rattle.nz_spec.specs.Infinitesimal.{Infinitesimal}
-use Rattle.nz_spec.specs.PositionMoves.{with_unit, with_form, with_bound}
-use Rattle.nz_spec.specs.Table.{Node, term_in}
-use Rattle.nz_spec.specs.Term.{Term}
+use Rattle.nz_spec.specs.simplex.Bland.{zero_infinitesimal, is_nonbasic, Position}
+use Rattle.nz_spec.specs.numbers.Infinitesimal.{Infinitesimal}
+use Rattle.nz_spec.specs.simplex.PositionMoves.{with_unit, with_form, with_bound}
+use Rattle.nz_spec.specs.terms.Table.{Node, term_in}
+use Rattle.nz_spec.specs.terms.Term.{Term}
 use Rattle.nz_lin.specs.declared.form.Part.{Part}
 use Rattle.nz_lin.specs.Forms.{parts_over}
-use Rattle.nz_spec.specs.Basis.{Coefficients}
-use Rattle.nz_spec.specs.BasisMoves.{Rows, AreRows, exchanged, joining_row}
-use Rattle.nz_spec.specs.Computation.{Computation}
+use Rattle.nz_spec.specs.simplex.Basis.{Coefficients}
+use Rattle.nz_spec.specs.simplex.BasisMoves.{Rows, AreRows, exchanged, joining_row}
+use Rattle.nz_spec.specs.numbers.Computation.{Computation}
 use Rattle.nz_fractions.specs.Fraction.{first_wide}
 use Rattle.nz_frac.specs.Operations.{operation_of}
 use Rattle.nz_tab.specs.Joins.{number_by}
 use Rattle.nz_tab.specs.Units.{is_unit_form, new_units, with_units, unit_number}
-use Rattle.nz_tab.specs.declared.tab.TabStop.{TabStop}
-use Rattle.nz_tab.specs.declared.tab.TabStop.TheVariants.{Wide, Memory}
+use Rattle.nz_term.specs.declared.stops.ArithmeticStop.{ArithmeticStop}
+use Rattle.nz_term.specs.declared.stops.ArithmeticStop.TheVariants.{Wide, Memory}
 use Rattle.nz_simplex.specs.Standing.{Held, half}
 use Rattle.nz_simplex.specs.State.{State, nonbasic_in, value_in, IsOver, position_over}
 
@@ -54,7 +54,7 @@ joining ns s rows f =
     joining_row (length fs) (joining_marks s f) rows (number_by ns fs) (parts_over ns f)
 
 -- The first operation on the row of the form that leaves the numbers, or want of memory.
-abbrev pub JoinStops : List Node → State → List Part → TabStop → Type 0
+abbrev pub JoinStops : List Node → State → List Part → ArithmeticStop → Type 0
 JoinStops ns s f (Wide w) =
     (rows : Rows) × AreRows (position_over ns s).forms (is_nonbasic (position_over ns s).point) rows × (first_wide (joining ns s rows f).operations ≡ Some (operation_of w))
 JoinStops ns s f Memory = Unit {0}

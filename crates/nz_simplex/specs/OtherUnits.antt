@@ -2,10 +2,10 @@
 -- holds over each that has the terms of the literals.
 use Rattle.std.specs.Prelude.{List, map}
 use Rattle.std.specs.List.{AllByRecursion}
-use Rattle.nz_spec.specs.Term.{Term}
-use Rattle.nz_spec.specs.Form.{Numbering, Part}
-use Rattle.nz_spec.specs.Literal.{Literal, term_literal, is_at_most, is_below}
-use Rattle.nz_spec.specs.Farkas.{Multiple, bound_of}
+use Rattle.nz_spec.specs.terms.Term.{Term}
+use Rattle.nz_spec.specs.terms.Form.{Numbering, Part}
+use Rattle.nz_spec.specs.clauses.Literal.{Literal, term_literal, is_at_most, is_below}
+use Rattle.nz_spec.specs.clauses.Farkas.{Multiple, bound_of}
 use Rattle.nz_simplex.specs.Contradictions.{AreSum, Contradicts}
 
 module _ (other : Term → Term) where

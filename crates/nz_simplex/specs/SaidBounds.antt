@@ -1,13 +1,13 @@
 -- Which literals say which bounds, and which lists of parts are sums.
 use Rattle.std.specs.Prelude.{List, pos, true, false, map}
 use Rattle.nz_fractions.specs.Fraction.{Fraction, whole, ◌=ℚ◌, ◌<ℚ◌, ◌*ℚ◌, neg_ℚ, Product}
-use Rattle.nz_spec.specs.Computation.{operated}
-use Rattle.nz_spec.specs.Term.{Term}
-use Rattle.nz_spec.specs.Form.{Numbering, Part, negated_part, parts_scaled}
-use Rattle.nz_spec.specs.FormOf.{form_of}
-use Rattle.nz_spec.specs.Literal.{is_at_most, negation_of}
-use Rattle.nz_spec.specs.Basis.{Valuation, worth}
-use Rattle.nz_spec.specs.Bland.{at_least_bound, at_most_bound}
+use Rattle.nz_spec.specs.numbers.Computation.{operated}
+use Rattle.nz_spec.specs.terms.Term.{Term}
+use Rattle.nz_spec.specs.terms.Form.{Numbering, Part, negated_part, parts_scaled}
+use Rattle.nz_spec.specs.terms.FormOf.{form_of}
+use Rattle.nz_spec.specs.clauses.Literal.{is_at_most, negation_of}
+use Rattle.nz_spec.specs.simplex.Basis.{Valuation, worth}
+use Rattle.nz_spec.specs.simplex.Bland.{at_least_bound, at_most_bound}
 use Rattle.nz_trail.specs.declared.limits.Side.TheVariants.{Lower, Upper}
 use Rattle.nz_simplex.specs.Contradictions.{AreSum, SaysBound}
 

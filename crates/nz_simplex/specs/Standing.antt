@@ -1,8 +1,8 @@
 -- Which bound of a form stands: the tightest that was asserted and not undone, the first one of its value.
 use Rattle.std.specs.Prelude.{ℕ, ◌==◌, Bool, true, false, ◌&&◌, List, fold, Option, Some, None, option_map, unwrap_or, if◌then◌else◌}
-use Rattle.nz_spec.specs.Infinitesimal.{Infinitesimal}
-use Rattle.nz_spec.specs.Bland as bland
-use Rattle.nz_spec.specs.PositionMoves.{is_outside}
+use Rattle.nz_spec.specs.numbers.Infinitesimal.{Infinitesimal}
+use Rattle.nz_spec.specs.simplex.PositionMoves.{is_outside}
+pub use Rattle.nz_place.specs.Places.{half}
 use Rattle.nz_trail.specs.Bounds.{Asserted}
 use Rattle.nz_trail.specs.declared.limits.Limit.{Limit}
 use Rattle.nz_trail.specs.declared.limits.Side.{Side}
@@ -11,11 +11,6 @@ use Rattle.nz_trail.specs.declared.limits.Side.TheVariants.{Lower, Upper}
 -- a bound with the number that it stands for
 abbrev pub Held : Type 0
 Held = Asserted Infinitesimal
-
--- the side, as the definitions have it
-abbrev pub half : Side → bland.Side
-half Lower = bland.lower_side
-half Upper = bland.upper_side
 
 abbrev pub is_side : Side → Side → Bool
 is_side Lower Lower = true

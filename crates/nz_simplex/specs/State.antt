@@ -2,10 +2,10 @@
 use Rattle.std.specs.Prelude.{◌≡◌, ℕ, Bool, true, false, List, [], map, length, slice_index_or, Option, Some, None, IsSome, if◌then◌else◌}
 use Rattle.std.specs.List.{AllByRecursion}
 use Rattle.nz_fractions.specs.Fraction.{Fraction}
-use Rattle.nz_spec.specs.Infinitesimal.{Infinitesimal}
-use Rattle.nz_spec.specs.Bland.{Point, Position, HasValue}
-use Rattle.nz_spec.specs.PositionMoves.{IsReadyToCheck}
-use Rattle.nz_spec.specs.Table.{Node, IsTable}
+use Rattle.nz_spec.specs.numbers.Infinitesimal.{Infinitesimal}
+use Rattle.nz_spec.specs.simplex.Bland.{Point, Position, HasValue}
+use Rattle.nz_spec.specs.simplex.PositionMoves.{IsReadyToCheck}
+use Rattle.nz_spec.specs.terms.Table.{Node, IsTable}
 use Rattle.nz_lin.specs.declared.form.Part.{Part}
 use Rattle.nz_lin.specs.Forms.{AreUnits, parts_over}
 use Rattle.nz_trail.specs.declared.limits.Side.TheVariants.{Lower, Upper}

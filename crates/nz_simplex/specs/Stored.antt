@@ -1,17 +1,17 @@
 -- What the fields of a simplex are.
 use Rattle.std.specs.Prelude.{◌≡◌, ℕ, ◌≤◌, Bool, true, false, not, ◌||◌, List, [], ◌∷◌, map, length, Option, Some, None, option_map, unwrap_or, if◌then◌else◌}
 use Rattle.nz_fractions.specs.Fraction.{Fraction}
-use Rattle.nz_spec.specs.Infinitesimal.{Infinitesimal}
-use Rattle.nz_spec.specs.BasisMoves.{numbers}
-use Rattle.nz_spec.specs.Bland.{zero_infinitesimal}
+use Rattle.nz_spec.specs.numbers.Infinitesimal.{Infinitesimal}
+use Rattle.nz_spec.specs.simplex.BasisMoves.{numbers}
+use Rattle.nz_spec.specs.simplex.Bland.{zero_infinitesimal}
 use Rattle.nz_tab.specs.Tables.{Table}
-use Rattle.nz_spec.specs.PositionMoves.{is_outside}
+use Rattle.nz_spec.specs.simplex.PositionMoves.{is_outside}
 use Rattle.nz_trail.specs.Bounds.{Asserted, TrailState, other_side}
-use Rattle.nz_spec.specs.Basis.{Coefficients}
+use Rattle.nz_spec.specs.simplex.Basis.{Coefficients}
 use Rattle.nz_trail.specs.declared.limits.Limit.{Limit}
 use Rattle.nz_trail.specs.declared.limits.Side.{Side}
 use Rattle.nz_trail.specs.declared.limits.Side.TheVariants.{Lower, Upper}
-use Rattle.nz_spec.specs.Term.{is_zero}
+use Rattle.nz_spec.specs.terms.Term.{is_zero}
 use Rattle.nz_simplex.specs.Checks.{holding_side}
 use Rattle.nz_simplex.specs.Choices.{numbers_in, size_of, way_of}
 use Rattle.nz_simplex.specs.Standing.{Held, half, standing, told, told_on}

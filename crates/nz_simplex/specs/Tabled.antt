@@ -1,7 +1,7 @@
 -- What a simplex reads of a table of forms.
 use Rattle.std.specs.Prelude.{Bool, List}
-use Rattle.nz_spec.specs.Basis.{Coefficients}
-use Rattle.nz_spec.specs.BasisMoves.{Rows}
+use Rattle.nz_spec.specs.simplex.Basis.{Coefficients}
+use Rattle.nz_spec.specs.simplex.BasisMoves.{Rows}
 use Rattle.nz_tab.specs.Rows.{DenseRow, coefficient, rows_of}
 use Rattle.nz_tab.specs.Tables.{Table}
 

@@ -2,7 +2,7 @@
 use Rattle.std.specs.Prelude.{◌≡◌, ℕ, ◌+◌, ◌-◌, ◌<◌, if◌then◌else◌}
 use Rattle.std.proofs.Common.{arith}
 use Rattle.std.proofs.lemmas.List.Sums.{sum_by_push}
-use Rattle.nz_spec.specs.Work.{PivotEntry, UnitLine, WorkLine, WorkList, is_unit, unit_count, with_line}
+use Rattle.nz_spec.specs.search.Work.{PivotEntry, UnitLine, WorkLine, WorkList, is_unit, unit_count, with_line}
 
 abbrev pub pivot_line : {T : Type 0} → ℕ → ℕ → WorkLine T
 pivot_line i j = UnitLine (PivotEntry i j)

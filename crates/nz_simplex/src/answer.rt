@@ -1,6 +1,5 @@
 //! What comes of a check.
-use nz_frac::Wide;
-use nz_trail::Var;
+use nz_place::Place;
 
 /// Whether the forms have values within their bounds.
 #[derive(Clone, Copy, Debug, PartialEq, Eq)]
@@ -11,26 +10,10 @@ pub enum Check {
     Clash,
 }
 
-/// Which computation left the numbers.
-#[derive(Clone, Copy, Debug, PartialEq, Eq)]
-pub enum Site {
-    /// The exchange of a basic form with a nonbasic one.
-    Row { leaves: Var, enters: Var },
-    /// The value of a basic form, from its row.
-    Point { form: Var },
-}
-
-/// The first operation of a computation that leaves the numbers.
-#[derive(Clone, Copy, Debug)]
-pub struct Place {
-    pub wide: Wide,
-    pub site: Site,
-}
-
 /// Why a check was not carried to its end.
-#[derive(Clone, Copy, Debug)]
+#[derive(Debug, Drop)]
 pub enum SimplexStop {
-    /// A number left the numbers.
+    /// An operation left the numbers: of an exchange, or of the value of a basic form.
     Wide(Place),
     /// A step more was wanted, and every unit of work is used.
     Spent,

@@ -4,7 +4,7 @@ use nz_frac::Frac;
 
 /// A scalar that stands for an infinitesimal number, with the same operations.
 pub trait Coordinate: Scalar {
-    ghost use Rattle.nz_spec.specs.Infinitesimal.{Infinitesimal};
+    ghost use Rattle.nz_spec.specs.numbers.Infinitesimal.{Infinitesimal};
     ghost use Rattle.nz_simplex.specs.Faithful.{IsFaithful};
 
     ghost stands_for: { Self → Infinitesimal };
@@ -13,7 +13,7 @@ pub trait Coordinate: Scalar {
 }
 
 impl Coordinate for Frac {
-    ghost use Rattle.nz_spec.specs.Bland.{standing};
+    ghost use Rattle.nz_spec.specs.simplex.Bland.{standing};
     ghost use Rattle.nz_simplex.specs.FaithfulScalars.{faithful_fraction};
 
     ghost stands_for = { standing };

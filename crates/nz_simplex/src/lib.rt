@@ -16,7 +16,7 @@ mod simplex;
 mod steps;
 mod values;
 
-pub use answer::{Check, Place, SimplexStop, Site};
+pub use answer::{Check, SimplexStop};
 pub use coordinate::Coordinate;
 pub use simplex::{Simplex, known_state};
 pub use steps::Steps;

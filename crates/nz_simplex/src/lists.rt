@@ -1,7 +1,7 @@
 //! What is listed of forms: their first values, and which of them are basic.
 ghost use Rattle.std.specs.Prelude.{◌≡◌, ◌<◌, ◌≤◌, ℕ, None, Some, false, if◌then◌else◌, length, not, slice_index_or, take, vec_capacity, vec_len};
 ghost use Rattle.nz_simplex.specs.Tabled.{marks_in};
-ghost use Rattle.nz_spec.specs.BasisMoves.{numbers};
+ghost use Rattle.nz_spec.specs.simplex.BasisMoves.{numbers};
 
 use crate::coordinate::Coordinate;
 use nz_tab::Tab;

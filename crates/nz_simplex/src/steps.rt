@@ -26,7 +26,7 @@ pub trait Steps {
 
 impl<T: Drop> Steps for Work<T> {
     ghost use Rattle.std.specs.Prelude.{◌-◌};
-    ghost use Rattle.nz_spec.specs.Work.{PivotEntry, UnitLine, unit_count, with_line};
+    ghost use Rattle.nz_spec.specs.search.Work.{PivotEntry, UnitLine, unit_count, with_line};
     ghost use Rattle.nz_simplex.specs.WorkSteps.{takes_one};
 
     ghost units_left = { λ w. w.limit - unit_count w.lines };

@@ -3,15 +3,15 @@ ghost use Rattle.std.specs.Prelude.{◌≡◌, ◌≢◌, ◌<◌, ℕ, All, IfO
 ghost use Rattle.nz_delta.specs.Refused.{refused};
 ghost use Rattle.nz_simplex.specs.Choices.{IsAfter, IsFollowed, is_moving, multiple_onto, numbers_in};
 ghost use Rattle.nz_simplex.specs.Tabled.{coefficients_in, marks_in, rows_in};
-ghost use Rattle.nz_spec.specs.Bland.{value_onto, zero_infinitesimal};
+ghost use Rattle.nz_spec.specs.simplex.Bland.{value_onto, zero_infinitesimal};
 ghost use Rattle.nz_fractions.specs.Fraction.{first_wide};
-ghost use Rattle.nz_spec.specs.Term.{is_zero};
-ghost use Rattle.nz_spec.specs.Infinitesimal.{◌=δ◌, ◌+δ◌, ◌-δ◌, scaled};
+ghost use Rattle.nz_spec.specs.terms.Term.{is_zero};
+ghost use Rattle.nz_spec.specs.numbers.Infinitesimal.{◌=δ◌, ◌+δ◌, ◌-δ◌, scaled};
 
 use crate::choice::is_outside;
 use crate::coordinate::Coordinate;
 use nz_frac::{Frac, Wide};
-use nz_spec::computation::{first_of_two, infinitesimals_move};
+use nz_spec::computation::infinitesimals_move;
 use nz_tab::{Row, Tab};
 use nz_trail::{Side, Var};
 
@@ -128,7 +128,6 @@ pub(crate) fn row_value<S: Coordinate>(
     ensures stops { refused result
         ≡ first_wide (value_onto (coefficients_in row.now) (numbers_in S.stands_for values.now) zero_infinitesimal nonbasic.now).operations }
 {
-    first_of_two();
     let mut sum = S::zero();
     for var in nonbasic {
         sum = with_multiple(sum, values[*var].unwrap(), row.at(*var))?;
@@ -141,7 +140,6 @@ fn with_multiple<S: Coordinate>(sum: S, value: S, coefficient: Frac) -> Result<S
     ensures value { IfOk result (λ y. S.stands_for y ≡ (multiple_onto (S.stands_for sum) (S.stands_for value) coefficient).result) }
     ensures stops { refused result ≡ first_wide (multiple_onto (S.stands_for sum) (S.stands_for value) coefficient).operations }
 {
-    first_of_two();
     let product = value.scale(coefficient)?;
     sum.add(product)
 }

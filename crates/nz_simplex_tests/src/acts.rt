@@ -1,12 +1,13 @@
 //! Cases told by tables: what is done to a system, and what is to come of it. One loop walks them, so that a test is one call, and cheap to prove.
-use crate::numbers::{Number, Told};
+use crate::numbers::{FromNumber, Number};
 use crate::sums::{contradicts, is_point};
 use crate::system::{System, value};
 use nz_base::Memory;
 use nz_frac::{Frac, Op, Wide};
-use nz_simplex::{Check, Simplex, SimplexStop, Site};
+use nz_place::Site;
+use nz_simplex::{Check, Simplex, SimplexStop};
 use nz_term::TermId;
-use nz_trail::{Bound, Side, Var};
+use nz_trail::{AssertOutcome, Side, Var};
 use std::alloc::Global;
 use std::cmp::Ordering;
 use std::test::Fail;
@@ -33,6 +34,15 @@ pub(crate) enum Act {
     Value(Var, Number),
 }
 
+/// Which computation leaves the numbers.
+#[derive(Clone, Copy)]
+pub(crate) enum At {
+    /// The exchange of a basic form with a nonbasic one.
+    Exchange { leaves: Var, enters: Var },
+    /// The value of a form.
+    Value(Var),
+}
+
 /// What a check comes to.
 pub(crate) enum Answer {
     /// A point within the bounds.
@@ -42,7 +52,7 @@ pub(crate) enum Answer {
     /// Another exchange was wanted.
     Spent,
     /// At this place the operation on these integers left the numbers.
-    Wide(Site, Op, i128, i128),
+    Wide(At, Op, i128, i128),
 }
 
 /// Something else than was wanted, and at which act, step or system.
@@ -56,24 +66,33 @@ fn is_wide(wide: &Wide, op: Op, left: i128, right: i128) -> bool {
     wide.op == op && Frac::of(left, 1) == Some(wide.a) && Frac::of(right, 1) == Some(wide.b)
 }
 
+/// Whether that is the place of the computation.
+fn is_site(site: &Site, at: At) -> bool {
+    match (site, at) {
+        (
+            Site::Exchange { leaves, enters },
+            At::Exchange {
+                leaves: out,
+                enters: entry,
+            },
+        ) => { *leaves == out && *enters == entry }
+        (Site::Value { form }, At::Value(var)) => *form == var,
+        _ => false,
+    }
+}
+
 /// Whether a check stopped at that place, by the operation on these integers.
-fn is_at(
-    checked: &Result<Check, SimplexStop>,
-    site: Site,
-    op: Op,
-    left: i128,
-    right: i128,
-) -> bool {
+fn is_at(checked: &Result<Check, SimplexStop>, at: At, op: Op, left: i128, right: i128) -> bool {
     match checked {
         Err(SimplexStop::Wide(place)) => {
-            place.site == site && is_wide(&place.wide, op, left, right)
+            is_site(&place.site, at) && is_wide(&place.wide, op, left, right)
         }
         _ => false,
     }
 }
 
 /// Whether a check came to what is wanted. A point and a clash are judged by plain sums.
-fn is_answer<S: Told>(
+fn is_answer<S: FromNumber>(
     system: &System<S>,
     checked: &Result<Check, SimplexStop>,
     wanted: &Answer,
@@ -86,31 +105,35 @@ fn is_answer<S: Told>(
                 && contradicts(system.simplex(), system.given())
         }
         Answer::Spent => matches!(checked, Err(SimplexStop::Spent)),
-        Answer::Wide(site, op, left, right) => is_at(checked, *site, *op, *left, *right),
+        Answer::Wide(at, op, left, right) => is_at(checked, *at, *op, *left, *right),
     }
 }
 
 /// Whether a check comes to what is wanted.
-fn comes_to<S: Told>(system: &mut System<S>, limit: u64, wanted: &Answer) -> Result<bool, Memory> {
+fn comes_to<S: FromNumber>(
+    system: &mut System<S>,
+    limit: u64,
+    wanted: &Answer,
+) -> Result<bool, Memory> {
     let checked = system.check(limit)?;
     Ok(is_answer(system, &checked, wanted))
 }
 
 /// Whether a bound is tighter than what stood.
-fn tightens<S: Told>(
+fn tightens<S: FromNumber>(
     system: &mut System<S>,
     var: Var,
     side: Side,
     number: &Number,
 ) -> Result<bool, Memory> {
     match S::told(number) {
-        Some(bound) => Ok(system.give(var, side, bound)? == Bound::Tighter),
+        Some(bound) => Ok(system.give(var, side, bound)? == AssertOutcome::Tighter),
         None => Ok(false),
     }
 }
 
 /// Whether a form has this value.
-fn has_value<S: Told>(simplex: &Simplex<S>, var: Var, number: &Number) -> bool {
+fn has_value<S: FromNumber>(simplex: &Simplex<S>, var: Var, number: &Number) -> bool {
     match (value(simplex, var), S::told(number)) {
         (Some(value), Some(wanted)) => value.cmp(&wanted) == Ordering::Equal,
         _ => false,
@@ -118,7 +141,7 @@ fn has_value<S: Told>(simplex: &Simplex<S>, var: Var, number: &Number) -> bool {
 }
 
 /// Does what an act says. Answers whether that comes to what is wanted.
-fn is_done<S: Told>(system: &mut System<S>, act: &Act) -> Result<bool, Memory> {
+fn is_done<S: FromNumber>(system: &mut System<S>, act: &Act) -> Result<bool, Memory> {
     match act {
         Act::Form(multiples, var) => Ok(system.add(multiples)? == *var),
         Act::Tighten(var, side, number) => tightens(system, *var, *side, number),
@@ -139,7 +162,7 @@ fn is_done<S: Told>(system: &mut System<S>, act: &Act) -> Result<bool, Memory> {
 }
 
 /// Does these acts one after another. Fails at the first that comes to something else than is wanted.
-fn follow<S: Told>(system: &mut System<S>, acts: &[Act]) -> Result<(), Fail> {
+fn follow<S: FromNumber>(system: &mut System<S>, acts: &[Act]) -> Result<(), Fail> {
     for (place, act) in acts.iter().enumerate() {
         if !is_done(system, act)? {
             return Err(Fail::from(Wrong { place }));
@@ -149,7 +172,7 @@ fn follow<S: Told>(system: &mut System<S>, acts: &[Act]) -> Result<(), Fail> {
 }
 
 /// Does these acts with a system that has no form.
-pub(crate) fn run<S: Told>(alloc: Global, acts: &[Act]) -> Result<(), Fail> {
+pub(crate) fn run<S: FromNumber>(alloc: Global, acts: &[Act]) -> Result<(), Fail> {
     let mut system: System<S> = System::new(alloc)?;
     follow(&mut system, acts)
 }

@@ -129,7 +129,7 @@ fn gives_back(system: &mut System<Delta>) -> Result<(), Fail> {
 }
 
 #[test]
-fn undo_gives_back_the_bounds(rt: HostRuntime) -> Result<(), Fail> {
+fn test_undo_gives_back_the_bounds(rt: HostRuntime) -> Result<(), Fail> {
     let mut system = System::new(rt.alloc())?;
     gives_back(&mut system)
 }

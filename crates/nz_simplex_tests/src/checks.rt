@@ -10,7 +10,7 @@ use std::test::Fail;
 
 /// x + y >= 2, -x + 2*y <= 1, x <= 4.
 #[test]
-fn fractions_find_a_point(rt: HostRuntime) -> Result<(), Fail> {
+fn test_fractions_find_a_point(rt: HostRuntime) -> Result<(), Fail> {
     const ACTS: &[Act] = &[
         Form(&[(1, 0), (1, 1)], 2),
         Form(&[(-1, 0), (2, 1)], 3),
@@ -26,7 +26,7 @@ fn fractions_find_a_point(rt: HostRuntime) -> Result<(), Fail> {
 
 /// x < y and y < z have a point, and none with z <= x; without that bound they have one again.
 #[test]
-fn a_cycle_of_strict_bounds_clashes(rt: HostRuntime) -> Result<(), Fail> {
+fn test_a_cycle_of_strict_bounds_clashes(rt: HostRuntime) -> Result<(), Fail> {
     const ACTS: &[Act] = &[
         Form(&[(1, 0), (-1, 1)], 2),
         Form(&[(1, 1), (-1, 2)], 4),
@@ -45,7 +45,7 @@ fn a_cycle_of_strict_bounds_clashes(rt: HostRuntime) -> Result<(), Fail> {
 
 /// 2*x + 3*y >= 12, x <= 3, y <= 2, of which only the point (3, 2) is left; below it no point is.
 #[test]
-fn bounds_on_one_side_meet_in_the_middle(rt: HostRuntime) -> Result<(), Fail> {
+fn test_bounds_on_one_side_meet_in_the_middle(rt: HostRuntime) -> Result<(), Fail> {
     const ACTS: &[Act] = &[
         Form(&[(2, 0), (3, 1)], 2),
         Tighten(2, Lower, Whole(12)),
@@ -62,7 +62,7 @@ fn bounds_on_one_side_meet_in_the_middle(rt: HostRuntime) -> Result<(), Fail> {
 
 /// Two units at bounds that are taken back, of which one is settled.
 #[test]
-fn settled_forms_stand_at_zero(rt: HostRuntime) -> Result<(), Fail> {
+fn test_settled_forms_stand_at_zero(rt: HostRuntime) -> Result<(), Fail> {
     const ACTS: &[Act] = &[
         Form(&[(1, 0), (1, 1)], 2),
         Mark,

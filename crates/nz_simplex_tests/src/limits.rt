@@ -1,10 +1,9 @@
 //! Checks that stop: at the last unit of work, and at numbers that don't fit.
 use crate::acts::Act::{self, Back, Basis, Check, Form, Mark, Tighten, Took, Value};
 use crate::acts::Answer::{Feasible, Spent, Wide};
-use crate::acts::run;
+use crate::acts::{At, run};
 use crate::numbers::Number::Whole;
 use nz_frac::{Frac, Op};
-use nz_simplex::Site;
 use nz_trail::Side::{Lower, Upper};
 use std::test::Fail;
 
@@ -13,7 +12,7 @@ const MOST: i128 = 170141183460469231731687303715884105727;
 
 /// A check without a unit of work, with one, and with enough of them.
 #[test]
-fn a_check_spends_its_units(rt: HostRuntime) -> Result<(), Fail> {
+fn test_a_check_spends_its_units(rt: HostRuntime) -> Result<(), Fail> {
     const ACTS: &[Act] = &[
         Form(&[(1, 0), (1, 1)], 2),
         Form(&[(1, 0), (-1, 1)], 3),
@@ -33,8 +32,8 @@ fn a_check_spends_its_units(rt: HostRuntime) -> Result<(), Fail> {
 
 /// Two rows whose exchange has a product that is too large.
 #[test]
-fn an_exchange_leaves_the_numbers(rt: HostRuntime) -> Result<(), Fail> {
-    const EXCHANGE: Site = Site::Row {
+fn test_an_exchange_leaves_the_numbers(rt: HostRuntime) -> Result<(), Fail> {
+    const EXCHANGE: At = At::Exchange {
         leaves: 2,
         enters: 0,
     };
@@ -50,8 +49,8 @@ fn an_exchange_leaves_the_numbers(rt: HostRuntime) -> Result<(), Fail> {
 
 /// A sum of two units that are as large as numbers can be.
 #[test]
-fn a_value_leaves_the_numbers(rt: HostRuntime) -> Result<(), Fail> {
-    const SUM: Site = Site::Point { form: 2 };
+fn test_a_value_leaves_the_numbers(rt: HostRuntime) -> Result<(), Fail> {
+    const SUM: At = At::Value(2);
     const ACTS: &[Act] = &[
         Form(&[(1, 0), (1, 1)], 2),
         Mark,

@@ -14,12 +14,12 @@ pub(crate) enum Number {
 }
 
 /// A coordinate that tables tell.
-pub(crate) trait Told: Coordinate {
+pub(crate) trait FromNumber: Coordinate {
     /// The coordinate that a number is, where there is one.
     fn told(number: &Number) -> Option<Self>;
 }
 
-impl Told for Frac {
+impl FromNumber for Frac {
     fn told(number: &Number) -> Option<Frac> {
         match number {
             Number::Whole(whole) => Frac::of(*whole, 1),
@@ -29,7 +29,7 @@ impl Told for Frac {
     }
 }
 
-impl Told for Delta {
+impl FromNumber for Delta {
     fn told(number: &Number) -> Option<Delta> {
         match number {
             Number::Whole(whole) => delta(*whole, 0),

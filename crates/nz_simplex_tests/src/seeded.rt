@@ -235,7 +235,7 @@ fn clashes(alloc: Global) -> Result<usize, Fail> {
 }
 
 #[test]
-fn checks_agree_with_vertices(rt: HostRuntime) -> Result<(), Fail> {
+fn test_checks_agree_with_vertices(rt: HostRuntime) -> Result<(), Fail> {
     let clashes = clashes(rt.alloc())?;
     assert!(rt; clashes > 10 && clashes < 90, "{clashes} clashes");
     Ok(())

@@ -4,7 +4,7 @@ use nz_lin::lin;
 use nz_simplex::{Check, Coordinate, Simplex, SimplexStop};
 use nz_term::{NumberSort, Operator, Sort, TermId, Terms};
 use nz_term_samples::{constant, operation, times};
-use nz_trail::{Bound, Limit, Side, Var};
+use nz_trail::{AssertOutcome, Limit, Side, Var};
 use std::alloc::Global;
 
 /// The units x, y and z.
@@ -61,10 +61,10 @@ impl<S: Coordinate> System<S> {
     }
 
     /// Asserts a bound, and puts it on the list where it doesn't clash.
-    pub(crate) fn give(&mut self, var: Var, side: Side, value: S) -> Result<Bound, Memory> {
+    pub(crate) fn give(&mut self, var: Var, side: Side, value: S) -> Result<AssertOutcome, Memory> {
         let reason = self.given.len();
         let bound = put(&mut self.simplex, var, side, value, reason)?;
-        if !matches!(bound, Bound::Clash(_, _)) {
+        if !matches!(bound, AssertOutcome::Clash(_, _)) {
             self.given.push((var, side, value))?;
         }
         Ok(bound)
@@ -161,7 +161,7 @@ fn put<S: Coordinate>(
     side: Side,
     value: S,
     reason: usize,
-) -> Result<Bound, Memory> {
+) -> Result<AssertOutcome, Memory> {
     if var >= simplex.len() {
         return Err(Memory);
     }

@@ -1,18 +1,18 @@
 -- Terms whose values are asked for: the rules on them, and what asking leaves.
-use Rattle.std.proofs.Common.{◌&&◌, ◌≡◌, List, [], ◌∷◌, Option, None, Some, Ok, true, false, Bool, refl, sym, ap, ◌∙◌, subst}
+use Rattle.std.proofs.Common.{◌&&◌, ◌≡◌, List, [], ◌∷◌, Option, None, Some, Ok, true, Bool, refl, sym, ap, ◌∙◌, subst}
 use Rattle.std.specs.List.{list_all}
-use Rattle.nz_spec.specs.Term.{Terms, no_terms, terms}
-use Rattle.nz_spec.specs.Normal.{normal_of}
-use Rattle.nz_spec.specs.Table.{Node, term_in, TermStays}
-use Rattle.nz_spec.specs.Order.{HasCompanions}
-use Rattle.nz_spec.specs.Linear.{is_linear}
-use Rattle.nz_spec.specs.Elaboration.{terms_of}
-use Rattle.nz_spec.specs.Request.{Question, shows_values}
-use Rattle.nz_spec.specs.Live.{State}
-use Rattle.nz_spec.specs.Script.{scope_of, asked_expressions, asked_of, all_linear, linear_outcome, values_asked}
-use Rattle.nz_spec.specs.Command.{get_value, Outcome, refused}
-use Rattle.nz_spec.specs.Error.{wrong_sort, not_linear}
-use Rattle.nz_spec.specs.Scoping.{have_clash}
+use Rattle.nz_spec.specs.terms.Term.{Terms, no_terms, terms}
+use Rattle.nz_spec.specs.terms.Normal.{normal_of}
+use Rattle.nz_spec.specs.terms.Table.{Node, term_in, TermStays}
+use Rattle.nz_spec.specs.terms.Order.{HasCompanions}
+use Rattle.nz_spec.specs.terms.Linear.{is_linear}
+use Rattle.nz_script.specs.commands.Elaboration.{terms_of}
+use Rattle.nz_script.specs.commands.Request.{Question, shows_values}
+use Rattle.nz_script.specs.live.Live.{State}
+use Rattle.nz_script.specs.commands.Script.{scope_of, asked_expressions, asked_of, all_linear, linear_outcome, values_asked}
+use Rattle.nz_script.specs.commands.Command.{get_value, Outcome, refused}
+use Rattle.nz_spec.specs.outside.Error.{wrong_sort}
+use Rattle.nz_script.specs.commands.Scoping.{have_clash}
 use Rattle.nz_elaborate.specs.declared.typed.Typed.{Typed}
 use Rattle.nz_elaborate.specs.Elaborate.{StandAs, are_unknown_in, IsWellNamed}
 use Rattle.nz_elaborate.specs.Typed.{Grows, AreTyped}
@@ -20,8 +20,8 @@ use Rattle.nz_sort.specs.declared.acts.Act.{Act}
 use Rattle.nz_sort.specs.Acts.{asked}
 use Rattle.nz_sort.specs.Live.{Standing, asserted_by, IsLive, Leaves, IfSkipped, Moves, show_values}
 use Rattle.nz_sort.specs.Changes.{Comes, Shows}
-use Rattle.nz_sort.proofs.Living.{kept_where_grown, live_grown}
-use Rattle.nz_sort.proofs.Ruling.{past_names}
+use Rattle.nz_sort.proofs.LiveStates.{kept_where_grown, live_grown}
+use Rattle.nz_sort.proofs.CommandRules.{past_names}
 
 -- what becomes of the terms, behind the rules on names
 abbrev pub terms_outcome : List Question → Option Terms → Outcome
@@ -34,11 +34,6 @@ past s qs ns xs linear h told =
     past_names (are_unknown_in (scope_of s) (asked_expressions qs)) (have_clash (asked_expressions qs)) (terms_outcome qs (terms_of (scope_of s) (asked_expressions qs))) h.known h.distinct
     ∙ ap (terms_outcome qs) h.holds.are
     ∙ ap (λ b. linear_outcome b (get_value (asked_of qs h.holds.terms))) (sym (told h.holds.terms h.holds.typed))
-
-pub nonlinear_values : (s : State) (qs : List Question) (ns : List Node) (xs : List Typed)
-    → IsWellNamed (are_unknown_in (scope_of s) (asked_expressions qs)) (have_clash (asked_expressions qs)) (StandAs (terms_of (scope_of s) (asked_expressions qs)) ns xs)
-    → ((us : Terms) → AreTyped ns xs us → false ≡ all_linear us) → values_asked s qs ≡ refused not_linear
-nonlinear_values s qs ns xs h crooked = past s qs ns xs false h crooked
 
 -- the table may have grown by companions since
 pub linear_values : (s : State) (qs : List Question) (mid new : List Node) (xs : List Typed)

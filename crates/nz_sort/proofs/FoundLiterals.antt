@@ -4,24 +4,26 @@ use Rattle.std.specs.Prelude.{option_and_then}
 use Rattle.std.specs.List.{list_any}
 use Rattle.std.proofs.lemmas.List.Folds.{list_any-append}
 use Rattle.std.proofs.Math.Bool.{or-false}
-use Rattle.nz_spec.specs.Term.{bool_sort, Constant, constant, Term, apply, no_terms, holds_integer, are_same_sort}
-use Rattle.nz_spec.specs.Normal.{normal_of}
-use Rattle.nz_spec.specs.Literal.{Literal, term_literal, is_at_most, is_below}
-use Rattle.nz_spec.specs.Table.{Node, TermStays}
-use Rattle.nz_spec.specs.Order.{HasCompanions}
-use Rattle.nz_spec.specs.Request.{Assumption, checks_assuming}
-use Rattle.nz_spec.specs.Parse.{cons_onto}
-use Rattle.nz_spec.specs.Elaboration.{has_sort, Operator, operator_named, applied, Definition, expansion, constant_named, definition_named}
-use Rattle.nz_spec.specs.Live.{State, items_of, items_hold_integers, constants_of, definitions_of}
-use Rattle.nz_spec.specs.Command.{check_sat, accepted, refused, not_taken}
-use Rattle.nz_spec.specs.Error.{unknown_symbol, wrong_sort}
-use Rattle.nz_spec.specs.Right.{effect}
-use Rattle.nz_spec.specs.Script.{assumed_term, assumes_unknown, assumes_integer, assumed_literal, assumed_literals, check_under}
+use Rattle.nz_spec.specs.terms.Term.{bool_sort, Constant, constant, Term, apply, no_terms, holds_integer, are_same_sort}
+use Rattle.nz_spec.specs.terms.Normal.{normal_of}
+use Rattle.nz_spec.specs.clauses.Literal.{Literal, term_literal, is_at_most, is_below}
+use Rattle.nz_spec.specs.terms.Table.{Node, TermStays}
+use Rattle.nz_spec.specs.terms.Order.{HasCompanions}
+use Rattle.nz_script.specs.commands.Request.{Assumption, checks_assuming}
+use Rattle.nz_script.specs.commands.Parse.{cons_onto}
+use Rattle.nz_spec.specs.terms.Operators.{has_sort, Operator, applied}
+use Rattle.nz_script.specs.commands.Elaboration.{operator_named, constant_named, definition_named}
+use Rattle.nz_spec.specs.terms.Definitions.{Definition, expansion}
+use Rattle.nz_script.specs.live.Live.{State, items_of, items_hold_integers, constants_of, definitions_of}
+use Rattle.nz_script.specs.commands.Command.{check_sat, accepted, refused, not_taken}
+use Rattle.nz_spec.specs.outside.Error.{unknown_symbol, wrong_sort}
+use Rattle.nz_script.specs.replies.Right.{effect}
+use Rattle.nz_script.specs.commands.Script.{assumed_term, assumes_unknown, assumes_integer, assumed_literal, assumed_literals, check_under}
 use Rattle.nz_term.specs.Constants.{sort_of}
 use Rattle.nz_elaborate.specs.declared.typed.Typed.{Typed}
 use Rattle.nz_elaborate.specs.Elaborate.{StandsAs}
 use Rattle.nz_elaborate.specs.Typed.{Grows, StandsFor}
-use Rattle.nz_sort.specs.declared.acts.Assumed.{Assumed}
+use Rattle.nz_term.specs.declared.term_lits.TermLit.{TermLit}
 use Rattle.nz_sort.specs.declared.acts.Act.{Act}
 use Rattle.nz_sort.specs.declared.assuming.FoundAssumption.{FoundAssumption}
 use Rattle.nz_sort.specs.declared.assuming.FoundAssumptions.{FoundAssumptions}
@@ -31,8 +33,8 @@ use Rattle.nz_sort.specs.Changes.{Comes}
 use Rattle.nz_sort.specs.Found.{IsFoundLiteral, IsFoundAs, AreFoundLiterals, HasFound, IsWithLiteral, IsWithOne}
 use Rattle.nz_sort.specs.Live.{Standing, asserted_by, IsLive, Leaves, IfSkipped, Moves, check, unsupported}
 use Rattle.nz_base.specs.declared.reply_errors.Error.TheVariants as errors
-use Rattle.nz_sort.proofs.Ruling.{comes_refused}
-use Rattle.nz_sort.proofs.Living.{kept_where_grown, kept_where_same, live_by_levels, live_grown, live_integers, stands_kept}
+use Rattle.nz_sort.proofs.CommandRules.{comes_refused}
+use Rattle.nz_sort.proofs.LiveStates.{kept_where_grown, kept_where_same, live_by_levels, live_grown, live_integers, stands_kept}
 
 -- ---- One assumption
 
@@ -71,38 +73,38 @@ found_none s x ns unknown u e =
     record { integer = sym (none_holds s x e); unknown = sym u; literal = subst (IsFoundLiteral ns None) (sym (none_assumed s x e)) tt }
 
 literal_found : (ns : List Node) (b sign : Bool) (t : Term) (id : ℕ) → StandsFor ns id (normal_of t)
-    → IsFoundLiteral ns (cond b (Some (record { term = id; is_true = sign })) None) (literal_by b sign t)
+    → IsFoundLiteral ns (cond b (Some (record { term = id; sign = sign })) None) (literal_by b sign t)
 literal_found ns true sign t id h = (h, refl)
 literal_found ns false sign t id h = tt
 
 pub found_term : (s : State) (x : Assumption) (ns : List Node) (made : Typed) (b holds : Bool) → assumes_unknown s x ≡ false → (h : StandsAs (assumed_term s x) ns made)
     → are_same_sort bool_sort (sort_of made.sort) ≡ b → holds ≡ holds_integer (normal_of h.term)
-    → IsFoundAs s x ns (record { literal = cond b (Some (record { term = made.id; is_true = x.is_true })) None; is_unknown = false; holds_integer = holds })
+    → IsFoundAs s x ns (record { literal = cond b (Some (record { term = made.id; sign = x.is_true })) None; is_unknown = false; holds_integer = holds })
 found_term s x ns made b holds u h e f =
     record {
       integer = f ∙ sym (ap (λ (o : Option Term). elim o [ Some t ↦ holds_integer (normal_of t) | None ↦ false ]) h.is);
       unknown = sym u;
-      literal = subst (IsFoundLiteral ns (cond b (Some (record { term = made.id; is_true = x.is_true })) None))
+      literal = subst (IsFoundLiteral ns (cond b (Some (record { term = made.id; sign = x.is_true })) None))
           (sym (ap (assumed_by x.is_true) h.is ∙ ap (λ c. literal_by c x.is_true h.term) (ap (are_same_sort bool_sort) (sym h.typed.sort) ∙ e)))
           (literal_found ns b x.is_true h.term made.id (record { within = h.typed.within; term = h.typed.normal }));
     }
 
 -- ---- One assumption after another
 
-assumed_longer : TermStays → (old new : List Node) → Grows old new → (x : Assumed) (l : Literal) → IsAssumed old x l → IsAssumed new x l
+assumed_longer : TermStays → (old new : List Node) → Grows old new → (x : TermLit) (l : Literal) → IsAssumed old x l → IsAssumed new x l
 assumed_longer stays old new g x (term_literal t sign) h =
     let kept = stands_kept old new g x.term h.0.within in
     (record { within = kept.within; term = kept.term ∙ h.0.term }, h.1)
 assumed_longer stays old new g x (is_at_most ps b) h = absurd h
 assumed_longer stays old new g x (is_below ps b) h = absurd h
 
-all_longer : TermStays → (old new : List Node) → Grows old new → (xs : List Assumed) (ls : List Literal) → AreAssumed old xs ls → AreAssumed new xs ls
+all_longer : TermStays → (old new : List Node) → Grows old new → (xs : List TermLit) (ls : List Literal) → AreAssumed old xs ls → AreAssumed new xs ls
 all_longer stays old new g [] [] h = tt
 all_longer stays old new g [] (l ∷ ls) h = absurd h
 all_longer stays old new g (x ∷ xs) [] h = absurd h
 all_longer stays old new g (x ∷ xs) (l ∷ ls) h = (assumed_longer stays old new g x l h.0, all_longer stays old new g xs ls h.1)
 
-literals_longer : TermStays → (old new : List Node) → Grows old new → (missorted : Bool) (xs : List Assumed) (o : Option (List Literal)) → AreFoundLiterals old missorted xs o → AreFoundLiterals new missorted xs o
+literals_longer : TermStays → (old new : List Node) → Grows old new → (missorted : Bool) (xs : List TermLit) (o : Option (List Literal)) → AreFoundLiterals old missorted xs o → AreFoundLiterals new missorted xs o
 literals_longer stays old new g missorted xs (Some ls) h = (h.0, all_longer stays old new g xs ls h.1)
 literals_longer stays old new g missorted xs None h = h
 
@@ -127,13 +129,13 @@ literals_last : (s : State) (xs : List Assumption) (x : Assumption) → assumed_
 literals_last s [] x = one_onto (assumed_literal s x)
 literals_last s (y ∷ xs) x = ap (cons_onto (assumed_literal s y)) (literals_last s xs x) ∙ cons_last (assumed_literal s y) (assumed_literals s xs) (assumed_literal s x)
 
-assumed_last : (ns : List Node) (xs : List Assumed) (ls : List Literal) (x : Assumed) (l : Literal) → AreAssumed ns xs ls → IsAssumed ns x l → AreAssumed ns (xs ++ x ∷ []) (ls ++ l ∷ [])
+assumed_last : (ns : List Node) (xs : List TermLit) (ls : List Literal) (x : TermLit) (l : Literal) → AreAssumed ns xs ls → IsAssumed ns x l → AreAssumed ns (xs ++ x ∷ []) (ls ++ l ∷ [])
 assumed_last ns [] [] x l h k = (k, tt)
 assumed_last ns [] (m ∷ ls) x l h k = absurd h
 assumed_last ns (y ∷ xs) [] x l h k = absurd h
 assumed_last ns (y ∷ xs) (m ∷ ls) x l h k = (h.0, assumed_last ns xs ls x l h.1 k)
 
-literals_with : (ns : List Node) (before after : FoundAssumptions) (one : Option Assumed) (o : Option (List Literal)) (m : Option Literal)
+literals_with : (ns : List Node) (before after : FoundAssumptions) (one : Option TermLit) (o : Option (List Literal)) (m : Option Literal)
     → AreFoundLiterals ns before.is_missorted before.literals.items o → IsFoundLiteral ns one m → IsWithLiteral before one after
     → AreFoundLiterals ns after.is_missorted after.literals.items (last_onto o m)
 literals_with ns before after (Some x) (Some ls) (Some l) h k w =

@@ -1,13 +1,13 @@
 -- What the acts of the code ask, and the errors by which it refuses.
 use Rattle.std.specs.Prelude.{◌≡◌, Bool, true, false, List, Option, Some, None, Result, Ok, Err}
-use Rattle.nz_spec.specs.Table.{Node}
-use Rattle.nz_spec.specs.Request.{Request}
-use Rattle.nz_spec.specs.Live.{State}
-use Rattle.nz_spec.specs.Reply.{Reply}
-use Rattle.nz_spec.specs.Right.{effect}
-use Rattle.nz_spec.specs.Command as commands
-use Rattle.nz_spec.specs.Command.{name_info, version_info, authors_info, error_behavior_info, Command, Outcome, accepted, refused, not_taken}
-use Rattle.nz_spec.specs.Error as spec
+use Rattle.nz_spec.specs.terms.Table.{Node}
+use Rattle.nz_script.specs.commands.Request.{Request}
+use Rattle.nz_script.specs.live.Live.{State}
+use Rattle.nz_script.specs.replies.Reply.{Reply}
+use Rattle.nz_script.specs.replies.Right.{effect}
+use Rattle.nz_script.specs.commands.Command as commands
+use Rattle.nz_script.specs.commands.Command.{name_info, version_info, authors_info, error_behavior_info, Command, Outcome, accepted, refused, not_taken}
+use Rattle.nz_spec.specs.outside.Error as spec
 use Rattle.nz_base.specs.Errors.{error_of}
 use Rattle.nz_base.specs.declared.reply_errors.Error.{Error}
 use Rattle.nz_base.specs.declared.reply_errors.Error.TheVariants as code

@@ -1,15 +1,15 @@
 -- What is added to what stands, and what comes of a command.
 use Rattle.std.specs.Prelude.{◌≡◌, ℕ, zero, suc, ◌||◌, ◌+◌, Bool, false, List, [], ◌∷◌, ◌++◌, length, take, Option, Some, None, slice_get, ◌⊎◌, Result, OnErr, IfOk, IfErr, IfSome}
-use Rattle.nz_spec.specs.Tree.{Tree}
-use Rattle.nz_spec.specs.Term.{Sort, is_int_sort, Constant, constant, Term, Terms, apply, no_terms}
-use Rattle.nz_spec.specs.Normal.{normal_of}
-use Rattle.nz_spec.specs.Table.{Node, term_in, IsTable}
-use Rattle.nz_spec.specs.Elaboration.{Definition as SpecDefinition, RootFits}
-use Rattle.nz_spec.specs.Request.{Question, Request, other_request}
-use Rattle.nz_spec.specs.Live.{State}
-use Rattle.nz_spec.specs.Command.{define, assert_term, get_value, Outcome, accepted, refused}
-use Rattle.nz_spec.specs.Script.{asked_of, outcome_requested}
-use Rattle.nz_spec.specs.Error.{bad_syntax}
+use Rattle.nz_script.specs.text.Tree.{Tree}
+use Rattle.nz_spec.specs.terms.Term.{Sort, is_int_sort, Constant, constant, Term, Terms, apply, no_terms}
+use Rattle.nz_spec.specs.terms.Normal.{normal_of}
+use Rattle.nz_spec.specs.terms.Table.{Node, term_in, IsTable}
+use Rattle.nz_spec.specs.terms.Definitions.{Definition as SpecDefinition, RootFits}
+use Rattle.nz_script.specs.commands.Request.{Question, Request, other_request}
+use Rattle.nz_script.specs.live.Live.{State}
+use Rattle.nz_script.specs.commands.Command.{define, assert_term, get_value, Outcome, accepted, refused}
+use Rattle.nz_script.specs.commands.Script.{asked_of, outcome_requested}
+use Rattle.nz_spec.specs.outside.Error.{bad_syntax}
 use Rattle.nz_base.specs.declared.reply_errors.Error.{Error}
 use Rattle.nz_term.specs.Constants.{sort_of}
 use Rattle.nz_elaborate.specs.declared.typed.Typed.{Typed}

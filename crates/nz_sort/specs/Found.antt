@@ -1,18 +1,18 @@
 -- What is found of assumptions.
 use Rattle.std.specs.Prelude.{◌≡◌, ◌||◌, Bool, true, false, List, [], ◌∷◌, ◌++◌, Option, Some, None, ⊤}
 use Rattle.std.specs.List.{list_any}
-use Rattle.nz_spec.specs.Literal.{Literal}
-use Rattle.nz_spec.specs.Table.{Node}
-use Rattle.nz_spec.specs.Request.{Assumption}
-use Rattle.nz_spec.specs.Live.{State}
-use Rattle.nz_spec.specs.Script.{assumes_unknown, assumes_integer, assumed_literal, assumed_literals}
-use Rattle.nz_sort.specs.declared.acts.Assumed.{Assumed}
+use Rattle.nz_spec.specs.clauses.Literal.{Literal}
+use Rattle.nz_spec.specs.terms.Table.{Node}
+use Rattle.nz_script.specs.commands.Request.{Assumption}
+use Rattle.nz_script.specs.live.Live.{State}
+use Rattle.nz_script.specs.commands.Script.{assumes_unknown, assumes_integer, assumed_literal, assumed_literals}
+use Rattle.nz_term.specs.declared.term_lits.TermLit.{TermLit}
 use Rattle.nz_sort.specs.declared.assuming.FoundAssumption.{FoundAssumption}
 use Rattle.nz_sort.specs.declared.assuming.FoundAssumptions.{FoundAssumptions}
 use Rattle.nz_sort.specs.Assuming.{IsAssumed, AreAssumed}
 
 -- what an assumption assumes, where it assumes anything
-abbrev pub IsFoundLiteral : List Node → Option Assumed → Option Literal → Type 0
+abbrev pub IsFoundLiteral : List Node → Option TermLit → Option Literal → Type 0
 IsFoundLiteral ns (Some x) (Some l) = IsAssumed ns x l
 IsFoundLiteral ns None None = ⊤
 IsFoundLiteral ns x l = ⊥
@@ -24,7 +24,7 @@ pub record IsFoundAs (s : State) (x : Assumption) (ns : List Node) (f : FoundAss
   pub literal : IsFoundLiteral ns f.literal (assumed_literal s x)
 
 -- they assume these literals, one for one, or one of them assumes none
-abbrev pub AreFoundLiterals : List Node → Bool → List Assumed → Option (List Literal) → Type 0
+abbrev pub AreFoundLiterals : List Node → Bool → List TermLit → Option (List Literal) → Type 0
 AreFoundLiterals ns missorted xs (Some ls) = (missorted ≡ false) × AreAssumed ns xs ls
 AreFoundLiterals ns missorted xs None = missorted ≡ true
 
@@ -35,7 +35,7 @@ pub record HasFound (s : State) (xs : List Assumption) (ns : List Node) (f : Fou
   pub literals : AreFoundLiterals ns f.is_missorted f.literals.items (assumed_literals s xs)
 
 -- the literals with one more, or without
-abbrev pub IsWithLiteral : FoundAssumptions → Option Assumed → FoundAssumptions → Type 0
+abbrev pub IsWithLiteral : FoundAssumptions → Option TermLit → FoundAssumptions → Type 0
 IsWithLiteral before (Some x) after = (after.literals.items ≡ before.literals.items ++ x ∷ []) × (after.is_missorted ≡ before.is_missorted)
 IsWithLiteral before None after = after.is_missorted ≡ true
 

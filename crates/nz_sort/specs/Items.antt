@@ -1,11 +1,11 @@
 -- The live items, as the code keeps them: by their numbers in the order of acceptance and in the table of terms.
 use Rattle.std.specs.Prelude.{◌≡◌, ℕ, ◌<◌, List, length, map, All}
 use Rattle.nz_sexpr.specs.View.{view}
-use Rattle.nz_spec.specs.Term.{Constant, constant, Term, apply, no_terms}
-use Rattle.nz_spec.specs.Normal.{normal_of}
-use Rattle.nz_spec.specs.Table.{Node, term_in}
-use Rattle.nz_spec.specs.Live.{LiveItem, Item, cost_of, numbers_of, is_constant, is_assertion, is_goal, is_wish, constants_in, assertions_in, goals_in, wishes_in}
-use Rattle.nz_spec.specs.Live as live_state
+use Rattle.nz_spec.specs.terms.Term.{Constant, constant, Term, apply, no_terms}
+use Rattle.nz_spec.specs.terms.Normal.{normal_of}
+use Rattle.nz_spec.specs.terms.Table.{Node, term_in}
+use Rattle.nz_script.specs.live.Live.{LiveItem, Item, cost_of, numbers_of, is_constant, is_assertion, is_goal, is_wish, constants_in, assertions_in, goals_in, wishes_in}
+use Rattle.nz_script.specs.live.Live as live_state
 use Rattle.nz_sort.specs.declared.items.Accepted.{Accepted}
 use Rattle.nz_command.specs.Requests.{direction_view}
 use Rattle.nz_sort.specs.declared.items.Goal.{Goal}

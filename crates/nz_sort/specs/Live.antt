@@ -1,26 +1,26 @@
 -- The live state, as the code keeps it: names and items, with their numbers in the table of terms.
 use Rattle.std.specs.Prelude.{◌≡◌, ℕ, ◌<◌, ◌≤◌, Bool, false, List, [], ◌∷◌, ◌++◌, length, take, map, flat_map, reverse, All, Some, ⊤}
-use Rattle.nz_spec.specs.Tree.{Tree}
-use Rattle.nz_spec.specs.Term.{Constant, constant, apply, Terms, no_terms}
-use Rattle.nz_spec.specs.Literal.{Literal}
-use Rattle.nz_spec.specs.Normal.{normal_of}
-use Rattle.nz_spec.specs.Table.{Node, term_in}
-use Rattle.nz_spec.specs.Order.{HasCompanions}
-use Rattle.nz_spec.specs.Decide.{asserted_numbers}
-use Rattle.nz_spec.specs.Elaboration.{Scope}
-use Rattle.nz_spec.specs.Command as commands
-use Rattle.nz_spec.specs.Request.{Question, Request, shows_values, echoes}
-use Rattle.nz_spec.specs.Parse.{request_of}
-use Rattle.nz_spec.specs.Live.{State, LiveItem, items_of, item_terms, items_hold_integers, constants_in, definitions_in, constants_of, assertions_of}
-use Rattle.nz_spec.specs.Command.{Info, Command, declare_const, define, assert_term, push_levels, pop_levels, reset_assertions, check_sat, get_model, get_value, get_info, get_levels, get_reason, set_print_success, no_effect, exit, Outcome, accepted, not_taken}
-use Rattle.nz_spec.specs.Script.{asked_of, outcome_of}
-use Rattle.nz_spec.specs.Reply.{Reply}
-use Rattle.nz_spec.specs.Right.{effect}
+use Rattle.nz_script.specs.text.Tree.{Tree}
+use Rattle.nz_spec.specs.terms.Term.{Constant, constant, apply, Terms, no_terms}
+use Rattle.nz_spec.specs.clauses.Literal.{Literal}
+use Rattle.nz_spec.specs.terms.Normal.{normal_of}
+use Rattle.nz_spec.specs.terms.Table.{Node, term_in}
+use Rattle.nz_spec.specs.terms.Order.{HasCompanions}
+use Rattle.nz_spec.specs.search.Decide.{asserted_numbers}
+use Rattle.nz_script.specs.commands.Elaboration.{Scope}
+use Rattle.nz_script.specs.commands.Command as commands
+use Rattle.nz_script.specs.commands.Request.{Question, Request, shows_values, echoes}
+use Rattle.nz_script.specs.commands.Parse.{request_of}
+use Rattle.nz_script.specs.live.Live.{State, LiveItem, items_of, item_terms, items_hold_integers, constants_in, definitions_in, constants_of, assertions_of}
+use Rattle.nz_script.specs.commands.Command.{Info, Command, declare_const, define, assert_term, push_levels, pop_levels, reset_assertions, check_sat, get_model, get_value, get_info, get_levels, get_reason, set_print_success, no_effect, exit, Outcome, accepted, not_taken}
+use Rattle.nz_script.specs.commands.Script.{asked_of, outcome_of}
+use Rattle.nz_script.specs.replies.Reply.{Reply}
+use Rattle.nz_script.specs.replies.Right.{effect}
 use Rattle.nz_elaborate.specs.declared.typed.Typed.{Typed}
 use Rattle.nz_elaborate.specs.declared.names.Named.{Named}
 use Rattle.nz_elaborate.specs.Names.{IsScope, nothing_declared}
 use Rattle.nz_elaborate.specs.Typed.{AreTyped}
-use Rattle.nz_sort.specs.declared.acts.Assumed.{Assumed}
+use Rattle.nz_term.specs.declared.term_lits.TermLit.{TermLit}
 use Rattle.nz_sort.specs.declared.levels.Level.{Level}
 use Rattle.nz_sort.specs.Assuming.{AreAssumed}
 use Rattle.nz_sort.specs.Layers.{Layer, layer_of}
@@ -95,7 +95,7 @@ pub data Ask : Type 0 where
   popped : Ask
   cleared : Ask
   reset : Ask
-  check : List Assumed → Ask
+  check : List TermLit → Ask
   show_model : Ask
   show_values : List Typed → Ask
   show_reason : Ask
@@ -124,7 +124,7 @@ pub record AsksValues (ns : List Node) (xs : List Typed) (r : Request) (c : Comm
   pub is : c ≡ get_value (asked_of questions terms)
 
 -- The command is a check under literals, and these are they.
-pub record AsksCheck (ns : List Node) (xs : List Assumed) (c : Command) : Type 0 where
+pub record AsksCheck (ns : List Node) (xs : List TermLit) (c : Command) : Type 0 where
   pub literals : List Literal
   pub assumes : AreAssumed ns xs literals
   pub is : c ≡ check_sat literals

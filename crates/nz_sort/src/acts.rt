@@ -1,12 +1,12 @@
 //! What commands that aren't refused ask of the session.
 ghost use Rattle.std.specs.Prelude.{◌≡◌};
-ghost use Rattle.nz_spec.specs.Script as script;
+ghost use Rattle.nz_script.specs.commands.Script as script;
 ghost use Rattle.nz_command.specs.Requests.{key_view, setting_view};
 ghost use Rattle.nz_sort.specs.Acts.{AsksBy};
 
 use nz_command::{InfoKey, Priority, Setting};
 use nz_elaborate::Typed;
-use nz_term::TermId;
+use nz_term::TermLit;
 
 /// What a `get-info` tells whatever the state.
 #[derive(Clone, Copy, Debug, PartialEq, Eq)]
@@ -15,14 +15,6 @@ pub enum Info {
     Version,
     Authors,
     ErrorBehavior,
-}
-
-/// A term that a check assumes to be true, or to be false.
-#[derive(Clone, Copy, Debug, PartialEq, Eq)]
-pub struct Assumed {
-    /// The number of the term in the table of terms.
-    pub term: TermId,
-    pub is_true: bool,
 }
 
 /// What a command that isn't refused asks of the session.
@@ -36,8 +28,8 @@ pub enum Act {
     Cleared,
     /// The same, and that the options be set back.
     Reset,
-    /// Whether the live assertions have a model in which these terms are so.
-    Check(Vec<Assumed>),
+    /// Whether the live assertions have a model in which these literals are true.
+    Check(Vec<TermLit>),
     /// The model of the last answer.
     ShowModel,
     /// The values of these terms, which stand for the trees of its list, in the model of the last answer.

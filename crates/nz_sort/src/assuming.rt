@@ -1,27 +1,26 @@
 //! What a check assumes: names of sort Bool, to be true or to be false.
 ghost use Rattle.std.specs.Prelude.{◌≡◌, false, [], map, cond, Some, None, IfOk, OnOk};
-ghost use Rattle.nz_spec.specs.Term.{bool_sort, are_same_sort};
+ghost use Rattle.nz_spec.specs.terms.Term.{bool_sort, are_same_sort};
 ghost use Rattle.nz_term.specs.Constants.{sort_of};
 ghost use Rattle.nz_command.specs.Requests.{assumption_view};
-ghost use Rattle.nz_spec.specs.Live.{State};
-ghost use Rattle.nz_spec.specs.Script.{scope_of};
+ghost use Rattle.nz_script.specs.live.Live.{State};
+ghost use Rattle.nz_script.specs.commands.Script.{scope_of};
 ghost use Rattle.nz_elaborate.specs.Names.{IsScope};
 ghost use Rattle.nz_elaborate.specs.Typed.{Grows};
 ghost use Rattle.nz_sort.specs.Found.{HasFound, IsFoundAs, IsWithOne};
 
-use crate::acts::Assumed;
 use nz_base::Memory;
 use nz_command::{Assumption, Expression};
 use nz_elaborate::{ElaborateError, Names, Typed, elaborate};
 use nz_spec::table::term_stays;
-use nz_term::{Sort, Terms, grows_twice};
+use nz_term::{Sort, TermLit, Terms, grows_twice};
 use std::alloc::Global;
 
 /// What is found of assumptions.
 #[derive(Drop)]
 pub(crate) struct FoundAssumptions {
     /// What they assume, one for one, where none is missorted.
-    pub literals: Vec<Assumed>,
+    pub literals: Vec<TermLit>,
     /// A name isn't in scope.
     pub is_unknown: bool,
     /// A name isn't in scope, or stands for no term of sort Bool.
@@ -50,7 +49,7 @@ impl FoundAssumptions {
 #[derive(Clone, Copy)]
 pub(crate) struct FoundAssumption {
     /// What it assumes, where its name stands for a term of sort Bool.
-    pub literal: Option<Assumed>,
+    pub literal: Option<TermLit>,
     /// The name isn't in scope.
     pub is_unknown: bool,
     /// The name stands for a term that holds a unit of sort `Int`.
@@ -121,13 +120,13 @@ fn assumed_term(
 }
 
 /// What a term is assumed by, to be true or to be false, where it is of sort Bool.
-fn literal_of(made: Typed, is_true: bool) -> Option<Assumed>
-    ensures literal { result ≡ cond (are_same_sort bool_sort (sort_of made.sort)) (Some (record { term = made.id; is_true = is_true })) None }
+fn literal_of(made: Typed, is_true: bool) -> Option<TermLit>
+    ensures literal { result ≡ cond (are_same_sort bool_sort (sort_of made.sort)) (Some (record { term = made.id; sign = is_true })) None }
 {
     if made.sort == Sort::Bool {
-        Some(Assumed {
+        Some(TermLit {
             term: made.id,
-            is_true,
+            sign: is_true,
         })
     } else {
         None

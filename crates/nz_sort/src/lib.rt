@@ -10,7 +10,7 @@ mod levels;
 mod limits;
 mod live;
 
-pub use acts::{Act, Assumed, Info};
+pub use acts::{Act, Info};
 pub use items::{Accepted, Goal, Wish};
 pub use levels::Level;
 pub use live::Live;

@@ -1,7 +1,7 @@
 //! The limits of single commands.
 ghost use Rattle.std.specs.Prelude.{◌≡◌, length, nat_lt, option_map};
-ghost use Rattle.nz_spec.specs.Live.{State, constants_of, pushed_levels};
-ghost use Rattle.nz_spec.specs.Limits as limits;
+ghost use Rattle.nz_script.specs.live.Live.{State, constants_of, pushed_levels};
+ghost use Rattle.nz_script.specs.commands.Limits as limits;
 ghost use Rattle.nz_command.specs.View.{number_view};
 ghost use Rattle.nz_command.specs.Requests.{count_view, request};
 

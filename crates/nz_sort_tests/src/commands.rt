@@ -5,7 +5,7 @@ use crate::steps::{Step, run};
 use std::test::Fail;
 
 #[test]
-fn takes_what_is_of_its_form(rt: HostRuntime) -> Result<(), Fail> {
+fn test_takes_what_is_of_its_form(rt: HostRuntime) -> Result<(), Fail> {
     const STEPS: &[Step] = &[
         Step::Command("(set-logic QF_LRA)", b"nothing"),
         Step::Command("(set-option :print-success false)", b"hush"),
@@ -34,7 +34,7 @@ fn takes_what_is_of_its_form(rt: HostRuntime) -> Result<(), Fail> {
 }
 
 #[test]
-fn refuses_what_is_not(rt: HostRuntime) -> Result<(), Fail> {
+fn test_refuses_what_is_not(rt: HostRuntime) -> Result<(), Fail> {
     const STEPS: &[Step] = &[
         Step::Command("(1 2)", b"syntax"),
         Step::Command("((f) x)", b"syntax"),
@@ -65,7 +65,7 @@ fn refuses_what_is_not(rt: HostRuntime) -> Result<(), Fail> {
 }
 
 #[test]
-fn tells_wide_numbers(rt: HostRuntime) -> Result<(), Fail> {
+fn test_tells_wide_numbers(rt: HostRuntime) -> Result<(), Fail> {
     const STEPS: &[Step] = &[
         Step::Numbers("(f 170141183460469231731687303715884105727)", false, false),
         Step::Numbers("(f 170141183460469231731687303715884105728)", true, false),
@@ -89,7 +89,7 @@ fn tells_wide_numbers(rt: HostRuntime) -> Result<(), Fail> {
 }
 
 #[test]
-fn tells_long_decimals(rt: HostRuntime) -> Result<(), Fail> {
+fn test_tells_long_decimals(rt: HostRuntime) -> Result<(), Fail> {
     const STEPS: &[Step] = &[
         Step::Numbers("(f 0.00000000000000000000000000000000000001)", false, false),
         Step::Numbers("(f 0.000000000000000000000000000000000000001)", false, true),

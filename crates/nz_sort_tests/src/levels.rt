@@ -5,7 +5,7 @@ use nz_sort::Accepted;
 use std::test::Fail;
 
 #[test]
-fn levels_are_counted(rt: HostRuntime) -> Result<(), Fail> {
+fn test_levels_are_counted(rt: HostRuntime) -> Result<(), Fail> {
     const STEPS: &[Step] = &[
         Step::Command("(push 0)", b"changed"),
         Step::Command("(push 1000)", b"changed"),
@@ -26,7 +26,7 @@ fn levels_are_counted(rt: HostRuntime) -> Result<(), Fail> {
 }
 
 #[test]
-fn a_name_lives_in_its_level(rt: HostRuntime) -> Result<(), Fail> {
+fn test_a_name_lives_in_its_level(rt: HostRuntime) -> Result<(), Fail> {
     const STEPS: &[Step] = &[
         Step::Command("(push)", b"changed"),
         Step::Command("(declare-const x Bool)", b"changed"),
@@ -46,7 +46,7 @@ fn a_name_lives_in_its_level(rt: HostRuntime) -> Result<(), Fail> {
 }
 
 #[test]
-fn names_of_sort_bool_are_assumed(rt: HostRuntime) -> Result<(), Fail> {
+fn test_names_of_sort_bool_are_assumed(rt: HostRuntime) -> Result<(), Fail> {
     const STEPS: &[Step] = &[
         Step::Command("(declare-const p Bool)", b"changed"),
         Step::Command("(declare-const u Real)", b"changed"),
@@ -66,7 +66,7 @@ fn names_of_sort_bool_are_assumed(rt: HostRuntime) -> Result<(), Fail> {
 }
 
 #[test]
-fn no_check_is_of_integers(rt: HostRuntime) -> Result<(), Fail> {
+fn test_no_check_is_of_integers(rt: HostRuntime) -> Result<(), Fail> {
     const STEPS: &[Step] = &[
         Step::Command("(declare-const p Bool)", b"changed"),
         Step::Command("(define-fun n () Bool (< 1 (abs 2)))", b"changed"),
@@ -83,7 +83,7 @@ fn no_check_is_of_integers(rt: HostRuntime) -> Result<(), Fail> {
 }
 
 #[test]
-fn numbers_go_on_after_a_pop(rt: HostRuntime) -> Result<(), Fail> {
+fn test_numbers_go_on_after_a_pop(rt: HostRuntime) -> Result<(), Fail> {
     const STEPS: &[Step] = &[
         Step::Command("(declare-const p Bool)", b"changed"),
         Step::Command("(push)", b"changed"),
@@ -97,7 +97,7 @@ fn numbers_go_on_after_a_pop(rt: HostRuntime) -> Result<(), Fail> {
 }
 
 #[test]
-fn numbers_start_anew_after_a_reset(rt: HostRuntime) -> Result<(), Fail> {
+fn test_numbers_start_anew_after_a_reset(rt: HostRuntime) -> Result<(), Fail> {
     const STEPS: &[Step] = &[
         Step::Command("(push)", b"changed"),
         Step::Command("(declare-const p Bool)", b"changed"),
@@ -114,7 +114,7 @@ fn numbers_start_anew_after_a_reset(rt: HostRuntime) -> Result<(), Fail> {
 }
 
 #[test]
-fn a_term_list_is_of_all_levels(rt: HostRuntime) -> Result<(), Fail> {
+fn test_a_term_list_is_of_all_levels(rt: HostRuntime) -> Result<(), Fail> {
     const STEPS: &[Step] = &[
         Step::Command("(declare-const p Bool)", b"changed"),
         Step::Command("(push 2)", b"changed"),

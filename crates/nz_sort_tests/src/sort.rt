@@ -6,7 +6,7 @@ use nz_term::TermId;
 use std::test::Fail;
 
 #[test]
-fn items_of_all_kinds_share_one_order(rt: HostRuntime) -> Result<(), Fail> {
+fn test_items_of_all_kinds_share_one_order(rt: HostRuntime) -> Result<(), Fail> {
     const CONSTANTS: &[Accepted] = &[
         Accepted { number: 0, term: 0 },
         Accepted { number: 2, term: 1 },
@@ -28,7 +28,7 @@ fn items_of_all_kinds_share_one_order(rt: HostRuntime) -> Result<(), Fail> {
 }
 
 #[test]
-fn a_term_list_has_companions(rt: HostRuntime) -> Result<(), Fail> {
+fn test_a_term_list_has_companions(rt: HostRuntime) -> Result<(), Fail> {
     // The quotient, which was made last, comes just before the remainder.
     const COMPANIONS: &[TermId] = &[0, 1, 2, 5, 3, 4];
     const STEPS: &[Step] = &[
@@ -41,7 +41,7 @@ fn a_term_list_has_companions(rt: HostRuntime) -> Result<(), Fail> {
 }
 
 #[test]
-fn nothing_is_sought_or_wished_yet(rt: HostRuntime) -> Result<(), Fail> {
+fn test_nothing_is_sought_or_wished_yet(rt: HostRuntime) -> Result<(), Fail> {
     const STEPS: &[Step] = &[
         Step::Command("(declare-const p Bool)", b"changed"),
         Step::Command("(assert p)", b"changed"),
@@ -55,7 +55,7 @@ fn nothing_is_sought_or_wished_yet(rt: HostRuntime) -> Result<(), Fail> {
 }
 
 #[test]
-fn declares_constants(rt: HostRuntime) -> Result<(), Fail> {
+fn test_declares_constants(rt: HostRuntime) -> Result<(), Fail> {
     const STEPS: &[Step] = &[
         Step::Command("(declare-const x Int)", b"changed"),
         Step::Command("(declare-fun y () Real)", b"changed"),
@@ -68,7 +68,7 @@ fn declares_constants(rt: HostRuntime) -> Result<(), Fail> {
 }
 
 #[test]
-fn defines_terms(rt: HostRuntime) -> Result<(), Fail> {
+fn test_defines_terms(rt: HostRuntime) -> Result<(), Fail> {
     const STEPS: &[Step] = &[
         Step::Command("(declare-const x Int)", b"changed"),
         Step::Command("(declare-const y Real)", b"changed"),
@@ -96,7 +96,7 @@ fn defines_terms(rt: HostRuntime) -> Result<(), Fail> {
 }
 
 #[test]
-fn asserts_linear_terms(rt: HostRuntime) -> Result<(), Fail> {
+fn test_asserts_linear_terms(rt: HostRuntime) -> Result<(), Fail> {
     const STEPS: &[Step] = &[
         Step::Command("(declare-const x Int)", b"changed"),
         Step::Command(
@@ -121,7 +121,7 @@ fn asserts_linear_terms(rt: HostRuntime) -> Result<(), Fail> {
 }
 
 #[test]
-fn checks_what_holds_no_integers(rt: HostRuntime) -> Result<(), Fail> {
+fn test_checks_what_holds_no_integers(rt: HostRuntime) -> Result<(), Fail> {
     const STEPS: &[Step] = &[
         Step::Command("(declare-const x Real)", b"changed"),
         Step::Command("(assert (< (ite (< x 1.0) x 2.0) 3.0))", b"changed"),
@@ -136,7 +136,7 @@ fn checks_what_holds_no_integers(rt: HostRuntime) -> Result<(), Fail> {
 }
 
 #[test]
-fn sets_options_and_infos(rt: HostRuntime) -> Result<(), Fail> {
+fn test_sets_options_and_infos(rt: HostRuntime) -> Result<(), Fail> {
     const STEPS: &[Step] = &[
         Step::Command("(set-logic QF_LRA)", b"nothing"),
         Step::Command("(set-option :print-success true)", b"talk"),
@@ -149,7 +149,7 @@ fn sets_options_and_infos(rt: HostRuntime) -> Result<(), Fail> {
 }
 
 #[test]
-fn asks_of_the_session(rt: HostRuntime) -> Result<(), Fail> {
+fn test_asks_of_the_session(rt: HostRuntime) -> Result<(), Fail> {
     const STEPS: &[Step] = &[
         Step::Command("(get-info :name)", b"info"),
         Step::Command("(get-info :assertion-stack-levels)", b"levels"),

@@ -17,8 +17,8 @@ pub(crate) struct Trial {
 
 impl Model for Trial {
     ghost use Rattle.std.specs.Prelude.{List};
-    ghost use Rattle.nz_spec.specs.Table.{Node};
-    ghost use Rattle.nz_spec.specs.Live.{State};
+    ghost use Rattle.nz_spec.specs.terms.Table.{Node};
+    ghost use Rattle.nz_script.specs.live.Live.{State};
     ghost use Rattle.nz_sort.specs.Live.{IsLive};
 
     ghost Value = { List Node };

@@ -5,11 +5,11 @@ use Rattle.std.specs.Prelude.{◌==◌, not, ◌&&◌, if◌then◌else◌, ◌�
 use Rattle.nz_ints.proofs.Ring.{Atom, Literal, ◌⊕◌, ◌⊗◌, Minus}
 use Rattle.nz_lists.proofs.Numbers.{equal-number, other-number, same-number}
 use Rattle.nz_fractions.specs.Fraction.{Fraction, whole, ◌=ℚ◌, ◌+ℚ◌, neg_ℚ, ◌*ℚ◌, reciprocal, Product, Quotient, outcome}
-use Rattle.nz_spec.specs.Computation.{at_once}
-use Rattle.nz_spec.specs.Term.{is_zero}
-use Rattle.nz_spec.specs.Form.{Part, unit_value, parts_value}
-use Rattle.nz_spec.specs.Basis.{Valuation, worth, form_at, Coefficients, weighted, mix, IsZeroAtBasic, IsRow, IsBasis, AreIndependent, alone, IsSolution}
-use Rattle.nz_spec.specs.BasisMoves.{numbers, Rows, AreRows, plus_multiple, exchanged, MayExchange, solved, replaced, exchange, ExchangeKeepsBasis, SolutionsStay}
+use Rattle.nz_spec.specs.numbers.Computation.{at_once}
+use Rattle.nz_spec.specs.terms.Term.{is_zero}
+use Rattle.nz_spec.specs.terms.Form.{Part, unit_value, parts_value}
+use Rattle.nz_spec.specs.simplex.Basis.{Valuation, worth, form_at, Coefficients, weighted, mix, IsZeroAtBasic, IsRow, IsBasis, AreIndependent, alone, IsSolution}
+use Rattle.nz_spec.specs.simplex.BasisMoves.{numbers, Rows, AreRows, plus_multiple, exchanged, MayExchange, solved, replaced, exchange, ExchangeKeepsBasis, SolutionsStay}
 use Rattle.nz_fractions.proofs.Laws.{=ℚ_refl, =ℚ-from_same, =ℚ_sym}
 use Rattle.nz_fractions.proofs.Order.{same-fraction_eq}
 use Rattle.nz_fractions.proofs.Arithmetic.{+ℚ-zero, +ℚ-same, neg_ℚ-same, outcome-sum, outcome-product}

@@ -7,12 +7,12 @@ use Rattle.std.proofs.lemmas.List.Elements.{Contains-append_left, Contains-appen
 use Rattle.nz_ints.proofs.Ring.{Atom, Literal, ◌⊕◌, ◌⊗◌}
 use Rattle.nz_lists.proofs.Numbers.{equal-number, same-number}
 use Rattle.nz_fractions.specs.Fraction.{Fraction, whole, ◌=ℚ◌, ◌+ℚ◌, ◌*ℚ◌, Sum, Product, outcome}
-use Rattle.nz_spec.specs.Computation.{Computation}
-use Rattle.nz_spec.specs.Term.{Term}
-use Rattle.nz_spec.specs.Literal.{are_same_term}
-use Rattle.nz_spec.specs.Form.{Part, unit_form}
-use Rattle.nz_spec.specs.Basis.{Valuation, worth, form_at, Coefficients, weighted, mix, IsZeroAtBasic, IsRow, HasItsUnits, IsBasis, AreIndependent, alone}
-use Rattle.nz_spec.specs.BasisMoves.{numbers, Rows, AreRows, plus_multiple, with_nonbasic, AreNumbered, part_added, parts_added, joining_row, JoinsKeepBasis}
+use Rattle.nz_spec.specs.numbers.Computation.{Computation}
+use Rattle.nz_spec.specs.terms.Term.{Term}
+use Rattle.nz_spec.specs.clauses.Literal.{are_same_term}
+use Rattle.nz_spec.specs.terms.Form.{Part, unit_form}
+use Rattle.nz_spec.specs.simplex.Basis.{Valuation, worth, form_at, Coefficients, weighted, mix, IsZeroAtBasic, IsRow, HasItsUnits, IsBasis, AreIndependent, alone}
+use Rattle.nz_spec.specs.simplex.BasisMoves.{numbers, Rows, AreRows, plus_multiple, with_nonbasic, AreNumbered, part_added, parts_added, joining_row, JoinsKeepBasis}
 use Rattle.nz_fractions.proofs.Laws.{=ℚ_refl, =ℚ-from_same, =ℚ_sym}
 use Rattle.nz_fractions.proofs.Arithmetic.{+ℚ-zero, +ℚ-same, *ℚ-one, outcome-sum, outcome-product}
 use Rattle.nz_fractions.proofs.Identities.{zero_times, times_zero}

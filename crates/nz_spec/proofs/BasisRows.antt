@@ -4,8 +4,8 @@ use Rattle.std.specs.Prelude.{◌==◌, if◌then◌else◌, ◌≢◌}
 use Rattle.nz_lists.proofs.Numbers.{equal-number, other-number}
 use Rattle.nz_ints.proofs.Ring.{Atom, Literal, ◌⊕◌, ◌⊗◌}
 use Rattle.nz_fractions.specs.Fraction.{Fraction, whole, ◌=ℚ◌, ◌+ℚ◌, ◌*ℚ◌}
-use Rattle.nz_spec.specs.Form.{Part}
-use Rattle.nz_spec.specs.Basis.{Valuation, worth, form_at, Coefficients, weighted, mix, IsZeroAtBasic, IsRow, IsBasis, IsCoefficient, AreIndependent, CoefficientsAreUnique, alone, NonbasicFormIsItself}
+use Rattle.nz_spec.specs.terms.Form.{Part}
+use Rattle.nz_spec.specs.simplex.Basis.{Valuation, worth, form_at, Coefficients, weighted, mix, IsZeroAtBasic, IsRow, IsBasis, IsCoefficient, AreIndependent, CoefficientsAreUnique, alone, NonbasicFormIsItself}
 use Rattle.nz_fractions.proofs.Laws.{=ℚ_refl, =ℚ_sym}
 use Rattle.nz_fractions.proofs.Arithmetic.{+ℚ-zero, +ℚ-same}
 use Rattle.nz_fractions.proofs.Identities.{zero_times, times_zero, one_times}

@@ -3,7 +3,7 @@ use Rattle.std.proofs.Common.{◌≡◌, ℕ, zero, suc, ◌<◌, ◌⊎◌, inl
 use Rattle.std.specs.Prelude.{◌≢◌}
 use Rattle.nz_ints.proofs.Ring.{Atom, ◌⊕◌, ◌⊗◌}
 use Rattle.nz_fractions.specs.Fraction.{Fraction, whole, ◌=ℚ◌, ◌+ℚ◌, ◌*ℚ◌}
-use Rattle.nz_spec.specs.Basis.{sum_of}
+use Rattle.nz_spec.specs.simplex.Basis.{sum_of}
 use Rattle.nz_fractions.proofs.Laws.{=ℚ_refl, =ℚ_sym}
 use Rattle.nz_fractions.proofs.Arithmetic.{+ℚ-zero, +ℚ-same}
 use Rattle.nz_fractions.proofs.Identities.{zero_left, times_zero}

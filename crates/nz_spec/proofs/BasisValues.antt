@@ -2,10 +2,10 @@
 use Rattle.std.proofs.Common.{ℕ, ◌<◌, Bool, List, [], ◌∷◌, length, pos, refl, ap}
 use Rattle.nz_ints.proofs.Ring.{Atom, ◌⊕◌}
 use Rattle.nz_fractions.specs.Fraction.{Fraction, whole, ◌=ℚ◌, ◌+ℚ◌, ◌*ℚ◌}
-use Rattle.nz_spec.specs.Term.{Term}
-use Rattle.nz_spec.specs.Form.{Part}
-use Rattle.nz_spec.specs.Basis.{Valuation, worth, form_at, Coefficients, weighted, IsRow, IsBasis, IsSolution}
-use Rattle.nz_spec.specs.BasisMoves.{AreNumbered, SolutionsAreWorth}
+use Rattle.nz_spec.specs.terms.Term.{Term}
+use Rattle.nz_spec.specs.terms.Form.{Part}
+use Rattle.nz_spec.specs.simplex.Basis.{Valuation, worth, form_at, Coefficients, weighted, IsRow, IsBasis, IsSolution}
+use Rattle.nz_spec.specs.simplex.BasisMoves.{AreNumbered, SolutionsAreWorth}
 use Rattle.nz_fractions.proofs.Laws.{=ℚ_refl, =ℚ-from_same, =ℚ_sym}
 use Rattle.nz_fractions.proofs.Arithmetic.{+ℚ-same}
 use Rattle.nz_fractions.proofs.Solver.{◌∙ℚ◌, solve, times_right}

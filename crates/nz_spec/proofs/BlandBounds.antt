@@ -3,8 +3,8 @@ use Rattle.std.proofs.Common.{◌≡◌, refl, sym, ap, true≢false, Ordering, 
 use Rattle.std.specs.Prelude.{◌↔◌}
 use Rattle.std.specs.Ordering.{ordering_then, is_lt}
 use Rattle.nz_fractions.specs.Fraction.{Fraction, denominator, ◌≤ℚ◌, ◌<ℚ◌, fraction_cmp}
-use Rattle.nz_spec.specs.Infinitesimal.{infinitesimal_cmp}
-use Rattle.nz_spec.specs.Bland.{BoundsSayWhatTheyMean}
+use Rattle.nz_spec.specs.numbers.Infinitesimal.{infinitesimal_cmp}
+use Rattle.nz_spec.specs.simplex.Bland.{BoundsSayWhatTheyMean}
 use Rattle.nz_fractions.proofs.Laws.{≤ℚ-from_eq, ≤ℚ-from_lt, <ℚ_irrefl}
 use Rattle.nz_fractions.proofs.Order.{fraction_ranked, fraction_cmp_is}
 

@@ -2,9 +2,9 @@
 use Rattle.std.proofs.Common.{◌≡◌, ℕ, zero, suc, ◌<◌, ◌≤◌, ◌+◌, ◌*◌, ◌^◌, Bool, true, false, ◌⊎◌, inl, inr, length, Option, Some, None, refl, sym, ap, ◌∙◌, subst, true≢false, arith, pow-suc}
 use Rattle.std.specs.Prelude.{◌==◌, ◌≢◌, if◌then◌else◌, is_some, option_map}
 use Rattle.nz_lists.proofs.Numbers.{equal-number, same-number}
-use Rattle.nz_spec.specs.Infinitesimal.{Infinitesimal}
-use Rattle.nz_spec.specs.Bland.{Position, HasBasis, Stand, at_lower, at_upper, at_neither, is_at, posture_of}
-use Rattle.nz_spec.specs.BlandRuns.{IsRun, RunsAreShort}
+use Rattle.nz_spec.specs.numbers.Infinitesimal.{Infinitesimal}
+use Rattle.nz_spec.specs.simplex.Bland.{Position, HasBasis, Stand, at_lower, at_upper, at_neither, is_at, posture_of}
+use Rattle.nz_spec.specs.laws.BlandRuns.{IsRun, RunsAreShort}
 use Rattle.nz_spec.proofs.BlandSteps.{check_steps_keep_basis}
 use Rattle.nz_spec.proofs.BlandPositions.{place}
 use Rattle.nz_spec.proofs.BlandReturns.{no_posture_returns}

@@ -3,10 +3,10 @@
 use Rattle.std.proofs.Common.{◌≡◌, ℕ, zero, suc, ◌<◌, ◌≤◌, Bool, true, false, ◌⊎◌, inl, inr, Option, Some, None, refl, sym, ap, ◌∙◌, subst, true≢false, arith}
 use Rattle.std.specs.Prelude.{◌==◌, ◌≢◌, ◌↔◌, if◌then◌else◌, unwrap_or, is_some}
 use Rattle.nz_lists.proofs.Numbers.{equal-number, other-number, same-number}
-use Rattle.nz_spec.specs.Infinitesimal.{Infinitesimal, ◌=δ◌}
-use Rattle.nz_spec.specs.Basis.{Coefficients, IsSolution}
-use Rattle.nz_spec.specs.Bland.{Point, is_nonbasic, NonbasicFormsFit, zero_infinitesimal, value_in, Position, HasBasis, Side, lower_side, upper_side, other_side, bound_on, IsOutside, exchanged_point, IsCheckStep}
-use Rattle.nz_spec.specs.PositionMoves.{AreConsistent}
+use Rattle.nz_spec.specs.numbers.Infinitesimal.{Infinitesimal, ◌=δ◌}
+use Rattle.nz_spec.specs.simplex.Basis.{Coefficients, IsSolution}
+use Rattle.nz_spec.specs.simplex.Bland.{Point, is_nonbasic, NonbasicFormsFit, zero_infinitesimal, value_in, Position, HasBasis, Side, lower_side, upper_side, other_side, bound_on, IsOutside, exchanged_point, IsCheckStep}
+use Rattle.nz_spec.specs.simplex.PositionMoves.{AreConsistent}
 use Rattle.nz_spec.proofs.InfinitesimalOrder.{=δ_refl}
 use Rattle.nz_spec.proofs.BlandSteps.{step-solutions, check_steps_keep_basis}
 use Rattle.nz_spec.proofs.BlandRefutes.{sides, outside-at}

@@ -2,9 +2,9 @@
 use Rattle.std.proofs.Common.{◌≡◌, ℕ, ◌<◌, ◌≤◌, Bool, true, false, ◌⊎◌, inl, inr, [], ◌∷◌, length, pos, refl, arith}
 use Rattle.nz_ints.proofs.Ring.{Atom, ◌⊕◌, ◌⊗◌}
 use Rattle.nz_fractions.specs.Fraction.{Fraction, whole, ◌=ℚ◌, ◌+ℚ◌, ◌*ℚ◌}
-use Rattle.nz_spec.specs.Infinitesimal.{Infinitesimal, ◌=δ◌, at}
-use Rattle.nz_spec.specs.Basis.{Coefficients, weighted, IsRow, alone, IsSolution}
-use Rattle.nz_spec.specs.Bland.{is_nonbasic, value_in, sum_at, Position, HasBasis, HasValue, Side, NonbasicFormsFit, Breaks, MeetsBounds, PositionsHaveValues}
+use Rattle.nz_spec.specs.numbers.Infinitesimal.{Infinitesimal, ◌=δ◌, at}
+use Rattle.nz_spec.specs.simplex.Basis.{Coefficients, weighted, IsRow, alone, IsSolution}
+use Rattle.nz_spec.specs.simplex.Bland.{is_nonbasic, value_in, sum_at, Position, HasBasis, HasValue, Side, NonbasicFormsFit, Breaks, MeetsBounds, PositionsHaveValues}
 use Rattle.nz_fractions.proofs.Laws.{=ℚ_refl, =ℚ_sym}
 use Rattle.nz_fractions.proofs.Arithmetic.{+ℚ-same}
 use Rattle.nz_fractions.proofs.Identities.{zero_times}

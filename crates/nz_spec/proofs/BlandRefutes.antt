@@ -3,10 +3,10 @@ use Rattle.std.proofs.Common.{◌≡◌, ℕ, zero, suc, ◌<◌, Bool, true, fa
 use Rattle.std.specs.Prelude.{if◌then◌else◌, unwrap_or}
 use Rattle.std.specs.Ordering.{MatchOrdering}
 use Rattle.nz_fractions.specs.Fraction.{Fraction, whole, ◌=ℚ◌, ◌<ℚ◌, ◌*ℚ◌, fraction_cmp, fraction_lt}
-use Rattle.nz_spec.specs.Infinitesimal.{Infinitesimal, ◌=δ◌}
-use Rattle.nz_spec.specs.Form.{parts_value}
-use Rattle.nz_spec.specs.Basis.{form_at, Coefficients, IsCoefficient}
-use Rattle.nz_spec.specs.Bland.{is_nonbasic, zero_infinitesimal, value_in, sum_at, Position, Side, lower_side, upper_side, other_side, bound_on, IsOutside, IsInside, Breaks, HasRoom, CanHelp, MeetsBounds, IsRefutation, NoHelpRefutes}
+use Rattle.nz_spec.specs.numbers.Infinitesimal.{Infinitesimal, ◌=δ◌}
+use Rattle.nz_spec.specs.terms.Form.{parts_value}
+use Rattle.nz_spec.specs.simplex.Basis.{form_at, Coefficients, IsCoefficient}
+use Rattle.nz_spec.specs.simplex.Bland.{is_nonbasic, zero_infinitesimal, value_in, sum_at, Position, Side, lower_side, upper_side, other_side, bound_on, IsOutside, IsInside, Breaks, HasRoom, CanHelp, MeetsBounds, IsRefutation, NoHelpRefutes}
 use Rattle.nz_fractions.proofs.Laws.{=ℚ_refl, =ℚ_sym, ≤ℚ-from_eq, ≤ℚ-from_lt, <ℚ_irrefl}
 use Rattle.nz_fractions.proofs.Order.{fraction_ranked, lt_is, lt_is_not}
 use Rattle.nz_fractions.proofs.Identities.{zero_times, times_zero}

@@ -4,10 +4,10 @@ use Rattle.std.proofs.Common.{◌≡◌, ℕ, zero, suc, ◌<◌, ◌≤◌, Boo
 use Rattle.std.specs.Prelude.{◌≢◌, ◌&&◌, if◌then◌else◌, unwrap_or, is_some, option_map}
 use Rattle.std.proofs.lemmas.Bool.{and_parts, and_from}
 use Rattle.nz_fractions.specs.Fraction.{fraction_eq}
-use Rattle.nz_spec.specs.Infinitesimal.{Infinitesimal, ◌=δ◌}
-use Rattle.nz_spec.specs.Bland.{Point, is_nonbasic, NonbasicFormsFit, zero_infinitesimal, value_in, Position, HasBasis, Side, lower_side, upper_side, bound_on, Stand, at_lower, at_upper, at_neither, is_at, posture_of, exchanged_point, IsCheckStep}
-use Rattle.nz_spec.specs.BlandRuns.{IsRun, NoPostureReturns}
-use Rattle.nz_spec.specs.PositionMoves.{AreConsistent}
+use Rattle.nz_spec.specs.numbers.Infinitesimal.{Infinitesimal, ◌=δ◌}
+use Rattle.nz_spec.specs.simplex.Bland.{Point, is_nonbasic, NonbasicFormsFit, zero_infinitesimal, value_in, Position, HasBasis, Side, lower_side, upper_side, bound_on, Stand, at_lower, at_upper, at_neither, is_at, posture_of, exchanged_point, IsCheckStep}
+use Rattle.nz_spec.specs.laws.BlandRuns.{IsRun, NoPostureReturns}
+use Rattle.nz_spec.specs.simplex.PositionMoves.{AreConsistent}
 use Rattle.nz_fractions.proofs.Laws.{=ℚ_refl}
 use Rattle.nz_fractions.proofs.Order.{same-fraction_eq, fraction_eq-same}
 use Rattle.nz_spec.proofs.InfinitesimalOrder.{=δ_sym, =δ_trans}

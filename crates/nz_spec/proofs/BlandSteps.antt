@@ -4,11 +4,11 @@ use Rattle.std.specs.Prelude.{◌==◌, if◌then◌else◌, ◌≢◌, ◌↔�
 use Rattle.nz_ints.proofs.Ring.{Atom, Literal, ◌⊕◌, ◌⊗◌, Minus}
 use Rattle.nz_lists.proofs.Numbers.{equal-number, other-number, same-number}
 use Rattle.nz_fractions.specs.Fraction.{Fraction, whole, ◌=ℚ◌, ◌<ℚ◌, ◌+ℚ◌, ◌-ℚ◌, neg_ℚ, ◌*ℚ◌}
-use Rattle.nz_spec.specs.Infinitesimal.{Infinitesimal, ◌+δ◌, ◌-δ◌, scaled}
-use Rattle.nz_spec.specs.Term.{is_zero}
-use Rattle.nz_spec.specs.Basis.{Coefficients, weighted, IsRow, IsBasis, IsCoefficient, alone, IsSolution}
-use Rattle.nz_spec.specs.BasisMoves.{AreRows, exchange, exchanged, MayExchange}
-use Rattle.nz_spec.specs.Bland.{Point, is_nonbasic, zero_infinitesimal, value_in, Position, HasBasis, HasValue, Side, other_side, HasRoom, CanHelp, exchanged_point, IsCheckStep, CheckStepsKeepBasis}
+use Rattle.nz_spec.specs.numbers.Infinitesimal.{Infinitesimal, ◌+δ◌, ◌-δ◌, scaled}
+use Rattle.nz_spec.specs.terms.Term.{is_zero}
+use Rattle.nz_spec.specs.simplex.Basis.{Coefficients, weighted, IsRow, IsBasis, IsCoefficient, alone, IsSolution}
+use Rattle.nz_spec.specs.simplex.BasisMoves.{AreRows, exchange, exchanged, MayExchange}
+use Rattle.nz_spec.specs.simplex.Bland.{Point, is_nonbasic, zero_infinitesimal, value_in, Position, HasBasis, HasValue, Side, other_side, HasRoom, CanHelp, exchanged_point, IsCheckStep, CheckStepsKeepBasis}
 use Rattle.nz_fractions.proofs.Laws.{=ℚ_refl, =ℚ-from_same, =ℚ_sym, ≤ℚ-from_eq, <ℚ_irrefl}
 use Rattle.nz_fractions.proofs.Order.{same-fraction_eq}
 use Rattle.nz_fractions.proofs.Arithmetic.{+ℚ-same}

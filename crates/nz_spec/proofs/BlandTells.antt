@@ -1,9 +1,9 @@
 -- What rows tell of a position: which forms break a bound, and which can help.
 use Rattle.std.proofs.Common.{◌≡◌, ℕ, ◌<◌, false, true, ◌⊎◌, inl, inr, length, Some, pos}
 use Rattle.nz_fractions.specs.Fraction.{whole, ◌=ℚ◌, ◌<ℚ◌}
-use Rattle.nz_spec.specs.Infinitesimal.{Infinitesimal}
-use Rattle.nz_spec.specs.BasisMoves.{Rows, AreRows}
-use Rattle.nz_spec.specs.Bland.{is_nonbasic, row_value, Position, HasBasis, HasValue, Side, other_side, bound_on, IsOutside, Breaks, HasRoom, CanHelp, RowsTell}
+use Rattle.nz_spec.specs.numbers.Infinitesimal.{Infinitesimal}
+use Rattle.nz_spec.specs.simplex.BasisMoves.{Rows, AreRows}
+use Rattle.nz_spec.specs.simplex.Bland.{is_nonbasic, row_value, Position, HasBasis, HasValue, Side, other_side, bound_on, IsOutside, Breaks, HasRoom, CanHelp, RowsTell}
 use Rattle.nz_fractions.proofs.Laws.{=ℚ_refl, =ℚ_sym, ≤ℚ-from_eq, <ℚ-≤ℚ_trans, ≤ℚ-<ℚ_trans}
 use Rattle.nz_fractions.proofs.Solver.{◌∙ℚ◌}
 use Rattle.nz_spec.proofs.BlandValues.{value_is_computed}

@@ -3,10 +3,10 @@ use Rattle.std.proofs.Common.{◌≡◌, ℕ, zero, suc, ◌<◌, Bool, true, fa
 use Rattle.std.specs.Prelude.{if◌then◌else◌}
 use Rattle.nz_ints.proofs.Ring.{Atom, Literal, ◌⊕◌, ◌⊗◌, Minus}
 use Rattle.nz_fractions.specs.Fraction.{Fraction, whole, ◌=ℚ◌, ◌+ℚ◌, ◌-ℚ◌, neg_ℚ, ◌*ℚ◌, Sum, Product, outcome}
-use Rattle.nz_spec.specs.Infinitesimal.{Infinitesimal, ◌+δ◌, ◌-δ◌, scaled}
-use Rattle.nz_spec.specs.Basis.{sum_of, Coefficients, weighted}
-use Rattle.nz_spec.specs.BasisMoves.{numbers}
-use Rattle.nz_spec.specs.Bland.{is_nonbasic, zero_infinitesimal, value_in, value_onto, ValueIsComputed, SumMoves}
+use Rattle.nz_spec.specs.numbers.Infinitesimal.{Infinitesimal, ◌+δ◌, ◌-δ◌, scaled}
+use Rattle.nz_spec.specs.simplex.Basis.{sum_of, Coefficients, weighted}
+use Rattle.nz_spec.specs.simplex.BasisMoves.{numbers}
+use Rattle.nz_spec.specs.simplex.Bland.{is_nonbasic, zero_infinitesimal, value_in, value_onto, ValueIsComputed, SumMoves}
 use Rattle.nz_fractions.proofs.Laws.{=ℚ_refl, =ℚ_sym}
 use Rattle.nz_fractions.proofs.Arithmetic.{+ℚ-zero, outcome-sum, outcome-product}
 use Rattle.nz_fractions.proofs.Identities.{zero_left, zero_times}

@@ -2,10 +2,10 @@
 use Rattle.std.proofs.Common.{◌≡◌, ℕ, ◌<◌, List, ◌∷◌, length, Some, pos, refl, sym, subst}
 use Rattle.std.proofs.lemmas.List.Elements.{All-weaker, All-contains}
 use Rattle.nz_fractions.specs.Fraction.{Fraction, whole, ◌≤ℚ◌, ◌<ℚ◌}
-use Rattle.nz_spec.specs.Infinitesimal.{Infinitesimal, ◌≤δ◌, at, Pair, limits, IsLeastLimit, chosen_delta, AreOrdered, AreOrderedAt}
-use Rattle.nz_spec.specs.Bland.{Position, HasBasis, HasValue, Side, lower_side, upper_side, bound_on, IsOutside, NonbasicFormsFit, MeetsBounds}
-use Rattle.nz_spec.specs.Places.{IsWithinBounds, in_order, IsPairOf, IsChosen}
-use Rattle.nz_spec.specs.ToldBounds.{IsWithinAt, AreWithinAt, AreNumbers, ChosenFractionsKeepBounds}
+use Rattle.nz_spec.specs.numbers.Infinitesimal.{Infinitesimal, ◌≤δ◌, at, Pair, limits, IsLeastLimit, chosen_delta, AreOrdered, AreOrderedAt}
+use Rattle.nz_spec.specs.simplex.Bland.{Position, HasBasis, HasValue, Side, lower_side, upper_side, bound_on, IsOutside, NonbasicFormsFit, MeetsBounds}
+use Rattle.nz_spec.specs.search.Places.{IsWithinBounds, in_order, IsPairOf, IsChosen}
+use Rattle.nz_spec.specs.laws.ToldBounds.{IsWithinAt, AreWithinAt, AreNumbers, ChosenFractionsKeepBounds}
 use Rattle.nz_fractions.proofs.Laws.{<ℚ-≤ℚ_trans}
 use Rattle.nz_spec.proofs.InfinitesimalLaws.{chosen-above, chosen-keeps, chosen-least}
 use Rattle.nz_spec.proofs.InfinitesimalOrder.{at_most_parts, not_less}

@@ -5,10 +5,10 @@ use Rattle.nz_lists.proofs.Numbers.{equal-number, same-number}
 use Rattle.nz_fractions.specs.Fraction.{Fraction, whole, ◌=ℚ◌, ◌<ℚ◌}
 use Rattle.nz_fractions.proofs.Laws.{=ℚ_sym, ≤ℚ-from_eq, <ℚ_irrefl}
 use Rattle.nz_fractions.proofs.Solver.{◌∙ℚ◌}
-use Rattle.nz_spec.specs.Infinitesimal.{Infinitesimal}
-use Rattle.nz_spec.specs.Basis.{IsBasis, alone}
-use Rattle.nz_spec.specs.BasisMoves.{exchanged, MayExchange}
-use Rattle.nz_spec.specs.Bland.{Point, is_nonbasic, Position, HasBasis, HasValue, Side, IsLed, Blocks, exchanged_point, IsClimbStep, ClimbStepsKeepBasis}
+use Rattle.nz_spec.specs.numbers.Infinitesimal.{Infinitesimal}
+use Rattle.nz_spec.specs.simplex.Basis.{IsBasis, alone}
+use Rattle.nz_spec.specs.simplex.BasisMoves.{exchanged, MayExchange}
+use Rattle.nz_spec.specs.simplex.Bland.{Point, is_nonbasic, Position, HasBasis, HasValue, Side, IsLed, Blocks, exchanged_point, IsClimbStep, ClimbStepsKeepBasis}
 use Rattle.nz_spec.proofs.BasisRows.{alone-there, nonbasic_form_is_itself}
 use Rattle.nz_spec.proofs.BasisExchange.{exchange_keeps_basis}
 use Rattle.nz_spec.proofs.BlandSteps.{signed-nonzero, nonbasic-exchanged, standing_at, stands-at}

@@ -5,16 +5,16 @@ use Rattle.nz_lists.proofs.Elements.{AllByRecursion-weaker}
 use Rattle.nz_ints.proofs.Products.{mul-le-mul_pos}
 use Rattle.nz_ints.proofs.Ring.{Atom, Literal, ◌⊕◌, ◌⊗◌, Minus}
 use Rattle.nz_fractions.specs.Fraction.{Fraction, denominator, whole, ◌=ℚ◌, ◌≤ℚ◌, ◌<ℚ◌, fraction_le, fraction_lt, ◌+ℚ◌, neg_ℚ, ◌*ℚ◌, ◌/ℚ◌, floor}
-use Rattle.nz_spec.specs.Term.{Term, Assignment}
-use Rattle.nz_spec.specs.Form.{Part, unit_value}
-use Rattle.nz_spec.specs.Basis.{worth}
-use Rattle.nz_spec.specs.Literal as literals
-use Rattle.nz_spec.specs.Literal.{term_literal, is_at_most, is_below, is_literal_true}
-use Rattle.nz_spec.specs.Climb.{Line, Range, IsInRange, is_met, kept_literals, IsBetter, IsAsGood, goal_at, point_at, VerticesBoundGoal, RaysPassAll}
+use Rattle.nz_spec.specs.terms.Term.{Term, Assignment}
+use Rattle.nz_spec.specs.terms.Form.{Part, unit_value}
+use Rattle.nz_spec.specs.simplex.Basis.{worth}
+use Rattle.nz_spec.specs.clauses.Literal as literals
+use Rattle.nz_spec.specs.clauses.Literal.{term_literal, is_at_most, is_below, is_literal_true}
+use Rattle.nz_spec.specs.simplex.Climb.{Line, Range, IsInRange, is_met, kept_literals, IsBetter, IsAsGood, goal_at, point_at, VerticesBoundGoal, RaysPassAll}
 use Rattle.nz_fractions.proofs.Laws.{=ℚ_sym, ≤ℚ-from_eq, ≤ℚ_refl, <ℚ-≤ℚ_trans, ≤ℚ-<ℚ_trans}
 use Rattle.nz_fractions.proofs.Arithmetic.{*ℚ_comm}
 use Rattle.nz_spec.proofs.FormValues.{value_is_worth}
-use Rattle.nz_fractions.proofs.Rounding.{rounds}
+use Rattle.nz_fractions.proofs.FloorsAndCeilings.{rounds}
 use Rattle.nz_fractions.proofs.Bounds.{within_sum, times_lt}
 use Rattle.nz_fractions.proofs.Solver.{◌∙ℚ◌, solve, plus_left, plus_right}
 use Rattle.nz_fractions.proofs.Quotients.{quotient-back}

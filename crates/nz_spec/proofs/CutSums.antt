@@ -6,14 +6,14 @@ use Rattle.std.proofs.lemmas.List.Folds.{list_any-append}
 use Rattle.nz_fractions.specs.Fraction.{whole, ◌≤ℚ◌, floor}
 use Rattle.nz_fractions.proofs.Bounds.{Within}
 use Rattle.nz_fractions.proofs.Order.{le_is}
-use Rattle.nz_spec.specs.Computation.{at_once, turned_into, and_then}
-use Rattle.nz_spec.specs.Term.{Term, sort_of, Assignment}
-use Rattle.nz_spec.specs.Model.{IsAssignment, HasSort}
-use Rattle.nz_spec.specs.Form.{Numbering, parts_value}
-use Rattle.nz_spec.specs.Literal.{is_at_most, is_literal_true, Clause, clause_of, IsClauseTrue}
-use Rattle.nz_spec.specs.LinearLiteral.{are_integral, greatest_below, parts_of, HaveSortedUnits}
-use Rattle.nz_spec.specs.Farkas.{Multiple, Bound, empty_bound, is_multiple, sum_of_multiples, negations_of}
-use Rattle.nz_spec.specs.Cuts.{rounded_limit, CutClausesAreTrue}
+use Rattle.nz_spec.specs.numbers.Computation.{at_once, turned_into, and_then}
+use Rattle.nz_spec.specs.terms.Term.{Term, sort_of, Assignment}
+use Rattle.nz_spec.specs.terms.Model.{IsAssignment, HasSort}
+use Rattle.nz_spec.specs.terms.Form.{Numbering, parts_value}
+use Rattle.nz_spec.specs.clauses.Literal.{is_at_most, is_literal_true, Clause, clause_of, IsClauseTrue}
+use Rattle.nz_spec.specs.clauses.LinearLiteral.{are_integral, greatest_below, parts_of, HaveSortedUnits}
+use Rattle.nz_spec.specs.clauses.Farkas.{Multiple, Bound, empty_bound, is_multiple, sum_of_multiples, negations_of}
+use Rattle.nz_spec.specs.clauses.Cuts.{rounded_limit, CutClausesAreTrue}
 use Rattle.nz_spec.proofs.FarkasSums.{Meets, one_or_meets, found}
 use Rattle.nz_spec.proofs.SumUnits.{onto-over}
 use Rattle.nz_spec.proofs.IntegerSums.{integer_of_sum, floored, put_below}

@@ -7,28 +7,28 @@ use Rattle.std.proofs.lemmas.Option.{same_Some}
 use Rattle.std.proofs.lemmas.List.Elements.{Contains-append_left, Contains-append_right, Contains-push}
 use Rattle.nz_lists.proofs.Elements.{AllByRecursion-weaker}
 use Rattle.nz_fractions.specs.Fraction.{Fraction, whole, ◌=ℚ◌, ◌≤ℚ◌, ◌<ℚ◌, neg_ℚ, fraction_cmp, fraction_eq, Difference}
-use Rattle.nz_spec.specs.Computation.{Computation, in_turn}
-use Rattle.nz_spec.specs.Term.{NumberSort, over_int, over_real, sort_over, bool_sort, real_sort, is_bool, Constant, Head, constant, integer, decimal_number, verum, falsum, negation, conjunction, disjunction, exclusion, equality, choice, less, at_most, sum, difference, product, quotient, to_real, Term, apply, Terms, no_terms, terms, Value, truth, Assignment, is_true, number_of, are_equal, decimal_value, value_of, values_of, sort_of, IsOfSort}
-use Rattle.nz_spec.specs.Linear.{constant_values, is_linear_node, is_linear, are_linear}
-use Rattle.nz_spec.specs.Model.{IsAssignment}
-use Rattle.nz_spec.specs.Order.{post_order, post_orders}
-use Rattle.nz_spec.specs.Form.{Numbering, Form, unit_value}
-use Rattle.nz_spec.specs.FormOf.{form_of, forms_of}
-use Rattle.nz_spec.specs.Literal.{Literal, Clause}
-use Rattle.nz_spec.specs.Gates.{holds, fails, is_boolean_term, gate_clauses, IsRow}
-use Rattle.nz_spec.specs.Links.{minus, at_most_literal, below_literal, link_clauses}
-use Rattle.nz_spec.specs.Units.{unit_clauses}
-use Rattle.nz_spec.specs.Basis.{Valuation, worth}
-use Rattle.nz_spec.specs.WellSorted.{AllAre, HaveOperands, IsWellSorted, AreWellSorted}
-use Rattle.nz_spec.specs.Taken.{IsTakenHead, HasTakenHeads, HaveTakenHeads}
-use Rattle.nz_spec.specs.Deciding.{IsMet, HasMetLiteral, MeetsTables, TablesDecide}
+use Rattle.nz_spec.specs.numbers.Computation.{Computation, in_turn}
+use Rattle.nz_spec.specs.terms.Term.{NumberSort, over_int, over_real, sort_over, bool_sort, real_sort, is_bool, Constant, Head, constant, integer, decimal_number, verum, falsum, negation, conjunction, disjunction, exclusion, equality, choice, less, at_most, sum, difference, product, quotient, to_real, Term, apply, Terms, no_terms, terms, Value, truth, Assignment, is_true, number_of, are_equal, decimal_value, value_of, values_of, sort_of, IsOfSort}
+use Rattle.nz_spec.specs.terms.Linear.{constant_values, is_linear_node, is_linear, are_linear}
+use Rattle.nz_spec.specs.terms.Model.{IsAssignment}
+use Rattle.nz_spec.specs.terms.Order.{post_order, post_orders}
+use Rattle.nz_spec.specs.terms.Form.{Numbering, Form, unit_value}
+use Rattle.nz_spec.specs.terms.FormOf.{form_of, forms_of}
+use Rattle.nz_spec.specs.clauses.Literal.{Literal, Clause}
+use Rattle.nz_spec.specs.clauses.Gates.{holds, fails, is_boolean_term, gate_clauses, IsRow}
+use Rattle.nz_spec.specs.clauses.Links.{minus, at_most_literal, below_literal, link_clauses}
+use Rattle.nz_spec.specs.clauses.Units.{unit_clauses}
+use Rattle.nz_spec.specs.simplex.Basis.{Valuation, worth}
+use Rattle.nz_spec.specs.terms.WellSorted.{AllAre, HaveOperands, IsWellSorted, AreWellSorted}
+use Rattle.nz_spec.specs.terms.Taken.{IsTakenHead, HasTakenHeads, HaveTakenHeads}
+use Rattle.nz_spec.specs.laws.Deciding.{IsMet, HasMetLiteral, MeetsTables, TablesDecide}
 use Rattle.nz_fractions.proofs.Laws.{=ℚ_refl, =ℚ_sym, =ℚ_trans, =ℚ-from_same, ≤ℚ-from_eq, ≤ℚ_antisymm, <ℚ_irrefl}
 use Rattle.nz_fractions.proofs.Order.{same-fraction_eq, fraction_eq-same, lt_is, lt_is_not, le_is, le_is_not}
 use Rattle.nz_fractions.proofs.Arithmetic.{+ℚ-same, neg_ℚ-same}
 use Rattle.nz_fractions.proofs.Bounds.{lt-carried, le-carried}
 use Rattle.nz_spec.proofs.FormTerms.{Own, term-worth}
 use Rattle.nz_spec.proofs.FormValues.{by_difference, form_worth, form_joined-worth, Match, constant-worth, unit-worth}
-use Rattle.nz_spec.proofs.GateSettling.{SaysOne, says_one, others, alone, IsSettled, AreSettled, node_settled}
+use Rattle.nz_spec.proofs.GateDecisions.{SaysOne, says_one, others, alone, IsSettled, AreSettled, node_settled}
 use Rattle.nz_spec.proofs.LinkTruths.{moved_over, and-true, equal_numbers}
 use Rattle.nz_spec.proofs.OperandSorts.{operands_are}
 use Rattle.nz_spec.proofs.Sorted.{value_is}

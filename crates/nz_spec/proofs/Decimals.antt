@@ -5,10 +5,10 @@ use Rattle.std.proofs.lemmas.Bool.Decides.{nat_tests}
 use Rattle.std.proofs.lemmas.Bool.{and_parts}
 use Rattle.nz_ints.proofs.Divisors.{gcd-one}
 use Rattle.nz_ints.proofs.Products.{mul-one, one-mul}
-use Rattle.nz_ints.proofs.Rounding.{unsigned_abs-int_div}
+use Rattle.nz_ints.proofs.FloorDivision.{unsigned_abs-int_div}
 use Rattle.nz_fractions.specs.Fraction.{Fraction, denominator, over, whole, ◌/ℚ◌, flipped, reciprocal, gcd, reduce, ratio, largest, exceeds, IsNumber}
-use Rattle.nz_spec.specs.Term.{DecimalsAreNumbers}
-use Rattle.nz_spec.specs.Numerals.{NumeralsAreWhole}
+use Rattle.nz_spec.specs.terms.Term.{DecimalsAreNumbers}
+use Rattle.nz_spec.specs.laws.Numerals.{NumeralsAreWhole}
 use Rattle.nz_fractions.proofs.Arithmetic.{Parts, product_parts, whole_parts, by_parts}
 use Rattle.nz_fractions.proofs.Laws.{numerator-reduce, denominator-reduce, reduce-lowest, reduce-is}
 

@@ -2,15 +2,15 @@
 use Rattle.std.proofs.Common.{◌≡◌, ℕ, zero, suc, false, List, [], ◌∷◌, ◌++◌, Option, Some, None, refl, sym, ap, subst, ◌∙◌, true≢false}
 use Rattle.std.specs.Prelude.{slice_get, option_map}
 use Rattle.std.specs.List.{AllByRecursion}
-use Rattle.nz_spec.specs.Computation.{Computation, at_once, turned_into}
-use Rattle.nz_spec.specs.Term.{Term, Assignment, is_true, value_of, IsTrueUnder}
-use Rattle.nz_spec.specs.Form.{Numbering}
-use Rattle.nz_spec.specs.Model.{IsAssignment}
-use Rattle.nz_spec.specs.Literal.{Clause, clause_of, resolvent, IsClauseTrue}
-use Rattle.nz_spec.specs.Gates.{holds, gate_clauses}
-use Rattle.nz_spec.specs.Links.{link_clauses}
-use Rattle.nz_spec.specs.Units.{unit_clauses}
-use Rattle.nz_spec.specs.Steps.{Step, given_step, gate_step, link_step, unit_step, farkas_step, branch_step, cut_step, resolve_step, step_clause, clauses_behind, IsSortedStep, DerivedClausesAreTrue, EmptyClauseRefutes, DerivationsGrow}
+use Rattle.nz_spec.specs.numbers.Computation.{Computation, at_once, turned_into}
+use Rattle.nz_spec.specs.terms.Term.{Term, Assignment, is_true, value_of, IsTrueUnder}
+use Rattle.nz_spec.specs.terms.Form.{Numbering}
+use Rattle.nz_spec.specs.terms.Model.{IsAssignment}
+use Rattle.nz_spec.specs.clauses.Literal.{Clause, clause_of, resolvent, IsClauseTrue}
+use Rattle.nz_spec.specs.clauses.Gates.{holds, gate_clauses}
+use Rattle.nz_spec.specs.clauses.Links.{link_clauses}
+use Rattle.nz_spec.specs.clauses.Units.{unit_clauses}
+use Rattle.nz_spec.specs.clauses.Steps.{Step, given_step, gate_step, link_step, unit_step, farkas_step, branch_step, cut_step, resolve_step, step_clause, clauses_behind, IsSortedStep, DerivedClausesAreTrue, EmptyClauseRefutes, DerivationsGrow}
 use Rattle.nz_spec.proofs.Literals.{or_first, together, resolvent_is_true}
 use Rattle.nz_spec.proofs.GateTruths.{all-append, gates_are_true}
 use Rattle.nz_spec.proofs.CutSums.{cuts_are_true}

@@ -4,8 +4,8 @@ use Rattle.std.proofs.Math.IntN.{*ℤ_comm}
 use Rattle.std.proofs.lemmas.Int.{ints}
 use Rattle.nz_ints.specs.Division.{floor_div}
 use Rattle.nz_ints.proofs.Products.{one-mul, add-mul, neg-mul, lt_of_mul-lt-mul_pos}
-use Rattle.nz_ints.proofs.Rounding.{floor_div-at_most, floor_div-greatest}
-use Rattle.nz_spec.specs.Term.{div_of, mod_of, Divides, DividesOnce}
+use Rattle.nz_ints.proofs.FloorDivision.{floor_div-at_most, floor_div-greatest}
+use Rattle.nz_spec.specs.terms.Term.{div_of, mod_of, Divides, DividesOnce}
 
 -- the floor's multiple is at most m, and the next multiple above it
 record Floors (m : ℤ) (k : ℕ) (f : ℤ) : Type 0 where

@@ -4,12 +4,12 @@ use Rattle.std.specs.Prelude.{if◌then◌else◌}
 use Rattle.std.specs.List.{list_all, list_any, AllByRecursion}
 use Rattle.std.proofs.lemmas.Bool.{and_parts}
 use Rattle.nz_fractions.specs.Fraction.{Fraction, whole, ◌<ℚ◌, fraction_lt, Sum, Product}
-use Rattle.nz_spec.specs.Term.{Assignment, is_zero}
-use Rattle.nz_spec.specs.Computation.{operated, at_once, turned_into}
-use Rattle.nz_spec.specs.Form.{Numbering, Part, parts_value}
-use Rattle.nz_spec.specs.Literal.{Literal, term_literal, is_at_most, is_below, is_literal_true, negation_of, Clause, clause_of, IsClauseTrue}
-use Rattle.nz_spec.specs.LinearLiteral.{is_without_units}
-use Rattle.nz_spec.specs.Farkas.{Multiple, Bound, empty_bound, bound_of, is_linear_literal, is_multiple, bound_scaled, bounds_joined, multiples_onto, sum_of_multiples, is_contradiction, negations_of, FarkasClausesAreTrue}
+use Rattle.nz_spec.specs.terms.Term.{Assignment, is_zero}
+use Rattle.nz_spec.specs.numbers.Computation.{operated, at_once, turned_into}
+use Rattle.nz_spec.specs.terms.Form.{Numbering, Part, parts_value}
+use Rattle.nz_spec.specs.clauses.Literal.{Literal, term_literal, is_at_most, is_below, is_literal_true, negation_of, Clause, clause_of, IsClauseTrue}
+use Rattle.nz_spec.specs.clauses.LinearLiteral.{is_without_units}
+use Rattle.nz_spec.specs.clauses.Farkas.{Multiple, Bound, empty_bound, bound_of, is_linear_literal, is_multiple, bound_scaled, bounds_joined, multiples_onto, sum_of_multiples, is_contradiction, negations_of, FarkasClausesAreTrue}
 use Rattle.nz_fractions.proofs.Laws.{≤ℚ-from_eq, ≤ℚ-from_lt, ≤ℚ_refl, <ℚ_irrefl}
 use Rattle.nz_fractions.proofs.Order.{same-fraction_eq, le_from, lt_from}
 use Rattle.nz_fractions.proofs.Arithmetic.{outcome-sum, outcome-product}

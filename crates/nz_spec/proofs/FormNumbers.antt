@@ -1,10 +1,10 @@
 -- The number of a term in a table is the one by which it is found there.
 use Rattle.std.proofs.Common.{◌≡◌, ℕ, zero, suc, ◌+◌, ◌<◌, Bool, true, false, List, [], ◌∷◌, length, fold, refl, sym, subst, ◌∙◌, true≢false, arith, length-append}
 use Rattle.std.specs.Prelude.{if◌then◌else◌}
-use Rattle.nz_spec.specs.Term.{Term, apply}
-use Rattle.nz_spec.specs.Same.{are_same_term}
-use Rattle.nz_spec.specs.Table.{Node, terms_at, listed_term, with_term, term_in}
-use Rattle.nz_spec.specs.FormOf.{place_of, number_in, TermHasItsNumber}
+use Rattle.nz_spec.specs.terms.Term.{Term, apply}
+use Rattle.nz_spec.specs.terms.Same.{are_same_term}
+use Rattle.nz_spec.specs.terms.Table.{Node, terms_at, listed_term, with_term, term_in}
+use Rattle.nz_spec.specs.terms.FormOf.{place_of, number_in, TermHasItsNumber}
 use Rattle.nz_spec.proofs.Same.{same_term, one_term}
 use Rattle.nz_spec.proofs.Tables.{one_number}
 

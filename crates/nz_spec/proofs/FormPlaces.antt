@@ -4,10 +4,10 @@ use Rattle.std.specs.Prelude.{if◌then◌else◌, nat_lt}
 use Rattle.std.specs.List.{AllByRecursion}
 use Rattle.std.proofs.lemmas.Bool.Decides.{nat_tests}
 use Rattle.nz_fractions.specs.Fraction.{Arithmetic}
-use Rattle.nz_spec.specs.Computation.{Computation, operated, at_once, turned_into}
-use Rattle.nz_spec.specs.Same.{are_same_term}
-use Rattle.nz_spec.specs.Form.{Numbering, Part, MayPrecede, with_part, part_alone, part_joined}
-use Rattle.nz_spec.specs.FormPlace.{JoinsAtItsPlace}
+use Rattle.nz_spec.specs.numbers.Computation.{Computation, operated, at_once, turned_into}
+use Rattle.nz_spec.specs.terms.Same.{are_same_term}
+use Rattle.nz_spec.specs.terms.Form.{Numbering, Part, MayPrecede, with_part, part_alone, part_joined}
+use Rattle.nz_spec.specs.laws.FormPlace.{JoinsAtItsPlace}
 
 not_above : (m n : ℕ) → n ≤ m → nat_lt m n ≡ false
 not_above m n h = grind (arith, nat_tests)

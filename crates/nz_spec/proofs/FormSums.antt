@@ -4,12 +4,12 @@ use Rattle.std.specs.Prelude.{if◌then◌else◌, nat_lt}
 use Rattle.std.specs.List.{AllByRecursion}
 use Rattle.std.proofs.lemmas.Bool.Decides.{nat_tests}
 use Rattle.nz_fractions.specs.Fraction.{Fraction, denominator, whole, fraction_eq, Arithmetic, Sum, Difference, Product, Quotient, outcome}
-use Rattle.nz_spec.specs.Term.{Head, sum, difference, product, quotient, to_real, Term, apply, Terms, no_terms, terms, is_zero}
-use Rattle.nz_spec.specs.Linear.{head_constant, constant_values}
-use Rattle.nz_spec.specs.Same.{are_same_term}
-use Rattle.nz_spec.specs.Computation.{Computation, operated, at_once, turned_into, and_then}
-use Rattle.nz_spec.specs.Form.{Numbering, Part, Form, constant_form, unit_form, with_part, MayPrecede, AreRising, IsSum, negated_part, negated_form, part_alone, part_joined, parts_joined, joined, all_joined, parts_scaled, scaled}
-use Rattle.nz_spec.specs.FormOf.{is_opened, constants_product, open_form, divided_by, divided_by_each, head_form, form_of, forms_of, FormsAreSums}
+use Rattle.nz_spec.specs.terms.Term.{Head, sum, difference, product, quotient, to_real, Term, apply, Terms, no_terms, terms, is_zero}
+use Rattle.nz_spec.specs.terms.Linear.{head_constant, constant_values}
+use Rattle.nz_spec.specs.terms.Same.{are_same_term}
+use Rattle.nz_spec.specs.numbers.Computation.{Computation, operated, at_once, turned_into, and_then}
+use Rattle.nz_spec.specs.terms.Form.{Numbering, Part, Form, constant_form, unit_form, with_part, MayPrecede, AreRising, IsSum, negated_part, negated_form, part_alone, part_joined, parts_joined, joined, all_joined, parts_scaled, scaled}
+use Rattle.nz_spec.specs.terms.FormOf.{is_opened, constants_product, open_form, divided_by, divided_by_each, head_form, form_of, forms_of, FormsAreSums}
 use Rattle.nz_fractions.proofs.Identities.{neg-nonzero}
 use Rattle.nz_spec.proofs.Same.{same_term}
 

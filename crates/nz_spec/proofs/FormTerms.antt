@@ -4,12 +4,12 @@ use Rattle.std.specs.Prelude.{if◌then◌else◌, nat_lt, ⊤}
 use Rattle.std.proofs.lemmas.Bool.{and_parts}
 use Rattle.std.proofs.lemmas.Bool.Decides.{nat_tests}
 use Rattle.nz_fractions.specs.Fraction.{Fraction, whole, ◌=ℚ◌, neg_ℚ, ◌*ℚ◌, ◌/ℚ◌, reciprocal, Arithmetic, Sum, Difference, Product, Quotient, exact, outcome, is_wide}
-use Rattle.nz_spec.specs.Term.{NumberSort, over_int, Head, integer, decimal_number, sum, difference, product, quotient, to_real, Term, apply, Terms, no_terms, terms, Value, number, Assignment, number_of, is_zero, is_undefined, carried_out, combined, head_value, value_of, values_of}
-use Rattle.nz_spec.specs.Linear.{folded_step, folded, head_constant, constant_value, constant_values, variable_count, are_divisors, is_linear_node, is_linear, are_linear}
-use Rattle.nz_spec.specs.Computation.{Computation, operated, at_once, and_then}
-use Rattle.nz_spec.specs.Basis.{Valuation}
-use Rattle.nz_spec.specs.Form.{Numbering, Form, constant_form, unit_form, unit_value}
-use Rattle.nz_spec.specs.FormOf.{is_opened, product_onto, constants_product, open_form, divided_by, divided_by_each, head_form, form_of, forms_of, FormHasValue}
+use Rattle.nz_spec.specs.terms.Term.{NumberSort, over_int, Head, integer, decimal_number, sum, difference, product, quotient, to_real, Term, apply, Terms, no_terms, terms, Value, number, Assignment, number_of, is_zero, is_undefined, carried_out, combined, head_value, value_of, values_of}
+use Rattle.nz_spec.specs.terms.Linear.{folded_step, folded, head_constant, constant_value, constant_values, variable_count, are_divisors, is_linear_node, is_linear, are_linear}
+use Rattle.nz_spec.specs.numbers.Computation.{Computation, operated, at_once, and_then}
+use Rattle.nz_spec.specs.simplex.Basis.{Valuation}
+use Rattle.nz_spec.specs.terms.Form.{Numbering, Form, constant_form, unit_form, unit_value}
+use Rattle.nz_spec.specs.terms.FormOf.{is_opened, product_onto, constants_product, open_form, divided_by, divided_by_each, head_form, form_of, forms_of, FormHasValue}
 use Rattle.nz_fractions.proofs.Laws.{=ℚ_refl, =ℚ-from_same, =ℚ_sym, =ℚ_trans, reduce-same}
 use Rattle.nz_fractions.proofs.Arithmetic.{neg_ℚ-same, *ℚ_comm, *ℚ_assoc, *ℚ-one, *ℚ-same, outcome-product}
 use Rattle.nz_fractions.proofs.Identities.{zero_left, one_times}

@@ -2,11 +2,11 @@
 use Rattle.std.proofs.Common.{◌≡◌, Bool, true, false, List, [], ◌∷◌, map, pos, refl, sym, ap, ap₂, subst}
 use Rattle.std.specs.Prelude.{if◌then◌else◌, nat_lt, ⊤}
 use Rattle.nz_fractions.specs.Fraction.{Fraction, whole, ◌=ℚ◌, ◌+ℚ◌, neg_ℚ, ◌*ℚ◌, Arithmetic, Sum, Difference, outcome}
-use Rattle.nz_spec.specs.Term.{Term, Value, Assignment, number_of, is_zero, carried_out, combined}
-use Rattle.nz_spec.specs.Same.{are_same_term}
-use Rattle.nz_spec.specs.Computation.{Computation, operated, at_once, turned_into}
-use Rattle.nz_spec.specs.Form.{Numbering, Part, Form, constant_form, unit_form, with_part, negated_part, negated_form, part_alone, part_joined, parts_joined, joined, all_joined, parts_scaled, scaled, unit_value, parts_value, form_value}
-use Rattle.nz_spec.specs.Basis.{Valuation, worth, ValueIsWorth}
+use Rattle.nz_spec.specs.terms.Term.{Term, Value, Assignment, number_of, is_zero, carried_out, combined}
+use Rattle.nz_spec.specs.terms.Same.{are_same_term}
+use Rattle.nz_spec.specs.numbers.Computation.{Computation, operated, at_once, turned_into}
+use Rattle.nz_spec.specs.terms.Form.{Numbering, Part, Form, constant_form, unit_form, with_part, negated_part, negated_form, part_alone, part_joined, parts_joined, joined, all_joined, parts_scaled, scaled, unit_value, parts_value, form_value}
+use Rattle.nz_spec.specs.simplex.Basis.{Valuation, worth, ValueIsWorth}
 use Rattle.nz_fractions.proofs.Laws.{=ℚ_refl, =ℚ-from_same, =ℚ_sym, =ℚ_trans}
 use Rattle.nz_fractions.proofs.Order.{same-fraction_eq}
 use Rattle.nz_fractions.proofs.Arithmetic.{+ℚ_comm, +ℚ_assoc, +ℚ-zero, +ℚ-same, neg_ℚ-same, *ℚ_assoc, *ℚ-+ℚ, *ℚ-same, outcome-sum, outcome-difference}

@@ -3,10 +3,10 @@ use Rattle.std.proofs.Common.{◌≡◌, ℕ, zero, suc, ◌≤◌, Bool, true, 
 use Rattle.std.specs.Prelude.{if◌then◌else◌}
 use Rattle.nz_ints.proofs.Ring.{Atom, Literal, ◌⊕◌, ◌⊗◌, Minus}
 use Rattle.nz_fractions.specs.Fraction.{Fraction, whole, ◌=ℚ◌, ◌+ℚ◌, neg_ℚ, ◌*ℚ◌}
-use Rattle.nz_spec.specs.Term.{Term}
-use Rattle.nz_spec.specs.Literal.{are_same_term}
-use Rattle.nz_spec.specs.Form.{Part, negated_part}
-use Rattle.nz_spec.specs.Basis.{Valuation, worth, unit_coefficient, WorthIsByUnits}
+use Rattle.nz_spec.specs.terms.Term.{Term}
+use Rattle.nz_spec.specs.clauses.Literal.{are_same_term}
+use Rattle.nz_spec.specs.terms.Form.{Part, negated_part}
+use Rattle.nz_spec.specs.simplex.Basis.{Valuation, worth, unit_coefficient, WorthIsByUnits}
 use Rattle.nz_fractions.proofs.Laws.{=ℚ_refl, =ℚ-from_same, =ℚ_sym}
 use Rattle.nz_fractions.proofs.Arithmetic.{+ℚ-same, +ℚ-neg, neg_ℚ-same}
 use Rattle.nz_fractions.proofs.Identities.{times_zero}

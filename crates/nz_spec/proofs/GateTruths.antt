@@ -3,10 +3,10 @@ use Rattle.std.proofs.Common.{◌≡◌, Bool, true, false, not, ◌&&◌, ◌||
 use Rattle.std.specs.Prelude.{if◌then◌else◌}
 use Rattle.std.specs.List.{AllByRecursion, list_any, list_all}
 use Rattle.std.proofs.Math.Bool.{or-false}
-use Rattle.nz_spec.specs.Term.{Sort, bool_sort, int_sort, real_sort, over_int, over_real, Head, constant, parameter, integer, decimal_number, verum, falsum, negation, conjunction, disjunction, implication, exclusion, equality, distinction, choice, less, at_most, greater, at_least, sum, difference, product, quotient, integer_quotient, modulus, magnitude, to_real, to_int, is_int, Term, apply, Terms, no_terms, terms, Assignment, Value, truth, number, is_true, value_of, values_of, head_value, sort_of, is_bool, IsOfSort, all_true, some_true, implied, excluded, combined, default_value, are_equal, is_numeric, holds_number, hold_number}
-use Rattle.nz_spec.specs.Model.{IsAssignment}
-use Rattle.nz_spec.specs.Literal.{Clause, is_clause_true, IsClauseTrue}
-use Rattle.nz_spec.specs.Gates.{holds, fails, list_of, is_boolean_term, conjunction_clauses, disjunction_clauses, clauses_over, IsBoolean, HasBooleanArguments, GatesAreTrue, PlainTermsAreBoolean}
+use Rattle.nz_spec.specs.terms.Term.{Sort, bool_sort, int_sort, real_sort, over_int, over_real, Head, constant, parameter, integer, decimal_number, verum, falsum, negation, conjunction, disjunction, implication, exclusion, equality, distinction, choice, less, at_most, greater, at_least, sum, difference, product, quotient, integer_quotient, modulus, magnitude, to_real, to_int, is_int, Term, apply, Terms, no_terms, terms, Assignment, Value, truth, number, is_true, value_of, values_of, head_value, sort_of, is_bool, IsOfSort, all_true, some_true, implied, excluded, combined, default_value, are_equal, is_numeric, holds_number, hold_number}
+use Rattle.nz_spec.specs.terms.Model.{IsAssignment}
+use Rattle.nz_spec.specs.clauses.Literal.{Clause, is_clause_true, IsClauseTrue}
+use Rattle.nz_spec.specs.clauses.Gates.{holds, fails, list_of, is_boolean_term, conjunction_clauses, disjunction_clauses, clauses_over, IsBoolean, HasBooleanArguments, GatesAreTrue, PlainTermsAreBoolean}
 use Rattle.nz_spec.proofs.Literals.{or_first, or_second}
 use Rattle.std.proofs.lemmas.Bool.{and_parts}
 

@@ -4,7 +4,7 @@ use Rattle.std.proofs.lemmas.Int.{ints}
 use Rattle.std.proofs.lemmas.List.Elements.{All-nil, All-cons, All-head, All-tail}
 use Rattle.nz_ints.proofs.Ring.{Atom, ◌⊕◌, ◌⊗◌, Minus, solve}
 use Rattle.nz_fractions.specs.Fraction.{Fraction, denominator, whole, ◌=ℚ◌, ◌≤ℚ◌, ◌<ℚ◌, ◌+ℚ◌, neg_ℚ, ◌*ℚ◌, fraction_lt, fraction_le, fraction_min, outcome, Difference, Quotient}
-use Rattle.nz_spec.specs.Infinitesimal.{Infinitesimal, ◌≤δ◌, at, Pair, is_limiting, limit, limits, IsLeastLimit, least_from, chosen_delta, AreOrdered, AreOrderedAt}
+use Rattle.nz_spec.specs.numbers.Infinitesimal.{Infinitesimal, ◌≤δ◌, at, Pair, is_limiting, limit, limits, IsLeastLimit, least_from, chosen_delta, AreOrdered, AreOrderedAt}
 use Rattle.nz_fractions.proofs.Laws.{=ℚ_refl, =ℚ_sym, =ℚ_trans, ≤ℚ-from_eq, ≤ℚ_refl, ≤ℚ-from_lt, ≤ℚ_trans, <ℚ-≤ℚ_trans, ≤ℚ-<ℚ_trans, <ℚ_irrefl}
 use Rattle.nz_fractions.proofs.Arithmetic.{own_parts, sum_parts, product_parts, neg_parts, by_parts, *ℚ-same, cmp-+ℚ, cmp-*ℚ_pos, outcome-difference}
 use Rattle.nz_fractions.proofs.Identities.{zero_times}

@@ -3,9 +3,9 @@ use Rattle.std.proofs.Common.{◌≡◌, true, pos, ap₂}
 use Rattle.std.specs.Ordering.{ordering_then}
 use Rattle.std.specs.declared.cmp.Ordering.{Ordering}
 use Rattle.nz_fractions.specs.Fraction.{Fraction, whole, ◌=ℚ◌, ◌+ℚ◌, ◌*ℚ◌}
-use Rattle.nz_spec.specs.Infinitesimal.{Infinitesimal, ◌=δ◌, ◌+δ◌, scaled, infinitesimal_cmp}
-use Rattle.nz_spec.specs.Term.{is_zero}
-use Rattle.nz_spec.specs.InfinitesimalMoves.{InfinitesimalsMove}
+use Rattle.nz_spec.specs.numbers.Infinitesimal.{Infinitesimal, ◌=δ◌, ◌+δ◌, scaled, infinitesimal_cmp}
+use Rattle.nz_spec.specs.terms.Term.{is_zero}
+use Rattle.nz_spec.specs.laws.InfinitesimalMoves.{InfinitesimalsMove}
 use Rattle.nz_fractions.proofs.Laws.{=ℚ_refl, =ℚ_sym}
 use Rattle.nz_fractions.proofs.Order.{same-fraction_eq}
 use Rattle.nz_fractions.proofs.Arithmetic.{+ℚ-zero, +ℚ-same, *ℚ-same, cmp-same}

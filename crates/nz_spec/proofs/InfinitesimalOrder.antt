@@ -4,7 +4,7 @@ use Rattle.std.specs.Ordering.{ordering_then, ordering_reverse, is_gt, is_lt}
 use Rattle.std.specs.Cmp.{IsTotalOrder, upto, tied_itself, alike_right}
 use Rattle.std.proofs.lemmas.Cmp.{on_total, then_total}
 use Rattle.nz_fractions.specs.Fraction.{Fraction, whole, ◌=ℚ◌, ◌≤ℚ◌, ◌<ℚ◌, ◌+ℚ◌, ◌*ℚ◌, fraction_cmp}
-use Rattle.nz_spec.specs.Infinitesimal.{Infinitesimal, ◌=δ◌, ◌≤δ◌, infinitesimal_cmp, InfinitesimalsAreOrdered}
+use Rattle.nz_spec.specs.numbers.Infinitesimal.{Infinitesimal, ◌=δ◌, ◌≤δ◌, infinitesimal_cmp, InfinitesimalsAreOrdered}
 use Rattle.nz_fractions.proofs.Laws.{=ℚ_refl, =ℚ_sym, =ℚ_trans, ≤ℚ-from_eq, ≤ℚ-from_lt}
 use Rattle.nz_fractions.proofs.Order.{fraction_cmp_is, fraction_cmp_total, fraction_ranked}
 use Rattle.nz_fractions.proofs.Arithmetic.{+ℚ_comm, *ℚ_comm, cmp-same, cmp-+ℚ, cmp-*ℚ_pos, cmp-*ℚ_neg}

@@ -1,9 +1,9 @@
 -- The normal term of an instance is the instance of the normal terms.
 use Rattle.std.proofs.Common.{◌≡◌, ℕ, zero, suc, Option, Some, None, refl, sym, ap, ◌∙◌}
 use Rattle.std.specs.Prelude.{option_map}
-use Rattle.nz_spec.specs.Term.{Sort, Head, constant, parameter, integer, decimal_number, verum, falsum, negation, conjunction, disjunction, implication, exclusion, equality, distinction, choice, less, at_most, greater, at_least, sum, difference, product, quotient, integer_quotient, modulus, magnitude, to_real, to_int, is_int, Term, apply, Terms, no_terms, terms}
-use Rattle.nz_spec.specs.Normal.{negated, paired, turned, implication_of, grouped_onto, grouped_by, neighbours_of, disequations_onto, disequations_of, joined_by, chained_by, normal_node, normal_of, normals_of}
-use Rattle.nz_spec.specs.Elaboration.{term_at, instance_node, instance_of, instances_of, InstanceKeepsNormal}
+use Rattle.nz_spec.specs.terms.Term.{Sort, Head, constant, parameter, integer, decimal_number, verum, falsum, negation, conjunction, disjunction, implication, exclusion, equality, distinction, choice, less, at_most, greater, at_least, sum, difference, product, quotient, integer_quotient, modulus, magnitude, to_real, to_int, is_int, Term, apply, Terms, no_terms, terms}
+use Rattle.nz_spec.specs.terms.Normal.{negated, paired, turned, implication_of, grouped_onto, grouped_by, neighbours_of, disequations_onto, disequations_of, joined_by, chained_by, normal_node, normal_of, normals_of}
+use Rattle.nz_spec.specs.terms.Definitions.{term_at, instance_node, instance_of, instances_of, InstanceKeepsNormal}
 
 term_at-normal : (us : Terms) (i : ℕ) → term_at (normals_of us) i ≡ option_map normal_of (term_at us i)
 term_at-normal no_terms i = refl

@@ -10,22 +10,22 @@ use Rattle.std.proofs.lemmas.Nat.Gcd.{dvd_refl}
 use Rattle.nz_ints.proofs.Divisors.{gcd-dvd_left, gcd-dvd_right}
 use Rattle.nz_ints.proofs.Products.{mul-one}
 use Rattle.nz_ints.proofs.Ring.{Atom, Literal as Number, ◌⊕◌, ◌⊗◌, solve}
-use Rattle.nz_ints.proofs.Rounding.{int_div-mul_cancel}
+use Rattle.nz_ints.proofs.FloorDivision.{int_div-mul_cancel}
 use Rattle.nz_fractions.specs.Fraction.{Fraction, denominator, over, whole, ◌=ℚ◌, ◌≤ℚ◌, ◌<ℚ◌, ◌+ℚ◌, neg_ℚ, ◌*ℚ◌, fraction_le, fraction_lt, floor, ceiling, outcome, Difference, Product}
-use Rattle.nz_spec.specs.Computation.{operated, at_once, turned_into}
-use Rattle.nz_spec.specs.Term.{Sort, int_sort, are_same_sort, Term, sort_of, Value, truth, number, Assignment, number_of, value_of, IsOfSort}
-use Rattle.nz_spec.specs.Model.{IsAssignment, HasSort}
-use Rattle.nz_spec.specs.Form.{Part, unit_value, parts_value, parts_scaled, negated_part}
-use Rattle.nz_spec.specs.Literal.{term_literal, is_at_most, is_below, is_literal_true, Clause, clause_of, IsClauseTrue}
-use Rattle.nz_spec.specs.LinearLiteral.{is_whole, is_integral_part, are_integral, common_divisor, tight_multiplier, greatest_below, rounded, is_without_units, HaveSortedUnits, TightSaysAsMuch}
-use Rattle.nz_spec.specs.Cuts.{BranchClausesAreTrue}
+use Rattle.nz_spec.specs.numbers.Computation.{operated, at_once, turned_into}
+use Rattle.nz_spec.specs.terms.Term.{Sort, int_sort, are_same_sort, Term, sort_of, Value, truth, number, Assignment, number_of, value_of, IsOfSort}
+use Rattle.nz_spec.specs.terms.Model.{IsAssignment, HasSort}
+use Rattle.nz_spec.specs.terms.Form.{Part, unit_value, parts_value, parts_scaled, negated_part}
+use Rattle.nz_spec.specs.clauses.Literal.{term_literal, is_at_most, is_below, is_literal_true, Clause, clause_of, IsClauseTrue}
+use Rattle.nz_spec.specs.clauses.LinearLiteral.{is_whole, is_integral_part, are_integral, common_divisor, tight_multiplier, greatest_below, rounded, is_without_units, HaveSortedUnits, TightSaysAsMuch}
+use Rattle.nz_spec.specs.clauses.Cuts.{BranchClausesAreTrue}
 use Rattle.nz_fractions.proofs.Laws.{=ℚ_refl, =ℚ_sym, =ℚ_trans, =ℚ-from_same, ≤ℚ-from_eq, ≤ℚ_trans, <ℚ-≤ℚ_trans, ≤ℚ-<ℚ_trans, ≤ℚ_total, denominator-over, numerator-over}
 use Rattle.nz_fractions.proofs.Order.{same-fraction_eq, lt_is, lt_is_not, le_is, le_is_not}
 use Rattle.nz_fractions.proofs.Arithmetic.{Parts, sum_parts, product_parts, neg_parts, whole_parts, by_parts, +ℚ-same, *ℚ-same, neg_ℚ-same, outcome-difference, outcome-product}
 use Rattle.nz_spec.proofs.FormValues.{parts-scaled, parts-negated}
 use Rattle.nz_spec.proofs.FarkasSums.{found}
 use Rattle.nz_spec.proofs.Literals.{or_first, together}
-use Rattle.nz_fractions.proofs.Rounding.{rounds}
+use Rattle.nz_fractions.proofs.FloorsAndCeilings.{rounds}
 use Rattle.nz_fractions.proofs.Bounds.{times_le, times_lt}
 use Rattle.nz_fractions.proofs.Identities.{one_times}
 use Rattle.nz_spec.proofs.Sorted.{same_sorts}

@@ -3,13 +3,13 @@ use Rattle.std.proofs.Common.{◌≡◌, ℕ, zero, suc, ◌<◌, ◌≢◌, inl
 use Rattle.std.proofs.lemmas.Option.{slice_get_within, get_or_from_slice_get}
 use Rattle.std.proofs.lemmas.List.{take-map, map-append, length-map}
 use Rattle.nz_lists.proofs.Places.{slice_get-push_cases, slice_index_or-map}
-use Rattle.nz_spec.specs.Literal.{AreSameSet, StandOnce}
-use Rattle.nz_spec.specs.Work.{DecisionEntry, LearnedEntry, PivotEntry, WorkLine, UnitLine, NoteLine}
-use Rattle.nz_spec.specs.Notes.{Note, start_note, atom_note, form_note, told_note}
-use Rattle.nz_spec.specs.Bland.{Point, Position, IsCheckStep}
-use Rattle.nz_spec.specs.Pivots as pivots
-use Rattle.nz_spec.specs.Pivots.{Pivot}
-use Rattle.nz_spec.specs.Legal.{Task, ToldLiteral, Search, at_first, no_point, MayFollow, after_line, after_lines, Lead, LegalWorkGoesOn, IsWithoutRepeats, LegalWorkDoesNotRepeat, position_of, pivot_lines, PivotsAreLegal}
+use Rattle.nz_spec.specs.clauses.Literal.{AreSameSet, StandOnce}
+use Rattle.nz_spec.specs.search.Work.{DecisionEntry, LearnedEntry, PivotEntry, WorkLine, UnitLine, NoteLine}
+use Rattle.nz_spec.specs.search.Notes.{Note, start_note, atom_note, form_note, told_note}
+use Rattle.nz_spec.specs.simplex.Bland.{Point, Position, IsCheckStep}
+use Rattle.nz_spec.specs.simplex.Pivots as pivots
+use Rattle.nz_spec.specs.simplex.Pivots.{Pivot}
+use Rattle.nz_spec.specs.search.Legal.{Task, ToldLiteral, Search, at_first, no_point, MayFollow, after_line, after_lines, Lead, LegalWorkGoesOn, IsWithoutRepeats, LegalWorkDoesNotRepeat, position_of, pivot_lines, PivotsAreLegal}
 
 pub goes_on : LegalWorkGoesOn
 goes_on q s x y z [] line same may = (z, subst (λ (p : Point). MayFollow q s p line z) same may, refl)

@@ -5,22 +5,22 @@ use Rattle.std.specs.List.{AllByRecursion}
 use Rattle.std.proofs.Math.Bool.{or-false}
 use Rattle.std.proofs.lemmas.Bool.{and_parts}
 use Rattle.nz_fractions.specs.Fraction.{Fraction, whole, ◌=ℚ◌, ◌≤ℚ◌, ◌<ℚ◌, ◌+ℚ◌, neg_ℚ, fraction_cmp, fraction_eq, fraction_le, fraction_lt, floor, Difference}
-use Rattle.nz_spec.specs.Computation.{Computation, at_once, in_turn}
-use Rattle.nz_spec.specs.Term.{Sort, bool_sort, int_sort, real_sort, is_bool, Head, equality, less, at_most, is_int, to_int, Term, apply, Terms, no_terms, terms, Value, truth, number, Assignment, is_true, number_of, are_equal, value_of, sort_of, IsOfSort}
-use Rattle.nz_spec.specs.Linear.{is_linear}
-use Rattle.nz_spec.specs.Model.{IsAssignment}
-use Rattle.nz_spec.specs.Form.{Numbering, unit_value, parts_value, form_value}
-use Rattle.nz_spec.specs.FormOf.{form_of}
-use Rattle.nz_spec.specs.Literal.{is_literal_true, Clause, IsClauseTrue}
-use Rattle.nz_spec.specs.Gates.{holds, fails, is_boolean_term}
-use Rattle.nz_spec.specs.Links.{minus, at_most_literal, below_literal, link_clauses, IsArithmetic, LinksAreTrue}
+use Rattle.nz_spec.specs.numbers.Computation.{Computation, at_once, in_turn}
+use Rattle.nz_spec.specs.terms.Term.{Sort, bool_sort, int_sort, real_sort, is_bool, Head, equality, less, at_most, is_int, to_int, Term, apply, Terms, no_terms, terms, Value, truth, number, Assignment, is_true, number_of, are_equal, value_of, sort_of, IsOfSort}
+use Rattle.nz_spec.specs.terms.Linear.{is_linear}
+use Rattle.nz_spec.specs.terms.Model.{IsAssignment}
+use Rattle.nz_spec.specs.terms.Form.{Numbering, unit_value, parts_value, form_value}
+use Rattle.nz_spec.specs.terms.FormOf.{form_of}
+use Rattle.nz_spec.specs.clauses.Literal.{is_literal_true, Clause, IsClauseTrue}
+use Rattle.nz_spec.specs.clauses.Gates.{holds, fails, is_boolean_term}
+use Rattle.nz_spec.specs.clauses.Links.{minus, at_most_literal, below_literal, link_clauses, IsArithmetic, LinksAreTrue}
 use Rattle.nz_fractions.proofs.Laws.{=ℚ_sym, =ℚ_trans, ≤ℚ-from_eq, ≤ℚ-from_lt, ≤ℚ_antisymm, ≤ℚ_total, <ℚ_irrefl}
 use Rattle.nz_fractions.proofs.Order.{fraction_ranked, fraction_cmp_is, same-fraction_eq, fraction_eq-same, lt_is, lt_is_not, le_is, le_is_not}
 use Rattle.nz_fractions.proofs.Arithmetic.{+ℚ_comm, +ℚ-neg, +ℚ-same, neg_ℚ-same, cmp-same, cmp-+ℚ}
 use Rattle.nz_spec.proofs.FormTerms.{form_has_value}
 use Rattle.nz_spec.proofs.FormValues.{by_difference, form-joined}
 use Rattle.nz_spec.proofs.GateTruths.{implies}
-use Rattle.nz_fractions.proofs.Rounding.{rounds}
+use Rattle.nz_fractions.proofs.FloorsAndCeilings.{rounds}
 use Rattle.nz_fractions.proofs.Bounds.{lt-carried, le-carried}
 
 -- ---- Tests

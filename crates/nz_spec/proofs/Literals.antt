@@ -6,10 +6,10 @@ use Rattle.std.proofs.Math.Bool.{or_assoc, or-false}
 use Rattle.std.proofs.lemmas.Bool.{and_from, and_parts}
 use Rattle.std.proofs.lemmas.List.Folds.{list_any-append}
 use Rattle.nz_fractions.specs.Fraction.{Fraction}
-use Rattle.nz_spec.specs.Term.{Term, Assignment, is_true, value_of}
-use Rattle.nz_spec.specs.Same.{are_same_fraction, are_same_term}
-use Rattle.nz_spec.specs.Form.{Part, negated_part, parts_value}
-use Rattle.nz_spec.specs.Literal.{Literal, term_literal, is_at_most, is_below, negation_of, are_same_sign, are_same_parts, are_same_literal, is_literal_true, with_one, once, without, Clause, is_clause_true, NegationIsOther, ResolventIsTrue, ClauseIsTrueTogether, TellsLiterals}
+use Rattle.nz_spec.specs.terms.Term.{Term, Assignment, is_true, value_of}
+use Rattle.nz_spec.specs.terms.Same.{are_same_fraction, are_same_term}
+use Rattle.nz_spec.specs.terms.Form.{Part, negated_part, parts_value}
+use Rattle.nz_spec.specs.clauses.Literal.{Literal, term_literal, is_at_most, is_below, negation_of, are_same_sign, are_same_parts, are_same_literal, is_literal_true, with_one, once, without, Clause, is_clause_true, NegationIsOther, ResolventIsTrue, ClauseIsTrueTogether, TellsLiterals}
 use Rattle.nz_spec.proofs.Same.{same_fraction, one_fraction, same_term, one_term}
 use Rattle.nz_spec.proofs.FormValues.{parts-negated}
 use Rattle.nz_spec.proofs.LinearLiterals.{at_most_turned, below_turned}

@@ -3,9 +3,9 @@ use Rattle.std.proofs.Common.{◌≡◌, Bool, false, not, ◌&&◌, ◌||◌, L
 use Rattle.std.specs.List.{list_all, list_any}
 use Rattle.std.proofs.Math.Bool.{and-true, or-false}
 use Rattle.nz_lists.proofs.Tests.{not_or}
-use Rattle.nz_spec.specs.Term.{NumberSort, Head, constant, parameter, integer, decimal_number, verum, falsum, negation, conjunction, disjunction, implication, exclusion, equality, distinction, choice, less, at_most, greater, at_least, sum, difference, product, quotient, integer_quotient, modulus, magnitude, to_real, to_int, is_int, Term, apply, Terms, no_terms, terms, Value, truth, Assignment, is_true, are_equal, is_less, is_at_most, implied, all_true, excluded, are_chained, are_distinct, combined, carried_out, divided, head_value, value_of, values_of}
+use Rattle.nz_spec.specs.terms.Term.{NumberSort, Head, constant, parameter, integer, decimal_number, verum, falsum, negation, conjunction, disjunction, implication, exclusion, equality, distinction, choice, less, at_most, greater, at_least, sum, difference, product, quotient, integer_quotient, modulus, magnitude, to_real, to_int, is_int, Term, apply, Terms, no_terms, terms, Value, truth, Assignment, is_true, are_equal, is_less, is_at_most, implied, all_true, excluded, are_chained, are_distinct, combined, carried_out, divided, head_value, value_of, values_of}
 use Rattle.nz_fractions.specs.Fraction.{Quotient}
-use Rattle.nz_spec.specs.Normal.{paired, turned, implication_of, grouped_onto, neighbours_of, disequations_onto, disequations_of, joined_by, chained_by, normal_node, normals_of, NormalKeepsValue}
+use Rattle.nz_spec.specs.terms.Normal.{paired, turned, implication_of, grouped_onto, neighbours_of, disequations_onto, disequations_of, joined_by, chained_by, normal_node, normals_of, NormalKeepsValue}
 
 -- ---- The normal terms of an operator
 

@@ -2,12 +2,12 @@
 use Rattle.std.proofs.Common.{◌≡◌, Bool, true, false, not, [], refl, sym, ap, ◌∙◌, true≢false}
 use Rattle.std.specs.Prelude.{nat_lt}
 use Rattle.std.proofs.lemmas.Bool.{and_parts, or_from, or_left, or_parts}
-use Rattle.nz_spec.specs.Term.{Sort, bool_sort, int_sort, real_sort, is_bool, is_int_sort, NumberSort, over_int, over_real, sort_over, Head, constant, integer, decimal_number, verum, falsum, negation, conjunction, disjunction, exclusion, equality, choice, less, at_most, sum, difference, product, quotient, integer_quotient, modulus, magnitude, to_real, to_int, is_int, head_sort, Term, apply, Terms, no_terms, terms, sort_of, is_numeric, holds_number, hold_number, is_integral, holds_integer, hold_integer}
-use Rattle.nz_spec.specs.Normal.{normal_of}
-use Rattle.nz_spec.specs.Elaboration.{Operator, at_most_operator, less_operator, has_sort, all_terms, term_count, takes, operands_of, operator_head}
-use Rattle.nz_spec.specs.Gates.{IsRow, IsGated, AreGated}
-use Rattle.nz_spec.specs.WellSorted.{are_numbers, AreOperands, IsApplied, IsSortedHead, IsWellSorted, AreWellSorted, NormalTermsAreGated}
-use Rattle.nz_spec.specs.Taken.{IsTakenHead, HasTakenHeads, HaveTakenHeads}
+use Rattle.nz_spec.specs.terms.Term.{Sort, bool_sort, int_sort, real_sort, is_bool, is_int_sort, NumberSort, over_int, over_real, sort_over, Head, constant, integer, decimal_number, verum, falsum, negation, conjunction, disjunction, exclusion, equality, choice, less, at_most, sum, difference, product, quotient, integer_quotient, modulus, magnitude, to_real, to_int, is_int, head_sort, Term, apply, Terms, no_terms, terms, sort_of, is_numeric, holds_number, hold_number, is_integral, holds_integer, hold_integer}
+use Rattle.nz_spec.specs.terms.Normal.{normal_of}
+use Rattle.nz_spec.specs.terms.Operators.{Operator, at_most_operator, less_operator, has_sort, all_terms, term_count, takes, operands_of, operator_head}
+use Rattle.nz_spec.specs.clauses.Gates.{IsRow, IsGated, AreGated}
+use Rattle.nz_spec.specs.terms.WellSorted.{are_numbers, AreOperands, IsApplied, IsSortedHead, IsWellSorted, AreWellSorted, NormalTermsAreGated}
+use Rattle.nz_spec.specs.terms.Taken.{IsTakenHead, HasTakenHeads, HaveTakenHeads}
 use Rattle.nz_spec.proofs.NormalSorts.{of_sort, first_has, normal_stays_sorted}
 use Rattle.nz_spec.proofs.NormalHeads.{normal_heads}
 

@@ -3,11 +3,11 @@ use Rattle.std.proofs.Common.{◌≡◌, suc, true, false, ◌==◌, [], refl, s
 use Rattle.std.specs.Prelude.{⊤, nat_lt}
 use Rattle.std.proofs.lemmas.Bool.{or_parts}
 use Rattle.std.proofs.lemmas.Option.{none-some}
-use Rattle.nz_spec.specs.Term.{Sort, bool_sort, int_sort, real_sort, is_int_sort, Constant, Head, constant, parameter, integer, decimal_number, verum, falsum, negation, conjunction, disjunction, exclusion, equality, choice, less, at_most, sum, product, quotient, integer_quotient, to_real, Term, apply, Terms, no_terms, terms, is_integral, holds_integer, hold_integer}
-use Rattle.nz_spec.specs.Normal.{negated, paired, turned, implication_of, grouped_onto, grouped_by, neighbours_of, disequations_onto, disequations_of, joined_by, chained_by, normal_node, normal_of, normals_of}
-use Rattle.nz_spec.specs.Elaboration.{Operator, true_operator, false_operator, not_operator, and_operator, or_operator, implies_operator, xor_operator, equals_operator, distinct_operator, ite_operator, at_most_operator, less_operator, at_least_operator, greater_operator, plus_operator, times_operator, minus_operator, over_operator, div_operator, mod_operator, abs_operator, to_real_operator, to_int_operator, is_int_operator, term_count, takes, numbers_at, operator_head}
-use Rattle.nz_spec.specs.WellSorted.{IsApplied, IsSortedHead, IsWellSorted, AreWellSorted}
-use Rattle.nz_spec.specs.Taken.{IsTakenHead, HasTakenHeads, HaveTakenHeads}
+use Rattle.nz_spec.specs.terms.Term.{Sort, bool_sort, int_sort, real_sort, is_int_sort, Constant, Head, constant, parameter, integer, decimal_number, verum, falsum, negation, conjunction, disjunction, exclusion, equality, choice, less, at_most, sum, product, quotient, integer_quotient, to_real, Term, apply, Terms, no_terms, terms, is_integral, holds_integer, hold_integer}
+use Rattle.nz_spec.specs.terms.Normal.{negated, paired, turned, implication_of, grouped_onto, grouped_by, neighbours_of, disequations_onto, disequations_of, joined_by, chained_by, normal_node, normal_of, normals_of}
+use Rattle.nz_spec.specs.terms.Operators.{Operator, true_operator, false_operator, not_operator, and_operator, or_operator, implies_operator, xor_operator, equals_operator, distinct_operator, ite_operator, at_most_operator, less_operator, at_least_operator, greater_operator, plus_operator, times_operator, minus_operator, over_operator, div_operator, mod_operator, abs_operator, to_real_operator, to_int_operator, is_int_operator, term_count, takes, numbers_at, operator_head}
+use Rattle.nz_spec.specs.terms.WellSorted.{IsApplied, IsSortedHead, IsWellSorted, AreWellSorted}
+use Rattle.nz_spec.specs.terms.Taken.{IsTakenHead, HasTakenHeads, HaveTakenHeads}
 
 -- taken, where it holds no unit of sort Int
 abbrev pub HasHeads : Term → Type 0

@@ -3,12 +3,12 @@ use Rattle.std.proofs.Common.{◌≡◌, suc, ℕ, true, not, ◌&&◌, List, re
 use Rattle.std.specs.Prelude.{nat_lt}
 use Rattle.std.proofs.lemmas.Bool.{and_from, and_parts}
 use Rattle.std.proofs.lemmas.Bool.Decides.{nat_tests}
-use Rattle.nz_spec.specs.Term.{Sort, bool_sort, int_sort, real_sort, are_same_sort, is_bool, sort_over, Head, constant, parameter, integer, decimal_number, conjunction, disjunction, exclusion, equality, less, at_most, sum, product, quotient, integer_quotient, head_sort, Term, apply, Terms, no_terms, terms, sort_of}
-use Rattle.nz_spec.specs.Normal.{negated, paired, turned, implication_of, grouped_onto, grouped_by, neighbours_of, disequations_onto, disequations_of, joined_by, normal_node, normal_of, normals_of}
-use Rattle.nz_spec.specs.Elaboration.{Operator, true_operator, false_operator, not_operator, and_operator, or_operator, implies_operator, xor_operator, equals_operator, distinct_operator, ite_operator, at_most_operator, less_operator, at_least_operator, greater_operator, plus_operator, times_operator, minus_operator, over_operator, div_operator, mod_operator, abs_operator, to_real_operator, to_int_operator, is_int_operator, has_sort, all_terms, term_count, takes, operands_of, numbers_at, operator_head}
-use Rattle.nz_spec.specs.WellSorted.{AreOperands, IsApplied, IsSortedHead, IsWellSorted, AreWellSorted, NormalStaysSorted}
+use Rattle.nz_spec.specs.terms.Term.{Sort, bool_sort, int_sort, real_sort, are_same_sort, is_bool, sort_over, Head, constant, parameter, integer, decimal_number, conjunction, disjunction, exclusion, equality, less, at_most, sum, product, quotient, integer_quotient, head_sort, Term, apply, Terms, no_terms, terms, sort_of}
+use Rattle.nz_spec.specs.terms.Normal.{negated, paired, turned, implication_of, grouped_onto, grouped_by, neighbours_of, disequations_onto, disequations_of, joined_by, normal_node, normal_of, normals_of}
+use Rattle.nz_spec.specs.terms.Operators.{Operator, true_operator, false_operator, not_operator, and_operator, or_operator, implies_operator, xor_operator, equals_operator, distinct_operator, ite_operator, at_most_operator, less_operator, at_least_operator, greater_operator, plus_operator, times_operator, minus_operator, over_operator, div_operator, mod_operator, abs_operator, to_real_operator, to_int_operator, is_int_operator, has_sort, all_terms, term_count, takes, operands_of, numbers_at, operator_head}
+use Rattle.nz_spec.specs.terms.WellSorted.{AreOperands, IsApplied, IsSortedHead, IsWellSorted, AreWellSorted, NormalStaysSorted, SameSorts}
 use Rattle.nz_spec.proofs.Sorted.{same_sorts}
-use Rattle.nz_spec.proofs.SortedTerms.{SameSorts, applied_same}
+use Rattle.nz_spec.proofs.SameSorts.{applied_same}
 
 -- what has a sort is of it
 pub of_sort : (s : Sort) (t : Term) → has_sort s t ≡ true → sort_of t ≡ s

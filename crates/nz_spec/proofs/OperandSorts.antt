@@ -1,9 +1,9 @@
 -- Which arguments of well sorted terms are of sort Bool.
 use Rattle.std.proofs.Common.{◌≡◌, true, false, sym, ap, subst, true≢false}
 use Rattle.std.proofs.lemmas.Bool.{and_parts}
-use Rattle.nz_spec.specs.Term.{Sort, bool_sort, int_sort, real_sort, is_bool, Head, constant, parameter, integer, decimal_number, Terms, no_terms, terms, sort_of}
-use Rattle.nz_spec.specs.Elaboration.{Operator, not_operator, and_operator, or_operator, xor_operator, equals_operator, ite_operator, at_most_operator, less_operator, plus_operator, times_operator, minus_operator, over_operator, to_real_operator, has_sort, all_terms, operands_of, operator_head}
-use Rattle.nz_spec.specs.WellSorted.{AllAre, are_numbers, AreOperands, HaveOperands, OperandsAreSorted}
+use Rattle.nz_spec.specs.terms.Term.{Sort, bool_sort, int_sort, real_sort, is_bool, Head, constant, parameter, integer, decimal_number, Terms, no_terms, terms, sort_of}
+use Rattle.nz_spec.specs.terms.Operators.{Operator, not_operator, and_operator, or_operator, xor_operator, equals_operator, ite_operator, at_most_operator, less_operator, plus_operator, times_operator, minus_operator, over_operator, to_real_operator, has_sort, all_terms, operands_of, operator_head}
+use Rattle.nz_spec.specs.terms.WellSorted.{AllAre, are_numbers, AreOperands, HaveOperands, OperandsAreSorted}
 use Rattle.nz_spec.proofs.Sorted.{same_sorts}
 
 all_alike : (s : Sort) (ts : Terms) → all_terms (has_sort s) ts ≡ true → AllAre (is_bool s) ts

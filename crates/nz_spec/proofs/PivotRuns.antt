@@ -1,9 +1,9 @@
 -- Pivots that lead from a position to another one, as runs of check steps.
 use Rattle.std.proofs.Common.{◌≡◌, ℕ, zero, suc, ◌<◌, ◌^◌, List, [], ◌∷◌, ◌++◌, length, refl, sym, subst, arith}
-use Rattle.nz_spec.specs.Bland.{Position, IsCheckStep}
-use Rattle.nz_spec.specs.BlandRuns.{IsRun}
-use Rattle.nz_spec.specs.PositionMoves.{IsReadyToCheck}
-use Rattle.nz_spec.specs.Pivots.{Pivot, Lead, IsRunBetween, PivotsAreRuns}
+use Rattle.nz_spec.specs.simplex.Bland.{Position, IsCheckStep}
+use Rattle.nz_spec.specs.laws.BlandRuns.{IsRun}
+use Rattle.nz_spec.specs.simplex.PositionMoves.{IsReadyToCheck}
+use Rattle.nz_spec.specs.simplex.Pivots.{Pivot, Lead, IsRunBetween, PivotsAreRuns}
 use Rattle.nz_spec.proofs.PositionMovesKeep.{moves_keep_ready}
 use Rattle.nz_spec.proofs.BlandCounts.{runs_are_short}
 

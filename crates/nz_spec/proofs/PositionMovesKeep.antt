@@ -3,13 +3,13 @@ use Rattle.std.proofs.Common.{◌≡◌, ℕ, ◌<◌, Bool, true, false, ◌⊎
 use Rattle.std.specs.Prelude.{◌==◌, if◌then◌else◌, unwrap_or, is_some, option_map, Contains}
 use Rattle.std.specs.Ordering.{is_lt}
 use Rattle.nz_lists.proofs.Numbers.{equal-number, same-number}
-use Rattle.nz_spec.specs.Infinitesimal.{Infinitesimal, infinitesimal_cmp}
-use Rattle.nz_spec.specs.Term.{Term}
-use Rattle.nz_spec.specs.Form.{Part, unit_form}
-use Rattle.nz_spec.specs.Basis.{HasItsUnits, IsBasis}
-use Rattle.nz_spec.specs.BasisMoves.{with_nonbasic}
-use Rattle.nz_spec.specs.Bland.{Point, is_nonbasic, zero_infinitesimal, value_in, Position, Side, lower_side, upper_side, other_side, bound_on, IsOutside, NonbasicFormsFit, exchanged_point, IsCheckStep}
-use Rattle.nz_spec.specs.PositionMoves.{AreConsistent, with_unit, with_form, AreListedBounds, is_outside, moved_within, bounds_with, with_bound, AreLooser, IsReadyToCheck, empty_position, MovesKeepReady}
+use Rattle.nz_spec.specs.numbers.Infinitesimal.{Infinitesimal, infinitesimal_cmp}
+use Rattle.nz_spec.specs.terms.Term.{Term}
+use Rattle.nz_spec.specs.terms.Form.{Part, unit_form}
+use Rattle.nz_spec.specs.simplex.Basis.{HasItsUnits, IsBasis}
+use Rattle.nz_spec.specs.simplex.BasisMoves.{with_nonbasic}
+use Rattle.nz_spec.specs.simplex.Bland.{Point, is_nonbasic, zero_infinitesimal, value_in, Position, Side, lower_side, upper_side, other_side, bound_on, IsOutside, NonbasicFormsFit, exchanged_point, IsCheckStep}
+use Rattle.nz_spec.specs.simplex.PositionMoves.{AreConsistent, with_unit, with_form, AreListedBounds, is_outside, moved_within, bounds_with, with_bound, AreLooser, IsReadyToCheck, empty_position, MovesKeepReady}
 use Rattle.nz_spec.proofs.BasisJoins.{length-more, joins_keep_basis}
 use Rattle.nz_spec.proofs.InfinitesimalOrder.{=δ_refl}
 use Rattle.nz_spec.proofs.BlandSteps.{check_steps_keep_basis}

@@ -6,10 +6,10 @@ use Rattle.std.specs.Cmp.{signed_Decides}
 use Rattle.std.proofs.lemmas.Slice.Eq.{bytes_eq-Decides}
 use Rattle.std.proofs.lemmas.Bool.{and_from, and_parts}
 use Rattle.std.proofs.lemmas.Bool.Decides.{nat_tests}
-use Rattle.nz_spec.specs.Elaboration.{numbers_at}
+use Rattle.nz_spec.specs.terms.Operators.{numbers_at}
 use Rattle.nz_fractions.specs.Fraction.{Fraction}
-use Rattle.nz_spec.specs.Term.{Sort, bool_sort, int_sort, real_sort, NumberSort, over_int, over_real, sort_over, Head, constant, parameter, integer, decimal_number, verum, falsum, negation, conjunction, disjunction, implication, exclusion, equality, distinction, choice, less, at_most, greater, at_least, sum, difference, product, quotient, integer_quotient, modulus, magnitude, to_real, to_int, is_int, Term, apply, Terms, no_terms, terms}
-use Rattle.nz_spec.specs.Same.{are_same_fraction, sort_number, TellsHeads, TellsTerms, head_numbers, are_same_head, are_same_term, are_same_terms}
+use Rattle.nz_spec.specs.terms.Term.{Sort, bool_sort, int_sort, real_sort, NumberSort, over_int, over_real, sort_over, Head, constant, parameter, integer, decimal_number, verum, falsum, negation, conjunction, disjunction, implication, exclusion, equality, distinction, choice, less, at_most, greater, at_least, sum, difference, product, quotient, integer_quotient, modulus, magnitude, to_real, to_int, is_int, Term, apply, Terms, no_terms, terms}
+use Rattle.nz_spec.specs.terms.Same.{are_same_fraction, sort_number, TellsHeads, TellsTerms, head_numbers, are_same_head, are_same_term, are_same_terms}
 
 -- ---- A head from its numbers
 

@@ -6,10 +6,10 @@ use Rattle.std.proofs.lemmas.Bool.{and_parts}
 use Rattle.nz_ints.specs.Division.{gcd}
 use Rattle.std.specs.List.{AllByRecursion}
 use Rattle.nz_fractions.specs.Fraction.{Fraction, denominator, IsWhole, reduce, ◌+ℚ◌, neg_ℚ, ◌-ℚ◌, ◌*ℚ◌, outcome, exact, Arithmetic, Sum, Difference, Product, Quotient}
-use Rattle.nz_spec.specs.Term.{Sort, NumberSort, sort_over, bool_sort, int_sort, real_sort, Head, constant, parameter, integer, decimal_number, choice, sum, difference, product, head_sort, Term, apply, Terms, no_terms, terms, sort_of, is_bool, Value, truth, number, Assignment, is_true, number_of, IsOfSort, all_true, some_true, implied, excluded, combined, is_undefined, carried_out, divided, whole_number, default_value, head_value, value_of, values_of, are_same_sort}
-use Rattle.nz_spec.specs.Model.{IsAssignment}
-use Rattle.nz_spec.specs.Elaboration.{Operator, true_operator, false_operator, not_operator, and_operator, or_operator, implies_operator, xor_operator, equals_operator, distinct_operator, ite_operator, at_most_operator, less_operator, at_least_operator, greater_operator, plus_operator, times_operator, minus_operator, over_operator, div_operator, mod_operator, abs_operator, to_real_operator, to_int_operator, is_int_operator, has_sort, all_terms, term_count, takes, branches, operands_of, numbers_at, operator_head}
-use Rattle.nz_spec.specs.WellSorted.{are_numbers, AreOperands, IsApplied, IsSortedHead, IsWellSorted, AreWellSorted}
+use Rattle.nz_spec.specs.terms.Term.{Sort, NumberSort, sort_over, bool_sort, int_sort, real_sort, Head, constant, parameter, integer, decimal_number, choice, sum, difference, product, head_sort, Term, apply, Terms, no_terms, terms, sort_of, is_bool, Value, truth, number, Assignment, is_true, number_of, IsOfSort, all_true, some_true, implied, excluded, combined, is_undefined, carried_out, divided, whole_number, default_value, head_value, value_of, values_of, are_same_sort}
+use Rattle.nz_spec.specs.terms.Model.{IsAssignment}
+use Rattle.nz_spec.specs.terms.Operators.{Operator, true_operator, false_operator, not_operator, and_operator, or_operator, implies_operator, xor_operator, equals_operator, distinct_operator, ite_operator, at_most_operator, less_operator, at_least_operator, greater_operator, plus_operator, times_operator, minus_operator, over_operator, div_operator, mod_operator, abs_operator, to_real_operator, to_int_operator, is_int_operator, has_sort, all_terms, term_count, takes, branches, operands_of, numbers_at, operator_head}
+use Rattle.nz_spec.specs.terms.WellSorted.{are_numbers, AreOperands, IsApplied, IsSortedHead, IsWellSorted, AreWellSorted}
 use Rattle.nz_fractions.proofs.Arithmetic.{denominator-sum, denominator-product, denominator-neg}
 use Rattle.nz_fractions.proofs.Laws.{denominator-reduce, denominator_pos}
 

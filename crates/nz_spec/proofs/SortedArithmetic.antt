@@ -2,12 +2,12 @@
 use Rattle.std.proofs.Common.{◌≡◌, true, [], sym, subst}
 use Rattle.std.specs.List.{AllByRecursion}
 use Rattle.std.proofs.lemmas.Bool.{and_parts}
-use Rattle.nz_spec.specs.Term.{Sort, int_sort, Head, constant, parameter, integer, decimal_number, Term, apply, Terms, no_terms, terms, sort_of}
-use Rattle.nz_spec.specs.Model.{HasSort}
-use Rattle.nz_spec.specs.Elaboration.{Operator, equals_operator, div_operator, mod_operator, abs_operator, has_sort, all_terms, operands_of, operator_head}
-use Rattle.nz_spec.specs.Gates.{list_of}
-use Rattle.nz_spec.specs.Links.{HasSortedArguments}
-use Rattle.nz_spec.specs.WellSorted.{AreOperands, IsApplied, IsSortedHead, IsWellSorted, AreWellSorted, SortedTermsAreArithmetic}
+use Rattle.nz_spec.specs.terms.Term.{Sort, int_sort, Head, constant, parameter, integer, decimal_number, Term, apply, Terms, no_terms, terms, sort_of}
+use Rattle.nz_spec.specs.terms.Model.{HasSort}
+use Rattle.nz_spec.specs.terms.Operators.{Operator, equals_operator, div_operator, mod_operator, abs_operator, has_sort, all_terms, operands_of, operator_head}
+use Rattle.nz_spec.specs.clauses.Gates.{list_of}
+use Rattle.nz_spec.specs.clauses.Links.{HasSortedArguments}
+use Rattle.nz_spec.specs.terms.WellSorted.{AreOperands, IsApplied, IsSortedHead, IsWellSorted, AreWellSorted, SortedTermsAreArithmetic}
 use Rattle.nz_spec.proofs.Sorted.{same_sorts, value_is}
 use Rattle.nz_spec.proofs.SumUnits.{OverTerm, OverTerms, form-over}
 

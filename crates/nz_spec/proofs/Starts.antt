@@ -10,25 +10,25 @@ use Rattle.nz_lists.proofs.Numbers.{same-number}
 use Rattle.nz_lists.proofs.Members.{has_first, has_more, map_from}
 use Rattle.nz_fractions.specs.Fraction.{Fraction}
 use Rattle.nz_fractions.proofs.Identities.{neg-back}
-use Rattle.nz_spec.specs.Infinitesimal.{Infinitesimal}
-use Rattle.nz_spec.specs.Term.{Term, apply, falsum, no_terms}
-use Rattle.nz_spec.specs.Form.{Part, unit_form, negated_part}
-use Rattle.nz_spec.specs.Literal.{Literal, term_literal, is_at_most, is_below, negation_of, are_same_parts}
-use Rattle.nz_spec.specs.Gates.{holds}
-use Rattle.nz_spec.specs.Farkas.{is_linear_literal, bound_of}
-use Rattle.nz_spec.specs.Basis.{HasItsUnits, IsBasis}
-use Rattle.nz_spec.specs.Bland.{Point, is_nonbasic, zero_infinitesimal, Position, Side, lower_side, upper_side, exchanged_point, IsCheckStep}
-use Rattle.nz_spec.specs.PositionMoves.{with_unit, with_form, is_outside, moved_within}
-use Rattle.nz_spec.specs.LiteralBounds.{turned, is_unit_alone, is_unit_form, with_new_unit, joined, FormBound, bounded_from, bound_on_side, sum_bound, bound_said, are_same_side, tighter_of, with_bound_said, tightest, position_under, moved_by}
-use Rattle.nz_spec.specs.Work.{DecisionEntry, LearnedEntry, PivotEntry, WorkLine, UnitLine, NoteLine}
-use Rattle.nz_spec.specs.Notes.{Note, start_note, atom_note, form_note, told_note}
-use Rattle.nz_spec.specs.Legal.{Task, terms_known, ToldLiteral, Search, at_first, no_point, signed_literal, literal_by, told_literals, position_of, sum_of_atom, IsTabled, IsAtom, IsSumOf, MayBegin, after_line, after_lines, MayFollow, Lead, LegalWorkMayBegin, MoreTermsMayBegin}
+use Rattle.nz_spec.specs.numbers.Infinitesimal.{Infinitesimal}
+use Rattle.nz_spec.specs.terms.Term.{Term, apply, falsum, no_terms}
+use Rattle.nz_spec.specs.terms.Form.{Part, unit_form, negated_part}
+use Rattle.nz_spec.specs.clauses.Literal.{Literal, term_literal, is_at_most, is_below, negation_of, are_same_parts}
+use Rattle.nz_spec.specs.clauses.Gates.{holds}
+use Rattle.nz_spec.specs.clauses.Farkas.{is_linear_literal, bound_of}
+use Rattle.nz_spec.specs.simplex.Basis.{HasItsUnits, IsBasis}
+use Rattle.nz_spec.specs.simplex.Bland.{Point, is_nonbasic, zero_infinitesimal, Position, Side, lower_side, upper_side, exchanged_point, IsCheckStep}
+use Rattle.nz_spec.specs.simplex.PositionMoves.{with_unit, with_form, is_outside, moved_within}
+use Rattle.nz_spec.specs.simplex.LiteralBounds.{turned, is_unit_alone, is_unit_form, with_new_unit, joined, FormBound, bounded_from, bound_on_side, sum_bound, bound_said, are_same_side, tighter_of, with_bound_said, tightest, position_under, moved_by}
+use Rattle.nz_spec.specs.search.Work.{DecisionEntry, LearnedEntry, PivotEntry, WorkLine, UnitLine, NoteLine}
+use Rattle.nz_spec.specs.search.Notes.{Note, start_note, atom_note, form_note, told_note}
+use Rattle.nz_spec.specs.search.Legal.{Task, terms_known, ToldLiteral, Search, at_first, no_point, signed_literal, literal_by, told_literals, position_of, sum_of_atom, IsTabled, IsAtom, IsSumOf, MayBegin, after_line, after_lines, MayFollow, Lead, LegalWorkMayBegin, MoreTermsMayBegin}
 use Rattle.nz_spec.proofs.Literals.{same_parts, one_parts}
 use Rattle.nz_spec.proofs.BasisJoins.{joins_keep_basis}
 use Rattle.nz_spec.proofs.BlandSteps.{check_steps_keep_basis}
 use Rattle.nz_spec.proofs.PositionMovesKeep.{unit-tests, bound-tests}
 use Rattle.nz_spec.proofs.ToldBounds.{after, bound-is}
-use Rattle.nz_spec.proofs.TellingBounds.{moved_where}
+use Rattle.nz_spec.proofs.BoundChanges.{moved_where}
 
 none_some : {A : Type 0} {x : A} → None ≡ Some x → ⊥
 none_some e = true≢false (sym (ap is_some e))

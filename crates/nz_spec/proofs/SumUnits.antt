@@ -4,16 +4,16 @@ use Rattle.std.specs.Prelude.{Contains, if◌then◌else◌, nat_lt, ⊤}
 use Rattle.std.specs.List.{AllByRecursion}
 use Rattle.std.proofs.lemmas.List.Elements.{Contains-append_left, Contains-append_right, Contains-push}
 use Rattle.nz_fractions.specs.Fraction.{Fraction, whole, Arithmetic, Sum, Difference, Product, Quotient, outcome}
-use Rattle.nz_spec.specs.Computation.{Computation, operated, at_once, turned_into, and_then}
-use Rattle.nz_spec.specs.Term.{Head, sum, difference, product, quotient, to_real, Term, apply, Terms, no_terms, terms, is_zero}
-use Rattle.nz_spec.specs.Linear.{head_constant, constant_values}
-use Rattle.nz_spec.specs.Same.{are_same_term}
-use Rattle.nz_spec.specs.Form.{Numbering, Part, Form, constant_form, unit_form, with_part, negated_part, part_alone, part_joined, parts_joined, joined, all_joined, parts_scaled}
-use Rattle.nz_spec.specs.FormOf.{is_opened, constants_product, open_form, divided_by, divided_by_each, head_form, form_of, forms_of, UnitsAreParts}
-use Rattle.nz_spec.specs.Order.{post_order, post_orders}
-use Rattle.nz_spec.specs.Literal.{term_literal, is_at_most, is_below, Literal}
-use Rattle.nz_spec.specs.LinearLiteral.{parts_of}
-use Rattle.nz_spec.specs.Farkas.{Multiple, Bound, bound_of, bound_scaled, bounds_joined, multiples_onto}
+use Rattle.nz_spec.specs.numbers.Computation.{Computation, operated, at_once, turned_into, and_then}
+use Rattle.nz_spec.specs.terms.Term.{Head, sum, difference, product, quotient, to_real, Term, apply, Terms, no_terms, terms, is_zero}
+use Rattle.nz_spec.specs.terms.Linear.{head_constant, constant_values}
+use Rattle.nz_spec.specs.terms.Same.{are_same_term}
+use Rattle.nz_spec.specs.terms.Form.{Numbering, Part, Form, constant_form, unit_form, with_part, negated_part, part_alone, part_joined, parts_joined, joined, all_joined, parts_scaled}
+use Rattle.nz_spec.specs.terms.FormOf.{is_opened, constants_product, open_form, divided_by, divided_by_each, head_form, form_of, forms_of, UnitsAreParts}
+use Rattle.nz_spec.specs.terms.Order.{post_order, post_orders}
+use Rattle.nz_spec.specs.clauses.Literal.{term_literal, is_at_most, is_below, Literal}
+use Rattle.nz_spec.specs.clauses.LinearLiteral.{parts_of}
+use Rattle.nz_spec.specs.clauses.Farkas.{Multiple, Bound, bound_of, bound_scaled, bounds_joined, multiples_onto}
 
 module _ (P : Term → Type 0) where
   abbrev pub OverUnits : List Part → Type 0

@@ -5,9 +5,9 @@ use Rattle.nz_fractions.proofs.Laws.{=ℚ-from_same}
 use Rattle.nz_fractions.proofs.Arithmetic.{+ℚ-zero}
 use Rattle.nz_fractions.proofs.Identities.{times_zero}
 use Rattle.nz_fractions.proofs.Solver.{◌∙ℚ◌, plus_right, times_right}
-use Rattle.nz_spec.specs.Infinitesimal.{Infinitesimal, ◌=δ◌}
-use Rattle.nz_spec.specs.Basis.{Coefficients, weighted}
-use Rattle.nz_spec.specs.Bland.{sum_at, zero_infinitesimal}
+use Rattle.nz_spec.specs.numbers.Infinitesimal.{Infinitesimal, ◌=δ◌}
+use Rattle.nz_spec.specs.simplex.Basis.{Coefficients, weighted}
+use Rattle.nz_spec.specs.simplex.Bland.{sum_at, zero_infinitesimal}
 use Rattle.nz_spec.proofs.BasisSums.{sum-same}
 
 module _ (n : ℕ) (c : Coefficients) (x y : ℕ → Fraction) (same : (k : ℕ) → k < n → y k ≡ x k) (zeros : (k : ℕ) → n ≤ k → y k ≡ whole (pos 0)) where

@@ -11,8 +11,8 @@ use Rattle.std.proofs.lemmas.Bool.{and_from, and_parts}
 use Rattle.std.proofs.lemmas.List.Elements.{All-head, All-tail}
 use Rattle.nz_lists.proofs.Places.{drop_found}
 use Rattle.nz_lists.proofs.Tests.{same_tests}
-use Rattle.nz_spec.specs.Term.{Sort, bool_sort, int_sort, real_sort, are_same_sort, Constant, are_same_constant, Head, constant, constant_of, falsum, Term, apply, no_terms, terms, Value, default_value}
-use Rattle.nz_spec.specs.Table.{Node, terms_at, listed_term, with_term, term_in, HasItsArguments, IsTable, OneNumber, TermOfNode, TermStays, TermStaysInFront, TermsStay, is_node_of, listed_value, assignment_by, AssignsByNumber}
+use Rattle.nz_spec.specs.terms.Term.{Sort, bool_sort, int_sort, real_sort, are_same_sort, Constant, are_same_constant, Head, constant, constant_of, falsum, Term, apply, no_terms, terms, Value, default_value}
+use Rattle.nz_spec.specs.terms.Table.{Node, terms_at, listed_term, with_term, term_in, HasItsArguments, IsTable, OneNumber, TermOfNode, TermStays, TermStaysInFront, TermsStay, is_node_of, listed_value, assignment_by, AssignsByNumber}
 use Rattle.nz_spec.proofs.Sorted.{same_sorts}
 
 -- what a number past the end stands for

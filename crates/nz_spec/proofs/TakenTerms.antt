@@ -2,13 +2,13 @@
 use Rattle.std.proofs.Common.{◌≡◌, true, false, ◌⊎◌, inl, inr, [], refl, sym, ap, ◌∙◌, subst, arith, Contains}
 use Rattle.std.proofs.lemmas.Bool.{and_from, and_parts}
 use Rattle.std.proofs.lemmas.List.Elements.{Contains-append_cases, Contains-push_cases}
-use Rattle.nz_spec.specs.Term.{Sort, bool_sort, is_bool, Head, constant, parameter, integer, decimal_number, equality, choice, Term, apply, Terms, no_terms, terms}
-use Rattle.nz_spec.specs.Order.{post_order, post_orders}
-use Rattle.nz_spec.specs.Linear.{is_linear, are_linear, is_linear_node, constant_values}
-use Rattle.nz_spec.specs.Elaboration.{Operator, true_operator, false_operator, not_operator, and_operator, or_operator, xor_operator, equals_operator, ite_operator, has_sort, all_terms, branches, operands_of, operator_head}
-use Rattle.nz_spec.specs.Gates.{gate_clauses, is_boolean_term, HasBooleanArguments}
-use Rattle.nz_spec.specs.WellSorted.{AreOperands, IsSortedHead, AreWellSorted}
-use Rattle.nz_spec.specs.Taken.{HaveTakenHeads, IsTaken, NormalTermsAreTaken, TakenTermsAreInOrder}
+use Rattle.nz_spec.specs.terms.Term.{Sort, bool_sort, is_bool, Head, constant, parameter, integer, decimal_number, equality, choice, Term, apply, Terms, no_terms, terms}
+use Rattle.nz_spec.specs.terms.Order.{post_order, post_orders}
+use Rattle.nz_spec.specs.terms.Linear.{is_linear, are_linear, is_linear_node, constant_values}
+use Rattle.nz_spec.specs.terms.Operators.{Operator, true_operator, false_operator, not_operator, and_operator, or_operator, xor_operator, equals_operator, ite_operator, has_sort, all_terms, branches, operands_of, operator_head}
+use Rattle.nz_spec.specs.clauses.Gates.{gate_clauses, is_boolean_term, HasBooleanArguments}
+use Rattle.nz_spec.specs.terms.WellSorted.{AreOperands, IsSortedHead, AreWellSorted}
+use Rattle.nz_spec.specs.terms.Taken.{HaveTakenHeads, IsTaken, NormalTermsAreTaken, TakenTermsAreInOrder}
 use Rattle.nz_spec.proofs.SortedArithmetic.{each_has, sorted_terms_are_arithmetic}
 use Rattle.nz_spec.proofs.NormalSorts.{of_sort, first_has, normal_stays_sorted}
 use Rattle.nz_spec.proofs.NormalHeads.{normal_heads}

@@ -12,18 +12,18 @@ use Rattle.nz_fractions.proofs.Arithmetic.{+ℚ-zero}
 use Rattle.nz_fractions.proofs.Identities.{zero_left, zero_times, one_times, neg-neg}
 use Rattle.nz_fractions.proofs.Solver.{◌∙ℚ◌, solve, plus_left, plus_right}
 use Rattle.nz_fractions.proofs.Bounds.{moved_right, scaled, Within, within_alike, moved_right_lt}
-use Rattle.nz_spec.specs.Infinitesimal.{Infinitesimal, infinitesimal_cmp, at}
-use Rattle.nz_spec.specs.Term.{Term}
-use Rattle.nz_spec.specs.Form.{Part, negated_part}
-use Rattle.nz_spec.specs.Literal.{Literal, term_literal, is_at_most, is_below, are_same_parts}
-use Rattle.nz_spec.specs.Basis.{Valuation, worth, form_at}
-use Rattle.nz_spec.specs.BasisMoves.{AreNumbered}
-use Rattle.nz_spec.specs.Bland.{Point, is_nonbasic, HasBasis, Side, lower_side, upper_side, other_side, bound_on, at_most_bound, at_least_bound}
-use Rattle.nz_spec.specs.PositionMoves.{is_outside}
-use Rattle.nz_spec.specs.LiteralBounds.{FormBound, bounded_from, bound_on_side, sum_bound, bound_said, are_same_side, tighter_of, with_bound_said, tightest, position_under}
-use Rattle.nz_spec.specs.Farkas.{bound_of}
-use Rattle.nz_spec.specs.ToldBounds.{IsWithinAt, AreWithinAt, ToldBoundsAreMet}
-use Rattle.nz_spec.specs.Deciding.{IsMet}
+use Rattle.nz_spec.specs.numbers.Infinitesimal.{Infinitesimal, infinitesimal_cmp, at}
+use Rattle.nz_spec.specs.terms.Term.{Term}
+use Rattle.nz_spec.specs.terms.Form.{Part, negated_part}
+use Rattle.nz_spec.specs.clauses.Literal.{Literal, term_literal, is_at_most, is_below, are_same_parts}
+use Rattle.nz_spec.specs.simplex.Basis.{Valuation, worth, form_at}
+use Rattle.nz_spec.specs.simplex.BasisMoves.{AreNumbered}
+use Rattle.nz_spec.specs.simplex.Bland.{Point, is_nonbasic, HasBasis, Side, lower_side, upper_side, other_side, bound_on, at_most_bound, at_least_bound}
+use Rattle.nz_spec.specs.simplex.PositionMoves.{is_outside}
+use Rattle.nz_spec.specs.simplex.LiteralBounds.{FormBound, bounded_from, bound_on_side, sum_bound, bound_said, are_same_side, tighter_of, with_bound_said, tightest, position_under}
+use Rattle.nz_spec.specs.clauses.Farkas.{bound_of}
+use Rattle.nz_spec.specs.laws.ToldBounds.{IsWithinAt, AreWithinAt, ToldBoundsAreMet}
+use Rattle.nz_spec.specs.laws.Deciding.{IsMet}
 use Rattle.nz_spec.proofs.InfinitesimalOrder.{AtMost, at_most_parts, at_most_trans, =δ_refl}
 use Rattle.nz_spec.proofs.BasisValues.{solutions_are_worth}
 use Rattle.nz_spec.proofs.BlandRefutes.{IsPast, not_outside, past-equal}

@@ -6,17 +6,17 @@ use Rattle.std.proofs.Math.Bool.{or-false}
 use Rattle.std.proofs.lemmas.Bool.{and_parts}
 use Rattle.std.proofs.lemmas.Int.{ints}
 use Rattle.nz_fractions.specs.Fraction.{Fraction, whole, ◌=ℚ◌, ◌≤ℚ◌, ◌<ℚ◌, ◌+ℚ◌, neg_ℚ, ◌*ℚ◌, fraction_cmp, fraction_le, fraction_lt, floor, outcome, Sum, Difference}
-use Rattle.nz_spec.specs.Computation.{Computation, at_once, in_turn}
-use Rattle.nz_spec.specs.Term.{int_sort, real_sort, Head, choice, integer_quotient, modulus, magnitude, to_int, Term, apply, Terms, no_terms, terms, Value, Assignment, is_true, number_of, value_of, is_zero, div_of, mod_of, IsDivision, integer_of, IsOfSort}
-use Rattle.nz_spec.specs.Linear.{constant_value, are_divisors, is_linear}
-use Rattle.nz_spec.specs.Model.{IsAssignment}
-use Rattle.nz_spec.specs.Form.{Numbering, Form, unit_form, negated_form, joined, unit_value, parts_value, form_value}
-use Rattle.nz_spec.specs.FormOf.{form_of}
-use Rattle.nz_spec.specs.Literal.{is_literal_true, Clause, IsClauseTrue}
-use Rattle.nz_spec.specs.LinearLiteral.{is_at_most_zero}
-use Rattle.nz_spec.specs.Gates.{holds, fails}
-use Rattle.nz_spec.specs.Links.{minus, at_most_literal, IsArithmetic}
-use Rattle.nz_spec.specs.Units.{at_most_number, below_number, times_unit, greatest_remainder, quotient_rows, remainder_rows, magnitude_rows, unit_clauses, UnitsAreTrue}
+use Rattle.nz_spec.specs.numbers.Computation.{Computation, at_once, in_turn}
+use Rattle.nz_spec.specs.terms.Term.{int_sort, real_sort, Head, choice, integer_quotient, modulus, magnitude, to_int, Term, apply, Terms, no_terms, terms, Value, Assignment, is_true, number_of, value_of, is_zero, div_of, mod_of, IsDivision, integer_of, IsOfSort}
+use Rattle.nz_spec.specs.terms.Linear.{constant_value, are_divisors, is_linear}
+use Rattle.nz_spec.specs.terms.Model.{IsAssignment}
+use Rattle.nz_spec.specs.terms.Form.{Numbering, Form, unit_form, negated_form, joined, unit_value, parts_value, form_value}
+use Rattle.nz_spec.specs.terms.FormOf.{form_of}
+use Rattle.nz_spec.specs.clauses.Literal.{is_literal_true, Clause, IsClauseTrue}
+use Rattle.nz_spec.specs.clauses.LinearLiteral.{is_at_most_zero}
+use Rattle.nz_spec.specs.clauses.Gates.{holds, fails}
+use Rattle.nz_spec.specs.clauses.Links.{minus, at_most_literal, IsArithmetic}
+use Rattle.nz_spec.specs.clauses.Units.{at_most_number, below_number, times_unit, greatest_remainder, quotient_rows, remainder_rows, magnitude_rows, unit_clauses, UnitsAreTrue}
 use Rattle.nz_spec.proofs.Divisions.{divides}
 use Rattle.nz_fractions.proofs.Laws.{=ℚ_refl, =ℚ_sym, =ℚ_trans, =ℚ-from_same, ≤ℚ-from_eq, ≤ℚ_refl, ≤ℚ_trans, <ℚ-≤ℚ_trans, ≤ℚ-<ℚ_trans}
 use Rattle.nz_fractions.proofs.Order.{fraction_eq-same, lt_is, le_is}
@@ -27,7 +27,7 @@ use Rattle.nz_spec.proofs.GateTruths.{implies}
 use Rattle.nz_spec.proofs.IntegerSums.{whole_sum, whole_product, whole_negated, whole_le, whole_lt, from_whole_lt, whole_value}
 use Rattle.nz_spec.proofs.LinkTruths.{le_alike, lt_alike, otherwise, moved_over, at_most_is}
 use Rattle.nz_spec.proofs.Literals.{or_first, or_second}
-use Rattle.nz_fractions.proofs.Rounding.{rounds}
+use Rattle.nz_fractions.proofs.FloorsAndCeilings.{rounds}
 use Rattle.nz_fractions.proofs.Identities.{neg-neg, zero_left}
 use Rattle.nz_fractions.proofs.Bounds.{lt-carried}
 

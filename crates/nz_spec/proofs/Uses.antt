@@ -2,8 +2,9 @@
 use Rattle.std.proofs.Common.{◌≡◌, ℕ, zero, suc, Bool, true, false, ◌&&◌, List, [], ◌∷◌, Option, Some, None, refl, ap, ◌∙◌, subst, if◌then◌else◌}
 use Rattle.std.specs.Prelude.{slice_get, unwrap_or}
 use Rattle.nz_lists.proofs.Options.{IfFound, map_found}
-use Rattle.nz_spec.specs.Term.{Sort, int_sort, real_sort, are_same_sort, Head, parameter, to_real, Term, apply, Terms, no_terms, terms, Value, Assignment, head_value, value_of, values_of}
-use Rattle.nz_spec.specs.Elaboration.{has_sort, as_real, placed, term_at, terms_onto, all_placed, instance_node, instance_of, instances_of, Definition, expansion, head_value_under, body_value, body_values, UseHasBodyValue}
+use Rattle.nz_spec.specs.terms.Term.{Sort, int_sort, real_sort, are_same_sort, Head, parameter, to_real, Term, apply, Terms, no_terms, terms, Value, Assignment, head_value, value_of, values_of}
+use Rattle.nz_spec.specs.terms.Operators.{has_sort, as_real, placed}
+use Rattle.nz_spec.specs.terms.Definitions.{term_at, terms_onto, all_placed, instance_node, instance_of, instances_of, Definition, expansion, head_value_under, body_value, body_values, UseHasBodyValue}
 
 module _ (a : Assignment) where
   -- ---- Instances

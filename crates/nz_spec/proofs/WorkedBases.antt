@@ -2,7 +2,7 @@
 use Rattle.std.proofs.Common.{refl}
 use Rattle.nz_ints.specs.Division.{gcd_within, gcd}
 use Rattle.nz_fractions.specs.Fraction.{denominator, over, ◌+ℚ◌, neg_ℚ, ◌*ℚ◌, ◌/ℚ◌, flipped, reciprocal, reduce, exact, outcome, fraction_eq}
-use Rattle.nz_spec.specs.WorkedBasis.{HasJoiningRow, HasExchange}
+use Rattle.nz_spec.specs.worked.WorkedBasis.{HasJoiningRow, HasExchange}
 
 pub worked_joining : HasJoiningRow
 unfolding denominator over ◌+ℚ◌ reduce gcd gcd_within exact outcome

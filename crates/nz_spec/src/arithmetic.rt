@@ -1,11 +1,11 @@
 //! Laws of the steps of linear arithmetic.
-ghost use Rattle.nz_spec.specs.LinearLiteral.{TightSaysAsMuch};
-ghost use Rattle.nz_spec.specs.WellSorted.{SortedTermsAreArithmetic};
-ghost use Rattle.nz_spec.specs.Links.{LinksAreTrue};
-ghost use Rattle.nz_spec.specs.Units.{UnitsAreTrue};
-ghost use Rattle.nz_spec.specs.Farkas.{FarkasClausesAreTrue};
-ghost use Rattle.nz_spec.specs.Cuts.{BranchClausesAreTrue, CutClausesAreTrue};
-ghost use Rattle.nz_spec.specs.WorkedArithmetic.{HasCuts, HasGap, HasLinkTable, HasSums, HasUnitTable, HasWideSteps};
+ghost use Rattle.nz_spec.specs.clauses.LinearLiteral.{TightSaysAsMuch};
+ghost use Rattle.nz_spec.specs.terms.WellSorted.{SortedTermsAreArithmetic};
+ghost use Rattle.nz_spec.specs.clauses.Links.{LinksAreTrue};
+ghost use Rattle.nz_spec.specs.clauses.Units.{UnitsAreTrue};
+ghost use Rattle.nz_spec.specs.clauses.Farkas.{FarkasClausesAreTrue};
+ghost use Rattle.nz_spec.specs.clauses.Cuts.{BranchClausesAreTrue, CutClausesAreTrue};
+ghost use Rattle.nz_spec.specs.worked.WorkedArithmetic.{HasCuts, HasGap, HasLinkTable, HasSums, HasUnitTable, HasWideSteps};
 
 /// Where a sum of multiples of literals is a false bound on 0, one of the literals is false.
 pub fn farkas_clauses_are_true()

@@ -1,10 +1,10 @@
 //! Laws of bases of linear forms.
-ghost use Rattle.nz_spec.specs.Basis.{CoefficientsAreUnique, NonbasicFormIsItself, ValueIsWorth, WorthIsByUnits};
-ghost use Rattle.nz_spec.specs.BasisMoves.{ExchangeKeepsBasis, JoinsKeepBasis, SolutionsAreWorth, SolutionsStay};
-ghost use Rattle.nz_spec.specs.Bland.{BoundsSayWhatTheyMean, CheckStepsKeepBasis, ClimbStepsKeepBasis, NoHelpRefutes, PositionsHaveValues, RowsTell, SumMoves, ValueIsComputed};
-ghost use Rattle.nz_spec.specs.BlandRuns.{NoPostureReturns, RunsAreShort};
-ghost use Rattle.nz_spec.specs.PositionMoves.{MovesKeepReady};
-ghost use Rattle.nz_spec.specs.WorkedBasis.{HasExchange, HasJoiningRow};
+ghost use Rattle.nz_spec.specs.simplex.Basis.{CoefficientsAreUnique, NonbasicFormIsItself, ValueIsWorth, WorthIsByUnits};
+ghost use Rattle.nz_spec.specs.simplex.BasisMoves.{ExchangeKeepsBasis, JoinsKeepBasis, SolutionsAreWorth, SolutionsStay};
+ghost use Rattle.nz_spec.specs.simplex.Bland.{BoundsSayWhatTheyMean, CheckStepsKeepBasis, ClimbStepsKeepBasis, NoHelpRefutes, PositionsHaveValues, RowsTell, SumMoves, ValueIsComputed};
+ghost use Rattle.nz_spec.specs.laws.BlandRuns.{NoPostureReturns, RunsAreShort};
+ghost use Rattle.nz_spec.specs.simplex.PositionMoves.{MovesKeepReady};
+ghost use Rattle.nz_spec.specs.worked.WorkedBasis.{HasExchange, HasJoiningRow};
 
 /// Coefficients over a basis are unique.
 pub fn coefficients_are_unique()

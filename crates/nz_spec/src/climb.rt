@@ -1,5 +1,5 @@
 //! Laws of climbs.
-ghost use Rattle.nz_spec.specs.Climb.{RaysPassAll, VerticesBoundGoal};
+ghost use Rattle.nz_spec.specs.simplex.Climb.{RaysPassAll, VerticesBoundGoal};
 
 /// No assignment that makes the kept literals true is better for the goal than every member of a vertex.
 pub fn vertices_bound_goal()

@@ -1,8 +1,8 @@
 //! Laws of the terms that checks take, and of what decides them.
-ghost use Rattle.nz_spec.specs.Deciding.{TablesDecide};
-ghost use Rattle.nz_spec.specs.Taken.{NormalTermsAreTaken, TakenTermsAreInOrder};
-ghost use Rattle.nz_spec.specs.LiteralBounds.{TellingSetsBounds};
-ghost use Rattle.nz_spec.specs.ToldBounds.{ChosenFractionsKeepBounds, ToldBoundsAreMet};
+ghost use Rattle.nz_spec.specs.laws.Deciding.{TablesDecide};
+ghost use Rattle.nz_spec.specs.terms.Taken.{NormalTermsAreTaken, TakenTermsAreInOrder};
+ghost use Rattle.nz_spec.specs.simplex.LiteralBounds.{TellingSetsBounds};
+ghost use Rattle.nz_spec.specs.laws.ToldBounds.{ChosenFractionsKeepBounds, ToldBoundsAreMet};
 
 /// Which normal terms are taken.
 pub fn normal_terms_are_taken()

@@ -1,8 +1,8 @@
 //! Laws of literals, clauses, gates and derivations.
-ghost use Rattle.nz_spec.specs.Literal.{ClauseIsTrueTogether, NegationIsOther, ResolventIsTrue, TellsLiterals};
-ghost use Rattle.nz_spec.specs.Gates.{GatedTermsArePlain, GatesAreTrue, GatesDecide, NumberedGatesDecide, PlainTermsAreBoolean};
-ghost use Rattle.nz_spec.specs.Steps.{DerivationsGrow, DerivedClausesAreTrue, EmptyClauseRefutes};
-ghost use Rattle.nz_spec.specs.WorkedSteps.{HasGateTable, HasRefutation, HasResolvents};
+ghost use Rattle.nz_spec.specs.clauses.Literal.{ClauseIsTrueTogether, NegationIsOther, ResolventIsTrue, TellsLiterals};
+ghost use Rattle.nz_spec.specs.clauses.Gates.{GatedTermsArePlain, GatesAreTrue, GatesDecide, NumberedGatesDecide, PlainTermsAreBoolean};
+ghost use Rattle.nz_spec.specs.clauses.Steps.{DerivationsGrow, DerivedClausesAreTrue, EmptyClauseRefutes};
+ghost use Rattle.nz_spec.specs.worked.WorkedSteps.{HasGateTable, HasRefutation, HasResolvents};
 
 /// Two literals are one where the test says so.
 pub fn tells_literals()

@@ -1,6 +1,6 @@
 //! Laws of linear forms.
-ghost use Rattle.nz_spec.specs.FormOf.{FormHasValue, FormsAreSums, TermHasItsNumber, UnitsAreParts};
-ghost use Rattle.nz_spec.specs.FormPlace.{JoinsAtItsPlace};
+ghost use Rattle.nz_spec.specs.terms.FormOf.{FormHasValue, FormsAreSums, TermHasItsNumber, UnitsAreParts};
+ghost use Rattle.nz_spec.specs.laws.FormPlace.{JoinsAtItsPlace};
 
 /// The form of a linear term has the value of the term.
 pub fn form_has_value()

@@ -1,7 +1,7 @@
 //! Laws of infinitesimal numbers.
 ghost use Rattle.std.specs.Prelude.{List, pos};
 ghost use Rattle.nz_fractions.specs.Fraction.{Fraction, whole, ◌<ℚ◌, ◌≤ℚ◌};
-ghost use Rattle.nz_spec.specs.Infinitesimal.{AreOrdered, AreOrderedAt, InfinitesimalsAreOrdered, IsLeastLimit, Pair, chosen_delta};
+ghost use Rattle.nz_spec.specs.numbers.Infinitesimal.{AreOrdered, AreOrderedAt, InfinitesimalsAreOrdered, IsLeastLimit, Pair, chosen_delta};
 
 /// The fraction that is chosen for δ is the least of 1 and the limits of the pairs; it is above 0, and it and each smaller one
 /// above 0 keep the pairs in order.

@@ -1,6 +1,6 @@
-//! The definitions that every contract of this repository cites, and the laws about them.
+//! The definitions that every contract of this repository cites, but those of scripts and replies (`nz_script`), and the laws about them.
 //!
-//! A definition stands in `specs/`, over plain data. A law is the contract of a function with no body to run.
+//! A definition stands in `specs/`, over plain data, in folders by subject. A law is the contract of a function with nothing to compute.
 #![tactic(auto)]
 
 pub mod arithmetic;
@@ -9,15 +9,9 @@ pub mod climb;
 pub mod computation;
 pub mod deciding;
 pub mod derivation;
-pub mod elaboration;
-pub mod example;
 pub mod form;
 pub mod infinitesimal;
 pub mod pivots;
-pub mod reply;
-pub mod script;
 pub mod table;
 pub mod term;
-pub mod text;
-pub mod transcript;
 pub mod work;

@@ -1,5 +1,5 @@
 //! Laws of tables of shared terms.
-ghost use Rattle.nz_spec.specs.Table.{AssignsByNumber, OneNumber, TermOfNode, TermStays, TermStaysInFront, TermsStay};
+ghost use Rattle.nz_spec.specs.terms.Table.{AssignsByNumber, OneNumber, TermOfNode, TermStays, TermStaysInFront, TermsStay};
 
 /// Equal terms have equal numbers.
 pub fn one_number()

@@ -1,16 +1,17 @@
 //! Laws of terms.
-ghost use Rattle.nz_spec.specs.Term.{DecimalsAreNumbers, Divides, DividesOnce};
-ghost use Rattle.nz_spec.specs.Same.{TellsHeads, TellsTerms};
-ghost use Rattle.nz_spec.specs.Numerals.{NumeralsAreWhole};
-ghost use Rattle.nz_spec.specs.Normal.{NormalKeepsValue};
-ghost use Rattle.nz_spec.specs.OverConstants.{ConstantsTellValues};
-ghost use Rattle.nz_spec.specs.Elaboration.{InstanceKeepsNormal};
-ghost use Rattle.nz_spec.specs.WellSorted.{NormalStaysSorted, NormalTermsAreGated, OperandsAreSorted};
-ghost use Rattle.nz_spec.specs.TruthTables.{HasNormalTerms, HasPairs, HasTriples};
-ghost use Rattle.nz_spec.specs.WorkedLinear.{HasConstants, HasLinearTerms};
-ghost use Rattle.nz_spec.specs.WorkedListings.{HasListings};
-ghost use Rattle.nz_spec.specs.WorkedNormals.{HasChains, HasGroups};
-ghost use Rattle.nz_spec.specs.WorkedNumbers.{HasArithmetic, HasComparisons, HasDivisions, HasRounding};
+ghost use Rattle.nz_spec.specs.terms.Definitions.{UseHasBodyValue, InstanceKeepsNormal};
+ghost use Rattle.nz_spec.specs.terms.Term.{DecimalsAreNumbers, Divides, DividesOnce};
+ghost use Rattle.nz_spec.specs.terms.Same.{TellsHeads, TellsTerms};
+ghost use Rattle.nz_spec.specs.laws.Numerals.{NumeralsAreWhole};
+ghost use Rattle.nz_spec.specs.terms.Normal.{NormalKeepsValue};
+ghost use Rattle.nz_spec.specs.terms.OverConstants.{ConstantsTellValues};
+ghost use Rattle.nz_spec.specs.terms.WellSorted.{NormalStaysSorted, NormalTermsAreGated, OperandsAreSorted, SortsTell};
+ghost use Rattle.nz_spec.specs.worked.TruthTables.{HasPairs, HasTriples};
+
+/// The value of a use of a definition is that of its body under the values of the arguments.
+pub fn use_has_body_value()
+    ensures value { UseHasBodyValue }
+{}
 
 /// A term and its normal term have one value.
 pub fn normal_keeps_value()
@@ -30,6 +31,11 @@ pub fn instance_keeps_normal()
 /// A normal term that holds no number is one of the gate table.
 pub fn normal_terms_are_gated()
     ensures gated { NormalTermsAreGated }
+{}
+
+/// Of sorts and of well sorted terms: two sorts are one where the test says so, operands go by their sorts, and a term has a value of its sort.
+pub fn sorts_tell()
+    ensures tell { SortsTell }
 {}
 
 /// The normal term of a well sorted term is well sorted, and of its sort.
@@ -72,30 +78,4 @@ pub fn numerals_are_whole()
 pub fn worked_values()
     ensures pairs { HasPairs }
     ensures triples { HasTriples }
-{}
-
-/// Normal terms, by the definitions alone.
-pub fn worked_normal_terms()
-    ensures terms { HasNormalTerms }
-    ensures chains { HasChains }
-    ensures groups { HasGroups }
-{}
-
-/// Values of numbers, by the definitions alone.
-pub fn worked_numbers()
-    ensures divisions { HasDivisions }
-    ensures rounding { HasRounding }
-    ensures arithmetic { HasArithmetic }
-    ensures comparisons { HasComparisons }
-{}
-
-/// Which terms are linear, and what constant terms come to, by the definitions alone.
-pub fn worked_linear_terms()
-    ensures linear { HasLinearTerms }
-    ensures constants { HasConstants }
-{}
-
-/// The order in which a term list takes terms, by the definitions alone.
-pub fn worked_listings()
-    ensures listings { HasListings }
 {}

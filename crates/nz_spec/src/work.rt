@@ -1,5 +1,5 @@
 //! Laws of work lists.
-ghost use Rattle.nz_spec.specs.Legal.{LegalWorkDoesNotRepeat, LegalWorkGoesOn, LegalWorkMayBegin, MoreTermsMayBegin, PivotsAreLegal};
+ghost use Rattle.nz_spec.specs.search.Legal.{LegalWorkDoesNotRepeat, LegalWorkGoesOn, LegalWorkMayBegin, MoreTermsMayBegin, PivotsAreLegal};
 
 /// A legal list goes on by a line that may follow.
 pub fn legal_work_goes_on()

@@ -3,20 +3,20 @@ use Rattle.std.proofs.Common.{Vec, Global, ◌≡◌, ℕ, ◌+◌, ◌<◌, fal
 use Rattle.std.specs.Prelude.{All, vec_len}
 use Rattle.std.proofs.lemmas.List.{length-append, length-map, map-append, map_push}
 use Rattle.nz_fractions.specs.Fraction.{Fraction, first_wide}
-use Rattle.nz_spec.specs.BasisMoves.{JoinsKeepBasis}
-use Rattle.nz_spec.specs.FormOf.{TermHasItsNumber}
-use Rattle.nz_spec.specs.Table.{IsTable, Node}
+use Rattle.nz_spec.specs.simplex.BasisMoves.{JoinsKeepBasis}
+use Rattle.nz_spec.specs.terms.FormOf.{TermHasItsNumber}
+use Rattle.nz_spec.specs.terms.Table.{IsTable, Node}
 use Rattle.nz_lin.specs.declared.form.Part.{Part}
 use Rattle.nz_lin.specs.Forms.{AreUnits}
-use Rattle.nz_tab.specs.declared.tab.TabStop.{TabStop}
+use Rattle.nz_term.specs.declared.stops.ArithmeticStop.{ArithmeticStop}
 use Rattle.nz_tab.specs.Joins.{HasOwnRow, IsFormJoined, Joins}
 use Rattle.nz_tab.specs.Rows.{Grid}
 use Rattle.nz_tab.specs.Sums.{HasJoined, HasRoomForSum, IsSummed, IsWidened, SumJoins, sum_over}
 use Rattle.nz_tab.specs.Tables.{IsStored, Table}
 use Rattle.nz_tab.specs.Units.{AreNumbers, addends, is_unit_form, new_units, with_units}
-use Rattle.nz_tab.proofs.Numbering.{all_addends_within}
-use Rattle.nz_tab.proofs.Storing.{items, stored_sum}
-use Rattle.nz_tab.proofs.Summing.{form_joined, sum_joined, sum_stopped}
+use Rattle.nz_tab.proofs.UnitNumbers.{all_addends_within}
+use Rattle.nz_tab.proofs.TableStorage.{items, stored_sum}
+use Rattle.nz_tab.proofs.JoinedSums.{form_joined, sum_joined, sum_stopped}
 
 -- the units that join, how many they are, and the addends
 pub record IsPrepared (forms : List (List Part)) (f : List Part) (us : List (Vec Part Global)) (count : ℕ) (qs : List (ℕ × Fraction)) : Type 0 where
@@ -42,7 +42,7 @@ module _ (forms : List (List Part)) (f : List Part) (us : List (Vec Part Global)
       (subst (λ (m : ℕ). All (λ (a : ℕ × Fraction). a.0 < m) (addends forms (length forms) f)) bound (all_addends_within forms f))
 
   -- it stops where the row stops
-  pub stopped : (X : Type 0) (new : Grid) (after : Table) (s : TabStop) → SumJoins {X = X} old new count qs (Err s) → TermHasItsNumber → (ns : List Node) → IsTable ns → AreUnits ns f
+  pub stopped : (X : Type 0) (new : Grid) (after : Table) (s : ArithmeticStop) → SumJoins {X = X} old new count qs (Err s) → TermHasItsNumber → (ns : List Node) → IsTable ns → AreUnits ns f
       → Joins ns (record { forms = forms; grid = old }) after f (Err s)
   stopped X new after s joined law ns table units =
       sum_stopped law forms f old marks ns table units X new after s

@@ -6,8 +6,8 @@ use Rattle.std.proofs.lemmas.List.{get_or_past, length-map, length-append, get_o
 use Rattle.std.proofs.lemmas.Nat.{mul-le}
 use Rattle.nz_lists.proofs.Numbers.{below_or_past, equal-number, same-number}
 use Rattle.nz_fractions.specs.Fraction.{whole}
-use Rattle.nz_spec.specs.Basis.{Coefficients}
-use Rattle.nz_spec.specs.BasisMoves.{numbers, exchanged}
+use Rattle.nz_spec.specs.simplex.Basis.{Coefficients}
+use Rattle.nz_spec.specs.simplex.BasisMoves.{numbers, exchanged}
 use Rattle.nz_tab.specs.Rows.{DenseRow, Grid, coefficient, is_marked, is_nonbasic, place_in, row_in, rows_of}
 use Rattle.nz_tab.proofs.Numbers.{count_both}
 

@@ -3,8 +3,8 @@ use Rattle.std.proofs.Common.{◌≡◌, ℕ, ◌+◌, ◌<◌, ◌≤◌, List,
 use Rattle.std.proofs.lemmas.Grind.{flat_map-append}
 use Rattle.std.proofs.lemmas.List.{append-nil, append_assoc, take_more, drop_more, take_all, take-append-drop}
 use Rattle.nz_fractions.specs.Fraction.{Fraction, Operation, first_wide}
-use Rattle.nz_spec.specs.Computation.{Computation}
-use Rattle.nz_tab.proofs.Firsts.{first_wide-none, first_wide-some, no_operation}
+use Rattle.nz_spec.specs.numbers.Computation.{Computation}
+use Rattle.nz_fractions.proofs.FirstOperations.{first_wide-none, first_wide-some, no_operation}
 use Rattle.nz_tab.specs.Comes.{IsDone}
 use Rattle.nz_tab.specs.Each.{alone, behind, each}
 

@@ -7,15 +7,15 @@ use Rattle.std.proofs.lemmas.Bool.{and_parts}
 use Rattle.std.proofs.lemmas.List.{get_or-set_other, get_or-set_same, length-set}
 use Rattle.nz_lists.proofs.Numbers.{equal-number, other-number, same-number}
 use Rattle.nz_fractions.specs.Fraction.{Fraction, Operation, first_wide}
-use Rattle.nz_spec.specs.Basis.{Coefficients}
-use Rattle.nz_spec.specs.BasisMoves.{Rows, exchange, exchanged, numbers, replaced, solved}
-use Rattle.nz_spec.specs.Term.{is_zero}
+use Rattle.nz_spec.specs.simplex.Basis.{Coefficients}
+use Rattle.nz_spec.specs.simplex.BasisMoves.{Rows, exchange, exchanged, numbers, replaced, solved}
+use Rattle.nz_spec.specs.terms.Term.{is_zero}
 use Rattle.nz_tab.specs.Comes.{IsDone}
 use Rattle.nz_tab.specs.Exchanges.{changed_rows, changes, places_exchanged, solved_row}
 use Rattle.nz_tab.specs.Rows.{HaveSlots, IsGrid, basic, is_marked, place_in, size_of}
 use Rattle.nz_tab.proofs.Blocks.{marked_within, marks_exchanged}
-use Rattle.nz_tab.proofs.Exchanging.{changed_operations, entering, solved_operations, solved_same, without_enters, written_rows}
-use Rattle.nz_tab.proofs.Firsts.{first_wide-none, first_wide-some}
+use Rattle.nz_tab.proofs.ColumnExchange.{changed_operations, entering, solved_operations, solved_same, without_enters, written_rows}
+use Rattle.nz_fractions.proofs.FirstOperations.{first_wide-none, first_wide-some}
 use Rattle.nz_tab.proofs.Numbers.{count_both, count_fewer, count_more}
 
 -- ---- Sizes

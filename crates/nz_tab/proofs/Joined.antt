@@ -5,10 +5,10 @@ use Rattle.std.specs.List.{AllByRecursion}
 use Rattle.std.proofs.Math.Path.{fun_ext}
 use Rattle.std.proofs.lemmas.List.{get_or_past, length-map, length_push}
 use Rattle.nz_lists.proofs.Numbers.{below_or_past, below_same_or_past, equal-number, other-number, below, not_below}
-use Rattle.nz_spec.specs.FormOf.{TermHasItsNumber, number_in}
-use Rattle.nz_spec.specs.Table.{Node, term_in}
-use Rattle.nz_spec.specs.Basis.{IsBasis, IsRow}
-use Rattle.nz_spec.specs.BasisMoves.{AreRows, JoinsKeepBasis, with_nonbasic}
+use Rattle.nz_spec.specs.terms.FormOf.{TermHasItsNumber, number_in}
+use Rattle.nz_spec.specs.terms.Table.{Node, term_in}
+use Rattle.nz_spec.specs.simplex.Basis.{IsBasis, IsRow}
+use Rattle.nz_spec.specs.simplex.BasisMoves.{AreRows, JoinsKeepBasis, with_nonbasic}
 use Rattle.nz_lin.specs.declared.form.Part.{Part}
 use Rattle.nz_lin.specs.Forms.{AreUnits, parts_over}
 use Rattle.nz_tab.specs.Laws.{joined_to}
@@ -16,7 +16,7 @@ use Rattle.nz_tab.specs.Rows.{Grid, is_nonbasic, rows_of}
 use Rattle.nz_tab.specs.Sums.{IsWidened}
 use Rattle.nz_tab.specs.Tables.{HasRows, IsTableau, forms_over}
 use Rattle.nz_tab.specs.Units.{unit_number, unit_of}
-use Rattle.nz_tab.proofs.Uniting.{Holds, unit_joins}
+use Rattle.nz_tab.proofs.JoinedUnits.{Holds, unit_joins}
 
 -- ---- Fronts
 

@@ -7,7 +7,7 @@ use Rattle.std.proofs.lemmas.List.{append-nil, append_assoc, length_push, length
 use Rattle.std.specs.List.{AllByRecursion}
 use Rattle.nz_lists.proofs.Elements.{AllByRecursion-append}
 use Rattle.nz_lists.proofs.Numbers.{same_or_below}
-use Rattle.nz_spec.specs.BasisMoves.{numbers}
+use Rattle.nz_spec.specs.simplex.BasisMoves.{numbers}
 use Rattle.nz_tab.specs.Rows.{basic}
 
 -- ---- One number more
@@ -56,10 +56,6 @@ all_pass f (suc n) = by_test (f n) refl (all_pass f n)
     by_test : (b : Bool) → f n ≡ b → AllByRecursion (λ k. f k ≡ true) (numbers n f) → AllByRecursion (λ k. f k ≡ true) (if b then numbers n f ++ n ∷ [] else numbers n f)
     by_test true e h = AllByRecursion-append (λ k. f k ≡ true) (numbers n f) (n ∷ []) h (e, _)
     by_test false e h = h
-
-pub numbers-same : (f g : ℕ → Bool) → ((k : ℕ) → f k ≡ g k) → (n : ℕ) → numbers n f ≡ numbers n g
-numbers-same f g h zero = refl
-numbers-same f g h (suc n) = ap (λ (b : Bool). if b then numbers n f ++ n ∷ [] else numbers n f) (h n) ∙ ap (λ (l : List ℕ). if g n then l ++ n ∷ [] else l) (numbers-same f g h n)
 
 -- to go over the numbers that pass is to go over all, with nothing for the others
 module _ {A : Type 0} (h : ℕ → List A) (f : ℕ → Bool) where

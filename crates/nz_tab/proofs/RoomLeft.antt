@@ -5,11 +5,11 @@ use Rattle.std.proofs.Math.Path.{fun_ext}
 use Rattle.std.proofs.lemmas.List.{get_or_past, length_push}
 use Rattle.std.proofs.lemmas.Nat.{mul-le}
 use Rattle.nz_fractions.specs.Fraction.{Fraction}
-use Rattle.nz_spec.specs.BasisMoves.{numbers}
+use Rattle.nz_spec.specs.simplex.BasisMoves.{numbers}
 use Rattle.nz_tab.specs.Rows.{Grid, HasRoom, basic, is_nonbasic}
 use Rattle.nz_tab.specs.Sums.{HasRoomForSum, IsSummed, IsWidened}
 use Rattle.nz_tab.proofs.Numbers.{one_fails, one_passes}
-use Rattle.nz_tab.proofs.Widening.{numbers_all, numbers_below, numbers_none}
+use Rattle.nz_tab.proofs.AddedColumns.{numbers_all, numbers_below, numbers_none}
 
 module _ (old mid : Grid) (units : ℕ) (w : IsWidened old mid units) where
   abbrev n : ℕ

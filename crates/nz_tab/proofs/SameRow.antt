@@ -3,8 +3,8 @@ use Rattle.std.proofs.Common.{ℕ, zero, suc, Bool, List, length, pos}
 use Rattle.nz_fractions.specs.Fraction.{Fraction, whole, ◌=ℚ◌}
 use Rattle.nz_fractions.proofs.Arithmetic.{+ℚ-same, *ℚ-same}
 use Rattle.nz_fractions.proofs.Laws.{=ℚ_refl, =ℚ_sym, =ℚ_trans}
-use Rattle.nz_spec.specs.Form.{Part}
-use Rattle.nz_spec.specs.Basis.{Coefficients, IsRow, form_at, weighted, worth}
+use Rattle.nz_spec.specs.terms.Form.{Part}
+use Rattle.nz_spec.specs.simplex.Basis.{Coefficients, IsRow, form_at, weighted, worth}
 
 same_sums : (n : ℕ) (y : ℕ → Fraction) (c d : Coefficients) → ((k : ℕ) → c k =ℚ d k) → weighted n c y =ℚ weighted n d y
 same_sums zero y c d h = =ℚ_refl (whole (pos 0))

@@ -8,8 +8,8 @@ use Rattle.std.proofs.lemmas.List.Elements.{All-from_recursion}
 use Rattle.nz_lists.proofs.Elements.{AllByRecursion-append}
 use Rattle.nz_lists.proofs.Numbers.{equal-number, same-number, same_or_below}
 use Rattle.nz_fractions.specs.Fraction.{Fraction, whole}
-use Rattle.nz_spec.specs.Basis.{Coefficients}
-use Rattle.nz_spec.specs.BasisMoves.{numbers}
+use Rattle.nz_spec.specs.simplex.Basis.{Coefficients}
+use Rattle.nz_spec.specs.simplex.BasisMoves.{numbers}
 use Rattle.nz_tab.specs.Exchanges.{IsRewritten}
 use Rattle.nz_tab.specs.Rows.{AreSlotted, HaveSlots, coefficients_at, place_in, row_in, slot_at}
 use Rattle.nz_tab.proofs.Numbers.{all_pass, number_at, place_within}

@@ -4,11 +4,11 @@ use Rattle.std.proofs.Math.Path.{fun_ext}
 use Rattle.std.specs.Prelude.{OnErr, OnOk}
 use Rattle.std.proofs.lemmas.List.{length-map}
 use Rattle.nz_fractions.specs.Fraction.{◌=ℚ◌}
-use Rattle.nz_spec.specs.Form as spec
-use Rattle.nz_spec.specs.Table.{Node}
-use Rattle.nz_spec.specs.Term.{is_zero}
-use Rattle.nz_spec.specs.Basis.{IsBasis, IsRow}
-use Rattle.nz_spec.specs.BasisMoves.{AreRows, MayExchange, ExchangeKeepsBasis, exchange, exchanged}
+use Rattle.nz_spec.specs.terms.Form as spec
+use Rattle.nz_spec.specs.terms.Table.{Node}
+use Rattle.nz_spec.specs.terms.Term.{is_zero}
+use Rattle.nz_spec.specs.simplex.Basis.{IsBasis, IsRow}
+use Rattle.nz_spec.specs.simplex.BasisMoves.{AreRows, MayExchange, ExchangeKeepsBasis, exchange, exchanged}
 use Rattle.nz_fractions.proofs.Laws.{=ℚ_refl, =ℚ-from_same, =ℚ_sym, =ℚ_trans}
 use Rattle.nz_lin.specs.declared.form.Part.{Part}
 use Rattle.nz_lin.specs.Forms.{parts_over}

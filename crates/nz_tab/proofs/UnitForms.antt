@@ -9,11 +9,11 @@ use Rattle.std.proofs.lemmas.List.{get_or-map, get_or_default, length-map}
 use Rattle.std.proofs.lemmas.List.Elements.{All-from_recursion}
 use Rattle.nz_lists.proofs.Numbers.{equal-number, same-number}
 use Rattle.nz_fractions.specs.Fraction.{Fraction, whole}
-use Rattle.nz_spec.specs.Form as spec
-use Rattle.nz_spec.specs.FormOf.{TermHasItsNumber, number_in}
-use Rattle.nz_spec.specs.Table.{Node, term_in}
-use Rattle.nz_spec.specs.Term as spec_terms
-use Rattle.nz_spec.specs.Basis.{form_at}
+use Rattle.nz_spec.specs.terms.Form as spec
+use Rattle.nz_spec.specs.terms.FormOf.{TermHasItsNumber, number_in}
+use Rattle.nz_spec.specs.terms.Table.{Node, term_in}
+use Rattle.nz_spec.specs.terms.Term as spec_terms
+use Rattle.nz_spec.specs.simplex.Basis.{form_at}
 use Rattle.nz_term.specs.declared.heads.Sort as code
 use Rattle.nz_term.specs.declared.heads.Sort.TheVariants.{Bool as Boolean, Int, Real}
 use Rattle.nz_term.specs.Constants as sorts

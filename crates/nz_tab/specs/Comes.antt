@@ -1,7 +1,7 @@
 -- What comes of computations on lists of coefficients: a list, or the first operation that leaves the numbers.
 use Rattle.std.specs.Prelude.{◌≡◌, Some, None, Result, Ok, Err}
 use Rattle.nz_fractions.specs.Fraction.{Fraction, first_wide}
-use Rattle.nz_spec.specs.Computation.{Computation}
+use Rattle.nz_spec.specs.numbers.Computation.{Computation}
 use Rattle.nz_frac.specs.Operations.{operation_of}
 use Rattle.nz_frac.specs.declared.frac.Wide.{Wide}
 

@@ -1,8 +1,8 @@
 -- Computations for each of some numbers, whose lists stand one behind another.
 use Rattle.std.specs.Prelude.{ℕ, List, [], ◌∷◌, ◌++◌, flat_map}
 use Rattle.nz_fractions.specs.Fraction.{Fraction, Sum, Product}
-use Rattle.nz_spec.specs.Computation.{Computation, operated, turned_into, and_then}
-use Rattle.nz_spec.specs.Basis.{Coefficients}
+use Rattle.nz_spec.specs.numbers.Computation.{Computation, operated, turned_into, and_then}
+use Rattle.nz_spec.specs.simplex.Basis.{Coefficients}
 
 -- a list, and behind it what comes of a computation
 abbrev pub behind : List Fraction → Computation (List Fraction) → Computation (List Fraction)

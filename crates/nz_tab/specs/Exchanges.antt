@@ -1,10 +1,10 @@
 -- An exchange, coefficient by coefficient and row by row.
 use Rattle.std.specs.Prelude.{◌≡◌, ◌≢◌, ℕ, ◌<◌, ◌==◌, ◌&&◌, ◌++◌, Bool, true, false, not, All, List, [], ◌∷◌, length, set, slice_index_or, pos, if◌then◌else◌}
 use Rattle.nz_fractions.specs.Fraction.{Fraction, whole, neg_ℚ, Quotient}
-use Rattle.nz_spec.specs.Computation.{Computation, operated, at_once, turned_into, and_then}
-use Rattle.nz_spec.specs.Basis.{Coefficients}
-use Rattle.nz_spec.specs.BasisMoves.{Rows, exchange, exchanged, numbers}
-use Rattle.nz_spec.specs.Term.{is_zero}
+use Rattle.nz_spec.specs.numbers.Computation.{Computation, operated, at_once, turned_into, and_then}
+use Rattle.nz_spec.specs.simplex.Basis.{Coefficients}
+use Rattle.nz_spec.specs.simplex.BasisMoves.{Rows, exchange, exchanged, numbers}
+use Rattle.nz_spec.specs.terms.Term.{is_zero}
 use Rattle.nz_tab.specs.Each.{alone, each, with_multiple}
 use Rattle.nz_tab.specs.Rows.{Grid, coefficients_at, is_nonbasic, place_in, row_in, rows_of, slot_at}
 

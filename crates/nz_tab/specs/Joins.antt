@@ -1,17 +1,17 @@
 -- Forms that join a table: units that aren't there first, as nonbasic forms, and then the form itself as a basic one.
 use Rattle.std.specs.Prelude.{◌≡◌, ℕ, ◌<◌, Bool, true, List, [], ◌∷◌, ◌++◌, length, Some, None, unwrap_or, if◌then◌else◌, nat_lt, ⊤, Result, Ok, Err}
 use Rattle.nz_fractions.specs.Fraction.{first_wide}
-use Rattle.nz_spec.specs.Computation.{Computation}
-use Rattle.nz_spec.specs.FormOf.{number_in}
-use Rattle.nz_spec.specs.Table.{Node}
-use Rattle.nz_spec.specs.Term.{Term}
-use Rattle.nz_spec.specs.Basis.{Coefficients}
-use Rattle.nz_spec.specs.BasisMoves.{joining_row}
+use Rattle.nz_spec.specs.numbers.Computation.{Computation}
+use Rattle.nz_spec.specs.terms.FormOf.{number_in}
+use Rattle.nz_spec.specs.terms.Table.{Node}
+use Rattle.nz_spec.specs.terms.Term.{Term}
+use Rattle.nz_spec.specs.simplex.Basis.{Coefficients}
+use Rattle.nz_spec.specs.simplex.BasisMoves.{joining_row}
 use Rattle.nz_frac.specs.Operations.{operation_of}
 use Rattle.nz_lin.specs.declared.form.Part.{Part}
 use Rattle.nz_lin.specs.Forms.{parts_over}
-use Rattle.nz_tab.specs.declared.tab.TabStop.{TabStop}
-use Rattle.nz_tab.specs.declared.tab.TabStop.TheVariants.{Wide, Memory}
+use Rattle.nz_term.specs.declared.stops.ArithmeticStop.{ArithmeticStop}
+use Rattle.nz_term.specs.declared.stops.ArithmeticStop.TheVariants.{Wide, Memory}
 use Rattle.nz_tab.specs.Rows.{is_nonbasic, rows_of}
 use Rattle.nz_tab.specs.Tables.{Table}
 use Rattle.nz_tab.specs.Units.{unit_number, with_units}
@@ -52,12 +52,12 @@ pub record HasOwnRow (ns : List Node) (old new : Table) (f : List Part) (v : ℕ
   pub fits : first_wide (joining ns old f).operations ≡ None
 
 -- what comes of a form that joins: its row, or the first operation on it that leaves the numbers, or want of memory
-abbrev pub Joins : List Node → Table → Table → List Part → Result ℕ TabStop → Type 0
+abbrev pub Joins : List Node → Table → Table → List Part → Result ℕ ArithmeticStop → Type 0
 Joins ns old new f (Ok v) = HasOwnRow ns old new f v
 Joins ns old new f (Err (Wide w)) = first_wide (joining ns old f).operations ≡ Some (operation_of w)
 Joins ns old new f (Err Memory) = ⊤
 
 -- a unit alone takes no operation
-abbrev pub UnitJoins : Table → Table → List Part → Result ℕ TabStop → Type 0
+abbrev pub UnitJoins : Table → Table → List Part → Result ℕ ArithmeticStop → Type 0
 UnitJoins old new f (Ok v) = IsUnitJoined old new f v
 UnitJoins old new f (Err s) = s ≡ Memory

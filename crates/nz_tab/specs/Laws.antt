@@ -1,11 +1,11 @@
 -- Units among forms, over every table of terms.
 use Rattle.std.specs.Prelude.{◌≡◌, ℕ, ◌<◌, Bool, true, List, length, Contains, Some, None, if◌then◌else◌, nat_lt}
 use Rattle.std.specs.List.{AllByRecursion}
-use Rattle.nz_spec.specs.Basis.{IsBasis, form_at}
-use Rattle.nz_spec.specs.BasisMoves.{AreNumbered, AreRows, Rows}
-use Rattle.nz_spec.specs.Form as spec
-use Rattle.nz_spec.specs.Form.{unit_form}
-use Rattle.nz_spec.specs.Table.{Node, IsTable, term_in}
+use Rattle.nz_spec.specs.simplex.Basis.{IsBasis, form_at}
+use Rattle.nz_spec.specs.simplex.BasisMoves.{AreNumbered, AreRows, Rows}
+use Rattle.nz_spec.specs.terms.Form as spec
+use Rattle.nz_spec.specs.terms.Form.{unit_form}
+use Rattle.nz_spec.specs.terms.Table.{Node, IsTable, term_in}
 use Rattle.nz_lin.specs.declared.form.Part.{Part}
 use Rattle.nz_lin.specs.Forms.{AreUnits, parts_over}
 use Rattle.nz_tab.specs.Joins.{number_by}

@@ -1,8 +1,8 @@
 -- Rows as lists of coefficients. Each form has a slot: a nonbasic one a column, a basic one a row.
 use Rattle.std.specs.Prelude.{◌≡◌, ℕ, ◌*◌, ◌<◌, ◌≤◌, Bool, true, false, not, All, List, [], map, length, take, drop, slice_index_or, pos, if◌then◌else◌}
 use Rattle.nz_fractions.specs.Fraction.{Fraction, whole}
-use Rattle.nz_spec.specs.Basis.{Coefficients}
-use Rattle.nz_spec.specs.BasisMoves.{Rows, numbers}
+use Rattle.nz_spec.specs.simplex.Basis.{Coefficients}
+use Rattle.nz_spec.specs.simplex.BasisMoves.{Rows, numbers}
 
 -- ---- Numbers of forms
 

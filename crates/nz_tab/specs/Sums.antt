@@ -1,12 +1,12 @@
 -- Rows that grow: by units, and by a sum of forms.
 use Rattle.std.specs.Prelude.{◌≡◌, ℕ, zero, suc, ◌<◌, ◌≤◌, ◌+◌, ◌*◌, ◌==◌, ◌++◌, Bool, true, false, List, [], ◌∷◌, Result, Ok, Err, Some, None, ⊤, length, map, replicate, pos, if◌then◌else◌}
 use Rattle.nz_fractions.specs.Fraction.{Fraction, Sum, first_wide, outcome, whole}
-use Rattle.nz_spec.specs.Computation.{Computation, and_then, at_once}
-use Rattle.nz_spec.specs.Basis.{Coefficients}
-use Rattle.nz_spec.specs.BasisMoves.{Rows, numbers, plus_multiple}
+use Rattle.nz_spec.specs.numbers.Computation.{Computation, and_then, at_once}
+use Rattle.nz_spec.specs.simplex.Basis.{Coefficients}
+use Rattle.nz_spec.specs.simplex.BasisMoves.{Rows, numbers, plus_multiple}
 use Rattle.nz_frac.specs.Operations.{operation_of}
-use Rattle.nz_tab.specs.declared.tab.TabStop.{TabStop}
-use Rattle.nz_tab.specs.declared.tab.TabStop.TheVariants.{Wide, Memory}
+use Rattle.nz_term.specs.declared.stops.ArithmeticStop.{ArithmeticStop}
+use Rattle.nz_term.specs.declared.stops.ArithmeticStop.TheVariants.{Wide, Memory}
 use Rattle.nz_tab.specs.Rows.{Grid, IsGrid, basic, columns_of, is_nonbasic, rows_of}
 
 -- A form is added with its coefficient: a nonbasic one at its number, a basic one by its row.
@@ -74,7 +74,7 @@ pub record IsSummed (old new : Grid) (qs : List (ℕ × Fraction)) : Type 0 wher
   pub row : (k : ℕ) → is_nonbasic new k ≡ true → rows_of new (length old.marks) k ≡ (sum_over old qs).result k
 
 -- what comes of a sum that joins: its row, or the first operation on it that leaves the numbers, or want of memory
-abbrev pub SumPushed : {X : Type 0} → Grid → Grid → List (ℕ × Fraction) → Result X TabStop → Type 0
+abbrev pub SumPushed : {X : Type 0} → Grid → Grid → List (ℕ × Fraction) → Result X ArithmeticStop → Type 0
 SumPushed old new qs (Ok x) = IsSummed old new qs × (first_wide (sum_over old qs).operations ≡ None)
 SumPushed old new qs (Err (Wide w)) = first_wide (sum_over old qs).operations ≡ Some (operation_of w)
 SumPushed old new qs (Err Memory) = ⊤
@@ -84,7 +84,7 @@ abbrev pub HasJoined : Grid → Grid → ℕ → List (ℕ × Fraction) → Type
 HasJoined old new units qs = (mid : Grid) × IsWidened old mid units × IsSummed mid new qs × (first_wide (sum_over mid qs).operations ≡ None)
 
 -- what comes of it behind some units
-abbrev pub SumJoins : {X : Type 0} → Grid → Grid → ℕ → List (ℕ × Fraction) → Result X TabStop → Type 0
+abbrev pub SumJoins : {X : Type 0} → Grid → Grid → ℕ → List (ℕ × Fraction) → Result X ArithmeticStop → Type 0
 SumJoins old new units qs (Ok x) = HasJoined old new units qs
 SumJoins old new units qs (Err (Wide w)) = (mid : Grid) × IsWidened old mid units × (first_wide (sum_over mid qs).operations ≡ Some (operation_of w))
 SumJoins old new units qs (Err Memory) = ⊤

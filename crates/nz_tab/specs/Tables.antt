@@ -1,10 +1,10 @@
 -- Tables of forms over a basis.
 use Rattle.std.specs.Prelude.{ℕ, List, [], map, length, Option, ◌≡◌}
 use Rattle.std.specs.List.{AllByRecursion}
-use Rattle.nz_spec.specs.Form as spec
-use Rattle.nz_spec.specs.Table.{Node, IsTable}
-use Rattle.nz_spec.specs.Basis.{IsBasis}
-use Rattle.nz_spec.specs.BasisMoves.{AreRows}
+use Rattle.nz_spec.specs.terms.Form as spec
+use Rattle.nz_spec.specs.terms.Table.{Node, IsTable}
+use Rattle.nz_spec.specs.simplex.Basis.{IsBasis}
+use Rattle.nz_spec.specs.simplex.BasisMoves.{AreRows}
 use Rattle.nz_lin.specs.declared.form.Part.{Part}
 use Rattle.nz_lin.specs.Forms.{AreUnits, parts_over}
 use Rattle.nz_tab.specs.Exchanges.{IsExchanged}

@@ -1,9 +1,9 @@
 //! What an exchange makes of rows, coefficient by coefficient by rising numbers of the nonbasic forms.
 ghost use Rattle.std.specs.Prelude.{◌≡◌, ◌<◌, ◌≤◌, ◌+◌, ◌≢◌, OnOk, pos, false, length, map, vec_len, vec_capacity};
-ghost use Rattle.nz_spec.specs.Basis.{Coefficients};
-ghost use Rattle.nz_spec.specs.Computation.{and_then, operated};
+ghost use Rattle.nz_spec.specs.simplex.Basis.{Coefficients};
+ghost use Rattle.nz_spec.specs.numbers.Computation.{and_then, operated};
 ghost use Rattle.nz_fractions.specs.Fraction.{Product, Quotient, Sum, whole};
-ghost use Rattle.nz_spec.specs.Term.{is_zero};
+ghost use Rattle.nz_spec.specs.terms.Term.{is_zero};
 ghost use Rattle.nz_tab.specs.Comes.{Comes, IsOperated};
 ghost use Rattle.nz_tab.specs.Each.{behind};
 ghost use Rattle.nz_tab.specs.Exchanges.{solved_part, solved_parts, solved_row, sum_row};

@@ -1,8 +1,8 @@
 //! Forms that join the rows: units as nonbasic forms, and sums of forms as basic ones.
 ghost use Rattle.std.specs.Prelude.{◌≡◌, ◌<◌, ◌≤◌, ◌+◌, ◌*◌, ◌++◌, ◌^◌, replicate, set, slice_index_or, take, All, OnOk, OnErr, length, map, pos, true, vec_capacity, vec_len};
-ghost use Rattle.nz_spec.specs.Basis.{Coefficients};
-ghost use Rattle.nz_spec.specs.BasisMoves.{numbers, plus_multiple};
-ghost use Rattle.nz_spec.specs.Computation.{operated, turned_into};
+ghost use Rattle.nz_spec.specs.simplex.Basis.{Coefficients};
+ghost use Rattle.nz_spec.specs.simplex.BasisMoves.{numbers, plus_multiple};
+ghost use Rattle.nz_spec.specs.numbers.Computation.{operated, turned_into};
 ghost use Rattle.nz_fractions.specs.Fraction.{Sum, whole};
 ghost use Rattle.nz_tab.specs.Comes.{Comes, IsOperated};
 ghost use Rattle.nz_tab.specs.Rows.{AreSlotted, Grid, HasRoom, coefficient, coefficients_at, columns_of, is_marked, is_nonbasic, rows_of};
@@ -11,9 +11,9 @@ ghost use Rattle.nz_tab.specs.Sums.{HasRoomForSum, IsStoredGrid, IsWidened, SumJ
 use crate::exchange::with_multiple;
 use crate::row::{Row, Var};
 use crate::rows::{Room, Rows};
-use crate::tab::TabStop;
 use nz_base::Memory;
 use nz_frac::{Frac, Wide};
+use nz_term::ArithmeticStop;
 use std::alloc::AllocError;
 
 impl Room {
@@ -84,7 +84,7 @@ impl Rows {
         room: &mut Room,
         units: usize,
         addends: &[(Var, Frac)],
-    ) -> Result<(), TabStop>
+    ) -> Result<(), ArithmeticStop>
         requires within { All (λ a. a.0 < length self.old.marks + units) addends.now }
         requires columns { length self.old.marks + units ≤ vec_capacity room.old.columns }
         requires solved { length self.old.marks + units ≤ vec_capacity room.old.solved }
@@ -106,7 +106,7 @@ impl Rows {
     }
 
     /// A sum of forms joins as basic.
-    fn push_sum(&mut self, room: &mut Room, addends: &[(Var, Frac)]) -> Result<(), TabStop>
+    fn push_sum(&mut self, room: &mut Room, addends: &[(Var, Frac)]) -> Result<(), ArithmeticStop>
         requires within { All (λ a. a.0 < length self.old.marks) addends.now }
         requires columns { length self.old.marks ≤ vec_capacity room.old.columns }
         requires solved { length self.old.marks ≤ vec_capacity room.old.solved }

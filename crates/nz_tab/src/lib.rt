@@ -12,4 +12,4 @@ mod rows;
 mod tab;
 
 pub use row::{Row, Var};
-pub use tab::{Tab, TabStop, known_tableau};
+pub use tab::{Tab, known_tableau};

@@ -1,6 +1,6 @@
 //! The row of a basic form.
 ghost use Rattle.std.specs.Prelude.{◌≡◌, length, pos, slice_index_or, true};
-ghost use Rattle.nz_spec.specs.Term.{is_zero};
+ghost use Rattle.nz_spec.specs.terms.Term.{is_zero};
 ghost use Rattle.nz_fractions.specs.Fraction.{whole};
 ghost use Rattle.nz_tab.specs.Rows.{coefficient, is_marked};
 

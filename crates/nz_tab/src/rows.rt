@@ -1,9 +1,9 @@
 //! The rows of all basic forms. Each form has a slot: a nonbasic one a column, a basic one a row.
 ghost use Rattle.std.specs.Prelude.{◌≡◌, ◌<◌, ◌≤◌, ◌+◌, ◌*◌, ◌++◌, ◌≢◌, All, OnOk, OnErr, ℕ, false, pos, true, length, map, vec_len, vec_capacity};
-ghost use Rattle.nz_spec.specs.Basis.{Coefficients};
-ghost use Rattle.nz_spec.specs.BasisMoves.{exchange, exchanged, numbers};
+ghost use Rattle.nz_spec.specs.simplex.Basis.{Coefficients};
+ghost use Rattle.nz_spec.specs.simplex.BasisMoves.{exchange, exchanged, numbers};
 ghost use Rattle.nz_fractions.specs.Fraction.{whole};
-ghost use Rattle.nz_spec.specs.Term.{is_zero};
+ghost use Rattle.nz_spec.specs.terms.Term.{is_zero};
 ghost use Rattle.nz_tab.specs.Comes.{Comes, Stops};
 ghost use Rattle.nz_tab.specs.Exchanges.{IsExchanged, IsReplaced, IsRewritten, changed_rows, changes, places_exchanged, written_forms};
 ghost use Rattle.nz_tab.specs.Rows.{AreSlotted, HasRoom, coefficients_at, empty_grid, is_nonbasic, row_in, row_of, rows_of};

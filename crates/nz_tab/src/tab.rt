@@ -1,13 +1,13 @@
 //! The table of forms.
 ghost use Rattle.std.specs.HashMap.{get, spare};
 ghost use Rattle.std.specs.Prelude.{◌≡◌, ◌<◌, ◌≤◌, ◌+◌, ◌++◌, ◌^◌, [], ◌∷◌, if◌then◌else◌, All, IfErr, IfOk, List, OnOk, OnErr, ℕ, false, is_some, length, map, nat_eq, not, slice_index_or, true, vec_capacity, vec_len};
-ghost use Rattle.nz_spec.specs.BasisMoves.{exchange};
-ghost use Rattle.nz_spec.specs.Table.{IsTable, Node};
-ghost use Rattle.nz_spec.specs.Term.{is_zero};
+ghost use Rattle.nz_spec.specs.simplex.BasisMoves.{exchange};
+ghost use Rattle.nz_spec.specs.terms.Table.{IsTable, Node};
+ghost use Rattle.nz_spec.specs.terms.Term.{is_zero};
 ghost use Rattle.nz_tab.specs.Comes.{Stops};
 ghost use Rattle.nz_lin.specs.declared.form.Part.{Part};
 ghost use Rattle.nz_lin.specs.Forms.{AreUnits};
-ghost use Rattle.nz_tab.specs.declared.tab.TabStop.TheVariants as stops;
+ghost use Rattle.nz_term.specs.declared.stops.ArithmeticStop.TheVariants as stops;
 ghost use Rattle.nz_tab.specs.Joins.{IsFormJoined, IsUnitJoined, Joins, UnitJoins};
 ghost use Rattle.nz_tab.specs.Rows.{is_nonbasic, row_of, rows_of};
 ghost use Rattle.nz_tab.specs.Tables.{IsPivoted, IsTableau, empty_table};
@@ -20,59 +20,10 @@ use nz_frac::{Frac, Wide};
 use nz_lin::{Form, Part};
 use nz_spec::basis::{exchange_keeps_basis, joins_keep_basis};
 use nz_spec::form::term_has_its_number;
-use nz_term::TermId;
+use nz_term::{ArithmeticStop, TermId};
 use std::alloc::{AllocError, AllocFailed, Global};
 use std::collections::HashMap;
 use std::marker::Model;
-
-/// Why a form was not added.
-#[derive(Clone, Copy, Debug)]
-pub enum TabStop {
-    /// The first operation on its row that leaves the numbers.
-    Wide(Wide),
-    /// Memory was wanted and refused.
-    Memory,
-}
-
-impl From<Wide> for TabStop {
-    ghost use Rattle.nz_tab.specs.declared.tab.TabStop.TheVariants as stops;
-
-    ghost from_gives = { λ wide r. r ≡ stops.Wide wide };
-
-    fn from(wide: Wide) -> TabStop {
-        TabStop::Wide(wide)
-    }
-}
-
-impl From<Memory> for TabStop {
-    ghost use Rattle.nz_tab.specs.declared.tab.TabStop.TheVariants as stops;
-
-    ghost from_gives = { λ _ r. r ≡ stops.Memory };
-
-    fn from(_memory: Memory) -> TabStop {
-        TabStop::Memory
-    }
-}
-
-impl From<AllocError> for TabStop {
-    ghost use Rattle.nz_tab.specs.declared.tab.TabStop.TheVariants as stops;
-
-    ghost from_gives = { λ _ r. r ≡ stops.Memory };
-
-    fn from(_error: AllocError) -> TabStop {
-        TabStop::Memory
-    }
-}
-
-impl<T: Drop> From<AllocFailed<T>> for TabStop {
-    ghost use Rattle.nz_tab.specs.declared.tab.TabStop.TheVariants as stops;
-
-    ghost from_gives = { λ _ r. r ≡ stops.Memory };
-
-    fn from(_error: AllocFailed<T>) -> TabStop {
-        TabStop::Memory
-    }
-}
 
 /// Forms over a basis. A contract sees the forms in the order of their numbers, and the rows of those that are basic.
 #[derive(Debug, Drop)]
@@ -171,7 +122,7 @@ impl Tab {
     /// # Errors
     ///
     /// `Wide` with the first operation on the new row that leaves the numbers; `Memory`. Then the table is as before.
-    pub fn add_form(&mut self, form: &Form) -> Result<Var, TabStop>
+    pub fn add_form(&mut self, form: &Form) -> Result<Var, ArithmeticStop>
         ensures unit { is_unit_form form.now.parts ≡ true → UnitJoins self.old self.new form.now.parts result }
         ensures grown { is_unit_form form.now.parts ≡ false → IfOk result (λ v. IsFormJoined self.old self.new form.now.parts v) }
         ensures joins { is_unit_form form.now.parts ≡ false → (ns : List Node) → IsTable ns → AreUnits ns form.now.parts → Joins ns self.old self.new form.now.parts result }
@@ -209,7 +160,7 @@ impl Tab {
     }
 
     /// Adds a form that isn't a unit alone.
-    fn add_sum(&mut self, parts: &[Part]) -> Result<Var, TabStop>
+    fn add_sum(&mut self, parts: &[Part]) -> Result<Var, ArithmeticStop>
         requires sum { is_unit_form parts.now ≡ false }
         ensures grown { IfOk result (λ v. IsFormJoined self.old self.new parts.now v) }
         ensures joins { (ns : List Node) → IsTable ns → AreUnits ns parts.now → Joins ns self.old self.new parts.now result }
@@ -299,7 +250,7 @@ fn addends(
     numbers: &HashMap<TermId, Var>,
     count: usize,
     parts: &[Part],
-) -> Result<Vec<(Var, Frac)>, TabStop>
+) -> Result<Vec<(Var, Frac)>, ArithmeticStop>
     ensures addends { IfOk result (λ v. (fs : List (List Part)) → AreNumbers (get nat_eq numbers.now) fs → v.items ≡ addends fs count parts.now) }
     ensures memory { IfErr result (λ s. s ≡ stops.Memory) }
 {

@@ -6,7 +6,7 @@ use std::alloc::Global;
 use std::test::Fail;
 
 /// A unit with its coefficient.
-type Multiple = (usize, u128);
+type UnitMultiple = (usize, u128);
 
 /// What is done to a table, and what comes of it.
 #[derive(Clone, Copy, Debug)]
@@ -14,7 +14,7 @@ enum Step {
     /// A unit alone has this number.
     Unit(usize, Var),
     /// A sum of two multiples gets this number.
-    Sum(Multiple, Multiple, Var),
+    Sum(UnitMultiple, UnitMultiple, Var),
     /// Two forms are exchanged.
     Exchange(Var, Var),
     /// Two forms can't be exchanged: an operation on numbers with these numerators leaves the numbers.
@@ -78,8 +78,8 @@ fn add_sum(
     terms: &mut Terms,
     tab: &mut Tab,
     units: [TermId; 3],
-    left: Multiple,
-    right: Multiple,
+    left: UnitMultiple,
+    right: UnitMultiple,
 ) -> Option<Var> {
     let left = times(terms, left.1, *units.get(left.0)?).ok()?;
     let right = times(terms, right.1, *units.get(right.0)?).ok()?;
@@ -94,7 +94,7 @@ fn is_wide(tab: &mut Tab, i: Var, j: Var, left: i128, right: i128) -> bool {
 }
 
 #[test]
-fn two_forms_and_an_exchange(rt: HostRuntime) -> Result<(), Fail> {
+fn test_two_forms_and_an_exchange(rt: HostRuntime) -> Result<(), Fail> {
     let steps = [
         Step::Sum((0, 2), (1, 3), 2),
         Step::Sum((0, 1), (1, 1), 3),
@@ -115,7 +115,7 @@ fn two_forms_and_an_exchange(rt: HostRuntime) -> Result<(), Fail> {
 }
 
 #[test]
-fn a_form_joins_over_basic_units(rt: HostRuntime) -> Result<(), Fail> {
+fn test_a_form_joins_over_basic_units(rt: HostRuntime) -> Result<(), Fail> {
     let steps = [
         Step::Sum((0, 2), (1, 1), 2),
         Step::Exchange(2, 0),
@@ -137,7 +137,7 @@ fn a_form_joins_over_basic_units(rt: HostRuntime) -> Result<(), Fail> {
 }
 
 #[test]
-fn a_wide_pivot_leaves_the_rows(rt: HostRuntime) -> Result<(), Fail> {
+fn test_a_wide_pivot_leaves_the_rows(rt: HostRuntime) -> Result<(), Fail> {
     let most = 170141183460469231731687303715884105727;
     let steps = [
         Step::Sum((0, 1), (1, most), 2),

@@ -124,7 +124,7 @@ fn all_fit(alloc: Global, systems: u64) -> bool {
 }
 
 #[test]
-fn rows_fit_their_forms(rt: HostRuntime) -> Result<(), Fail> {
+fn test_rows_fit_their_forms(rt: HostRuntime) -> Result<(), Fail> {
     assert!(rt; all_fit(rt.alloc(), 12));
     Ok(())
 }

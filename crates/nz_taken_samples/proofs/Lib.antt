@@ -1,1 +1,1 @@
-mod Taking
+mod TakenTerms

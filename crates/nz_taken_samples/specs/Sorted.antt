@@ -1,10 +1,10 @@
 -- Terms that checks take: well sorted, linear, and of heads that they take.
 use Rattle.std.specs.Prelude.{◌≡◌, ℕ, ◌<◌, ◌≤◌, true, List, []}
-use Rattle.nz_spec.specs.Elaboration.{all_terms, has_sort, term_count}
-use Rattle.nz_spec.specs.Table.{Node, term_in}
-use Rattle.nz_spec.specs.Taken.{IsTaken, IsTakenHead}
-use Rattle.nz_spec.specs.Term.{Head, Sort, bool_sort, Terms, no_terms, terms, sort_of}
-use Rattle.nz_spec.specs.WellSorted.{IsSortedHead}
+use Rattle.nz_spec.specs.terms.Operators.{all_terms, has_sort, term_count}
+use Rattle.nz_spec.specs.terms.Table.{Node, term_in}
+use Rattle.nz_spec.specs.terms.Taken.{IsTaken, IsTakenHead}
+use Rattle.nz_spec.specs.terms.Term.{Head, Sort, bool_sort, Terms, no_terms, terms, sort_of}
+use Rattle.nz_spec.specs.terms.WellSorted.{IsSortedHead}
 
 -- checks take the terms before a number
 abbrev pub AreTaken : List Node → ℕ → Type 0

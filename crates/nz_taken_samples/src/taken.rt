@@ -1,9 +1,9 @@
 //! What checks ask of terms. It is tested here, so that tests have nothing to prove of it: where it doesn't hold, the answer is `Memory`, which
 //! fails the test.
 ghost use Rattle.std.specs.Prelude.{◌≡◌, ◌<◌, ◌≤◌, true, All, OnOk, length};
-ghost use Rattle.nz_spec.specs.Elaboration.{has_sort};
-ghost use Rattle.nz_spec.specs.Table.{HasItsArguments, term_in, terms_at};
-ghost use Rattle.nz_spec.specs.Taken.{IsTaken};
+ghost use Rattle.nz_spec.specs.terms.Operators.{has_sort};
+ghost use Rattle.nz_spec.specs.terms.Table.{HasItsArguments, term_in, terms_at};
+ghost use Rattle.nz_spec.specs.terms.Taken.{IsTaken};
 ghost use Rattle.nz_term.specs.Constants.{sort_of};
 ghost use Rattle.nz_term.specs.Heads.{head_of, operator_of};
 ghost use Rattle.nz_taken_samples.specs.Sorted.{AreAlike, AreBranches, AreTaken, ArePair, IsRowOf};

@@ -4,7 +4,7 @@ use Rattle.std.specs.Prelude.{bytes_eq, ◌&&◌, ⊤}
 use Rattle.std.specs.Cmp.{first_so, second_so}
 use Rattle.std.specs.List.{AllByRecursion}
 use Rattle.std.proofs.lemmas.Slice.Eq.{bytes_eq-Decides}
-use Rattle.nz_spec.specs.Literal.{TellsHeads, head_kind, head_numbers}
+use Rattle.nz_spec.specs.clauses.Literal.{TellsHeads, head_kind, head_numbers}
 use Rattle.nz_term.specs.declared.heads.Operator.{Operator}
 use Rattle.nz_term.specs.declared.heads.Operator.TheVariants.{True}
 use Rattle.nz_term.specs.declared.leaves.Leaf.{Leaf}

@@ -2,8 +2,8 @@
 use Rattle.std.proofs.Common.{inl, inr, List, [], ◌∷◌, ◌++◌, refl, sym, ap, subst, append-nil}
 use Rattle.std.specs.Prelude.{Contains, flat_map}
 use Rattle.std.proofs.lemmas.List.Elements.{Contains-append_cases}
-use Rattle.nz_spec.specs.Term.{Term}
-use Rattle.nz_spec.specs.Order.{AreFirst}
+use Rattle.nz_spec.specs.terms.Term.{Term}
+use Rattle.nz_spec.specs.terms.Order.{AreFirst}
 use Rattle.nz_term.proofs.Traversal.{IsWithin, none, alone, in_front, joined, behind, ahead, passed_over}
 
 -- a term in the middle, or in front

@@ -6,9 +6,9 @@ use Rattle.std.proofs.lemmas.List.{map-append, length-map, take-map, take-append
 use Rattle.std.proofs.lemmas.List.Sums.{fold-append}
 use Rattle.nz_lists.proofs.Places.{slice_index_or-map}
 use Rattle.nz_fractions.specs.Fraction.{Fraction}
-use Rattle.nz_spec.specs.Term.{Head, falsum, is_integral, Term, apply, no_terms, holds_integer, hold_integer}
-use Rattle.nz_spec.specs.Linear.{constant_value, constant_values, head_constant, is_linear_node, is_linear, are_linear}
-use Rattle.nz_spec.specs.Table.{Node, terms_at, listed_term, with_term, term_in}
+use Rattle.nz_spec.specs.terms.Term.{Head, falsum, is_integral, Term, apply, no_terms, holds_integer, hold_integer}
+use Rattle.nz_spec.specs.terms.Linear.{constant_value, constant_values, head_constant, is_linear_node, is_linear, are_linear}
+use Rattle.nz_spec.specs.terms.Table.{Node, terms_at, listed_term, with_term, term_in}
 use Rattle.nz_term.specs.declared.facts.Fact.{Fact}
 use Rattle.nz_term.specs.Facts.{fact_with, fact_of, fact_at, constants_at, are_linear_at, hold_integer_at, IsKnown}
 use Rattle.nz_term.specs.Growth.{GoesOn}

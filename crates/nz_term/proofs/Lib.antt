@@ -1,13 +1,13 @@
-pub mod Adding
+pub mod AddedCompanions
 pub mod Equality
+pub mod FactMarks
 pub mod Firsts
-pub mod Instancing
+pub mod InstanceTerms
 pub mod Keys
 pub mod Knowledge
-pub mod Leafing
+pub mod LeafTables
 pub mod Listed
 pub mod ListedTerms
-pub mod Marking
 pub mod Numbers
 pub mod Operators
 pub mod Places

@@ -3,8 +3,8 @@ use Rattle.std.proofs.Common.{◌≡◌, ◌==◌, inl, inr, ℕ, Bool, true, fa
 use Rattle.std.specs.Prelude.{is_some, nat_eq}
 use Rattle.std.specs.HashMap.{HashMap, get}
 use Rattle.std.proofs.lemmas.Bool.Decides.{eqb_tells}
-use Rattle.nz_spec.specs.Term.{Value}
-use Rattle.nz_spec.specs.Table.{listed_value}
+use Rattle.nz_spec.specs.terms.Term.{Value}
+use Rattle.nz_spec.specs.terms.Table.{listed_value}
 use Rattle.nz_term.specs.declared.assign.Value as own
 use Rattle.nz_term.specs.Values.{value_of, HasFirsts}
 

@@ -1,13 +1,13 @@
 -- Term lists, made one term after another, each behind its companion.
-use Rattle.std.proofs.Common.{◌≡◌, inl, inr, ℕ, zero, suc, ◌+◌, ◌<◌, ◌≤◌, Bool, true, false, List, [], ◌∷◌, ◌++◌, length, map, take, replicate, set, slice_index, slice_index_or, refl, sym, ap, subst, ◌∙◌, arith, true≢false, append_assoc, append-nil, length-set, get_or-set_same, get_or-set_other}
+use Rattle.std.proofs.Common.{◌≡◌, inl, inr, ℕ, ◌+◌, ◌<◌, ◌≤◌, Bool, true, false, List, [], ◌∷◌, ◌++◌, length, map, take, set, slice_index, slice_index_or, refl, sym, ap, subst, ◌∙◌, arith, true≢false, append_assoc, append-nil, length-set, get_or-set_same, get_or-set_other}
 use Rattle.std.specs.Prelude.{◌↔◌, All, Contains, flat_map}
 use Rattle.std.proofs.lemmas.Bool.Decides.{eqb_tells}
 use Rattle.std.proofs.lemmas.Grind.{flat_map-append}
-use Rattle.std.proofs.lemmas.List.{get_or_read, length-replicate, map-append, take_all, take_more}
-use Rattle.std.proofs.lemmas.List.Elements.{All-push, All-nil, Contains-append_left, Contains-append_right, Contains-append_cases}
-use Rattle.nz_spec.specs.Term.{Term, apply, Terms, no_terms, terms}
-use Rattle.nz_spec.specs.Table.{Node, term_in, HasOneNumberEach}
-use Rattle.nz_spec.specs.Order.{post_order, post_orders, companions, listing_order, listing_orders, AreFirst}
+use Rattle.std.proofs.lemmas.List.{get_or_read, map-append, take_all, take_more}
+use Rattle.std.proofs.lemmas.List.Elements.{All-push, Contains-append_left, Contains-append_right, Contains-append_cases}
+use Rattle.nz_spec.specs.terms.Term.{Term, apply, Terms, no_terms, terms}
+use Rattle.nz_spec.specs.terms.Table.{Node, term_in, HasOneNumberEach}
+use Rattle.nz_spec.specs.terms.Order.{post_order, post_orders, companions, listing_order, listing_orders, AreFirst}
 use Rattle.nz_term.specs.declared.listings.Listing.{Listing}
 use Rattle.nz_term.specs.Listings.{with_companions, IsListing}
 use Rattle.nz_term.proofs.Firsts.{again, anew, spread}
@@ -37,11 +37,6 @@ roots_listing (t ∷ ts) =
 
 -- ---- Marks
 
-unmarked : (n i : ℕ) → slice_index_or (replicate n false) i false ≡ true → ⊥
-unmarked zero i e = cc
-unmarked (suc n) zero e = cc
-unmarked (suc n) (suc i) e = unmarked n i e
-
 -- what is read at a number within the list
 pub mark_read : (marks : List Bool) (i : ℕ) (x b : Bool) → i < length marks → x ≡ slice_index_or marks i x → x ≡ b → slice_index_or marks i false ≡ b
 mark_read marks i x b below e k = sym (get_or_read marks i x below e false) ∙ k
@@ -57,18 +52,6 @@ number_on f (j ∷ is) i k =
     ]
 
 -- ---- The listing
-
-pub empty_listing : (ns : List Node) (s : Listing) → s.ids.items ≡ [] → s.is_listed.items ≡ replicate (length ns) false → IsListing ns [] s
-empty_listing ns s e m =
-    record {
-      first = ap (map (term_in ns)) e;
-      told = λ i below. (
-        λ k. absurd (unmarked (length ns) i (ap (λ l. slice_index_or l i false) (sym m) ∙ k)),
-        λ k. absurd (none i (subst (λ l. Contains l i) e k)),
-      );
-      room = ap length m ∙ length-replicate (length ns) false;
-      within = subst (All (λ i. i < length ns)) (sym e) (All-nil (λ i. i < length ns));
-    }
 
 -- a number that is listed already
 pub list_again : (ns : List Node) (all : List Term) (s : Listing) (id : ℕ) → id < length ns → slice_index_or s.is_listed.items id false ≡ true

@@ -7,11 +7,11 @@ use Rattle.std.specs.Int.{w128}
 use Rattle.std.proofs.Math.Nat.{one-le-pow, pow-le-pow_right}
 use Rattle.std.proofs.lemmas.Bool.Decides.{nat_tests}
 use Rattle.std.proofs.lemmas.Int.{to_z_pos}
-use Rattle.nz_spec.specs.Bounds.{place_limit}
+use Rattle.nz_spec.specs.terms.Term.{place_limit}
 use Rattle.nz_fractions.specs.Fraction.{Fraction, Arithmetic, IsNumber, exceeds, first_wide, is_wide, largest, outcome, ratio}
-use Rattle.nz_spec.specs.Linear.{folded_step}
-use Rattle.nz_spec.specs.Operations.{operation_on}
-use Rattle.nz_spec.specs.Term.{decimal_number, head_fits, is_undefined, number as as_number, number_of, whole_number, decimal_value}
+use Rattle.nz_spec.specs.terms.Linear.{folded_step}
+use Rattle.nz_spec.specs.terms.Operations.{operation_on}
+use Rattle.nz_spec.specs.terms.Term.{decimal_number, head_fits, is_undefined, number as as_number, number_of, whole_number, decimal_value}
 use Rattle.nz_frac.specs.Operations.{IsCarriedOut, IsStopped}
 use Rattle.nz_frac.specs.declared.frac.Wide.{Wide}
 

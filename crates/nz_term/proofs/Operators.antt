@@ -1,7 +1,7 @@
 -- Operators are no constants and no numbers.
 use Rattle.std.proofs.Common.{ℕ, List, refl, IsTrue}
-use Rattle.nz_spec.specs.Term.{head_fits}
-use Rattle.nz_spec.specs.Table.{HasItsArguments}
+use Rattle.nz_spec.specs.terms.Term.{head_fits}
+use Rattle.nz_spec.specs.terms.Table.{HasItsArguments}
 use Rattle.nz_term.specs.declared.heads.Operator.{Operator}
 use Rattle.nz_term.specs.declared.heads.Operator.TheVariants.{True}
 use Rattle.nz_term.specs.Growth.{IsOperator}

@@ -4,9 +4,9 @@ use Rattle.std.specs.Prelude.{All, Contains, flat_map, Some, slice_get, option_m
 use Rattle.std.specs.List.{take-map}
 use Rattle.std.proofs.lemmas.List.Elements.{All-take, Contains-append_left, Contains-append_right, Contains-append_cases, Contains-push}
 use Rattle.std.proofs.lemmas.Option.{slice_get-map, slice_get_within}
-use Rattle.nz_spec.specs.Term.{Term, apply, Terms, no_terms, terms}
-use Rattle.nz_spec.specs.Table.{Node, term_in, terms_at, IsTable, HasOneNumberEach, TermOfNode}
-use Rattle.nz_spec.specs.Order.{post_order, post_orders, AreFirst, ComeBehindArguments}
+use Rattle.nz_spec.specs.terms.Term.{Term, apply, Terms, no_terms, terms}
+use Rattle.nz_spec.specs.terms.Table.{Node, term_in, terms_at, IsTable, HasOneNumberEach, TermOfNode}
+use Rattle.nz_spec.specs.terms.Order.{post_order, post_orders, AreFirst, ComeBehindArguments}
 use Rattle.nz_term.proofs.Traversal.{IsWithin, parts, none, alone, joined, behind, ahead, second_first}
 
 -- ---- Parts come before

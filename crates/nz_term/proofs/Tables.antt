@@ -10,11 +10,11 @@ use Rattle.indexmap.specs.IndexSet.{insert_key}
 use Rattle.std.proofs.lemmas.Bool.{or_parts}
 use Rattle.nz_lists.proofs.Elements.{AllByRecursion-append}
 use Rattle.nz_lists.proofs.Places.{slice_get-push_cases, slice_get_kept}
-use Rattle.nz_spec.specs.Order.{IsInTable}
-use Rattle.nz_spec.specs.Term.{Head, Terms, apply, head_fits}
-use Rattle.nz_spec.specs.Literal.{TellsHeads}
-use Rattle.nz_spec.specs.Table as table
-use Rattle.nz_spec.specs.Table.{HasItsArguments, HasOneNumberEach, IsTable, OneNumber, TermOfNode, TermStays, TermsStay, term_in, terms_at}
+use Rattle.nz_spec.specs.terms.Order.{IsInTable}
+use Rattle.nz_spec.specs.terms.Term.{Head, Terms, apply, head_fits}
+use Rattle.nz_spec.specs.clauses.Literal.{TellsHeads}
+use Rattle.nz_spec.specs.terms.Table as table
+use Rattle.nz_spec.specs.terms.Table.{HasItsArguments, HasOneNumberEach, IsTable, OneNumber, TermOfNode, TermStays, TermsStay, term_in, terms_at}
 use Rattle.nz_term.specs.declared.leaves.Leaf.{Leaf}
 use Rattle.nz_term.specs.declared.nodes.Stored.{Stored}
 use Rattle.nz_term.specs.Found.{IsFound}

@@ -2,9 +2,9 @@
 use Rattle.std.proofs.Common.{◌≡◌, inl, inr, ℕ, zero, suc, ◌+◌, ◌*◌, ◌<◌, ◌≤◌, List, [], ◌∷◌, ◌++◌, length, map, slice_index_or, refl, sym, ap, subst, ◌∙◌, arith, append_assoc, append-nil, length-append}
 use Rattle.std.specs.Prelude.{Contains, flat_map, ⊤}
 use Rattle.std.proofs.lemmas.List.Elements.{Contains-append_left, Contains-append_right, Contains-append_cases}
-use Rattle.nz_spec.specs.Term.{Head, Term, apply, Terms, no_terms, terms}
-use Rattle.nz_spec.specs.Table.{terms_at}
-use Rattle.nz_spec.specs.Order.{post_order, post_orders, AreFirst}
+use Rattle.nz_spec.specs.terms.Term.{Head, Term, apply, Terms, no_terms, terms}
+use Rattle.nz_spec.specs.terms.Table.{terms_at}
+use Rattle.nz_spec.specs.terms.Order.{post_order, post_orders, AreFirst}
 use Rattle.nz_term.specs.declared.order.Step.{Step}
 use Rattle.nz_term.specs.declared.order.Step.TheVariants.{Enter, Leave}
 

@@ -4,9 +4,9 @@ use Rattle.std.specs.Prelude.{◌↔◌, Contains, flat_map, MatchOption, Option
 use Rattle.std.proofs.lemmas.Bool.Decides.{eqb_tells}
 use Rattle.std.proofs.lemmas.List.{map-append, reverse-append, reverse-reverse}
 use Rattle.std.proofs.lemmas.List.Elements.{Contains-append_left, Contains-append_right, Contains-append_cases, All-push, All-nil}
-use Rattle.nz_spec.specs.Term.{Term}
-use Rattle.nz_spec.specs.Table.{Node, term_in, terms_at, HasOneNumberEach}
-use Rattle.nz_spec.specs.Order.{post_order, post_orders, AreFirst}
+use Rattle.nz_spec.specs.terms.Term.{Term}
+use Rattle.nz_spec.specs.terms.Table.{Node, term_in, terms_at, HasOneNumberEach}
+use Rattle.nz_spec.specs.terms.Order.{post_order, post_orders, AreFirst}
 use Rattle.nz_term.specs.declared.order.Step.{Step}
 use Rattle.nz_term.specs.declared.order.Step.TheVariants.{Enter, Leave}
 use Rattle.nz_term.specs.Steps.{entries, EntersArguments}

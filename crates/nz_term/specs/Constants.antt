@@ -1,6 +1,6 @@
 -- What a sort, a sort of numbers and a constant of the code are.
-use Rattle.nz_spec.specs.Term as spec
-use Rattle.nz_spec.specs.Term.{bool_sort, int_sort, real_sort, over_int, over_real}
+use Rattle.nz_spec.specs.terms.Term as spec
+use Rattle.nz_spec.specs.terms.Term.{bool_sort, int_sort, real_sort, over_int, over_real}
 use Rattle.nz_term.specs.declared.heads.Sort.{Sort}
 use Rattle.nz_term.specs.declared.heads.Sort.TheVariants.{Bool, Int, Real}
 use Rattle.nz_term.specs.declared.heads.NumberSort.{NumberSort}

@@ -2,9 +2,9 @@
 use Rattle.std.specs.Prelude.{◌≡◌, ℕ, List, [], ◌∷◌, map, fold, Bool, false, not, Option, Some, None, slice_index_or}
 use Rattle.std.specs.List.{list_all, list_any}
 use Rattle.nz_fractions.specs.Fraction.{Fraction, Arithmetic}
-use Rattle.nz_spec.specs.Term.{Term, apply, no_terms, falsum, is_zero, holds_integer}
-use Rattle.nz_spec.specs.Table.{Node, IsTable, with_term}
-use Rattle.nz_spec.specs.Linear.{constant_value, folded, is_linear}
+use Rattle.nz_spec.specs.terms.Term.{Term, apply, no_terms, falsum, is_zero, holds_integer}
+use Rattle.nz_spec.specs.terms.Table.{Node, IsTable, with_term}
+use Rattle.nz_spec.specs.terms.Linear.{constant_value, folded, is_linear}
 use Rattle.nz_term.specs.declared.facts.Fact.{Fact}
 
 -- what is known by these three answers

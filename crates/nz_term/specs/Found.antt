@@ -1,8 +1,8 @@
 -- What a look-up of a term finds.
 use Rattle.std.specs.Prelude.{◌≡◌, ℕ, ◌<◌, List, length, Option, Some, None}
-use Rattle.nz_spec.specs.Term.{Term}
-use Rattle.nz_spec.specs.Table.{Node, term_in}
-use Rattle.nz_spec.specs.Order.{IsInTable}
+use Rattle.nz_spec.specs.terms.Term.{Term}
+use Rattle.nz_spec.specs.terms.Table.{Node, term_in}
+use Rattle.nz_spec.specs.terms.Order.{IsInTable}
 
 -- The number is the term's; with no number, the table hasn't the term.
 abbrev pub IsFound : List Node → Term → Option ℕ → Type 0

@@ -1,8 +1,8 @@
 -- Tables that grow.
 use Rattle.std.specs.Prelude.{◌≡◌, ◌⊎◌, ℕ, ◌<◌, List, [], ◌∷◌, ◌++◌, length, Some, None, ⊤}
 use Rattle.std.specs.List.{AllByRecursion}
-use Rattle.nz_spec.specs.Term.{Head, constant_of}
-use Rattle.nz_spec.specs.Table.{Node, term_in}
+use Rattle.nz_spec.specs.terms.Term.{Head, constant_of}
+use Rattle.nz_spec.specs.terms.Table.{Node, term_in}
 
 -- how a table goes on: the node was there, or it is put last
 abbrev pub GoesOn : List Node → Node → List Node → Type 0

@@ -1,6 +1,6 @@
 -- What a head of the code is.
-use Rattle.nz_spec.specs.Term as spec
-use Rattle.nz_spec.specs.Term.{constant, parameter, integer, decimal_number, verum, falsum, negation, conjunction, disjunction, exclusion, equality, choice, less, at_most, sum, difference, product, quotient, integer_quotient, modulus, magnitude, to_real, to_int, is_int}
+use Rattle.nz_spec.specs.terms.Term as spec
+use Rattle.nz_spec.specs.terms.Term.{constant, parameter, integer, decimal_number, verum, falsum, negation, conjunction, disjunction, exclusion, equality, choice, less, at_most, sum, difference, product, quotient, integer_quotient, modulus, magnitude, to_real, to_int, is_int}
 use Rattle.nz_term.specs.declared.heads.Operator as code
 use Rattle.nz_term.specs.declared.heads.Operator.TheVariants.{True, False, Not, And, Or, Xor, Equal, Ite, Less, AtMost, Sum, Difference, Product, Quotient, Div, Mod, Abs, ToReal, ToInt, IsInt}
 use Rattle.nz_term.specs.declared.heads.Head.{Head}

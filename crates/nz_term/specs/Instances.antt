@@ -1,9 +1,9 @@
 -- Instances of terms in a table, by numbers.
 use Rattle.std.specs.Prelude.{◌≡◌, ℕ, ◌<◌, nat_eq, List, length, slice_get, unwrap_or, Option, Some, None, All}
 use Rattle.std.specs.HashMap.{HashMap, get}
-use Rattle.nz_spec.specs.Term.{Head, parameter}
-use Rattle.nz_spec.specs.Table.{Node, term_in, terms_at}
-use Rattle.nz_spec.specs.Elaboration.{instance_of}
+use Rattle.nz_spec.specs.terms.Term.{Head, parameter}
+use Rattle.nz_spec.specs.terms.Table.{Node, term_in, terms_at}
+use Rattle.nz_spec.specs.terms.Definitions.{instance_of}
 
 -- the number of the term that is put for a parameter
 abbrev pub argument_of : Head → List ℕ → Option ℕ

@@ -1,9 +1,9 @@
 -- What a leaf of the code is.
 use Rattle.std.specs.Prelude.{◌≡◌, ℕ, ◌<◌, ◌≤◌, Bool, List, length, slice_get}
 use Rattle.std.specs.List.{IsDistinct}
-use Rattle.nz_spec.specs.Term as spec
-use Rattle.nz_spec.specs.Term.{constant, parameter, integer, decimal_number}
-use Rattle.nz_spec.specs.Literal.{are_same_head}
+use Rattle.nz_spec.specs.terms.Term as spec
+use Rattle.nz_spec.specs.terms.Term.{constant, parameter, integer, decimal_number}
+use Rattle.nz_spec.specs.clauses.Literal.{are_same_head}
 use Rattle.nz_term.specs.declared.leaves.Leaf.{Leaf}
 use Rattle.nz_term.specs.declared.leaves.Leaf.TheVariants.{Constant, Parameter, Integer, Decimal}
 use Rattle.nz_term.specs.declared.leaves.Key as keys

@@ -10,6 +10,8 @@ pub mod Marks
 pub mod Nodes
 pub mod Numbers
 pub mod Steps
+pub mod Stops
 pub mod Stored
 pub mod Symbols
+pub mod TermLits
 pub mod Values

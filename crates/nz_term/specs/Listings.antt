@@ -1,8 +1,8 @@
 -- Term lists that are being made.
 use Rattle.std.specs.Prelude.{◌≡◌, ℕ, ◌<◌, ◌↔◌, List, [], ◌∷◌, ◌++◌, map, length, true, false, slice_index_or, All, Contains, Option, Some, None}
-use Rattle.nz_spec.specs.Term.{Head, integer_quotient, modulus, to_int, is_int, Term}
-use Rattle.nz_spec.specs.Table.{Node, term_in}
-use Rattle.nz_spec.specs.Order.{companions_of, AreFirst}
+use Rattle.nz_spec.specs.terms.Term.{Head, integer_quotient, modulus, to_int, is_int, Term}
+use Rattle.nz_spec.specs.terms.Table.{Node, term_in}
+use Rattle.nz_spec.specs.terms.Order.{companions_of, AreFirst}
 use Rattle.nz_term.specs.declared.listings.Listing.{Listing}
 
 -- the head of the companion of a term

@@ -1,6 +1,6 @@
 -- What a node of the code is.
 use Rattle.std.specs.Prelude.{ℕ, List}
-use Rattle.nz_spec.specs.Table as table
+use Rattle.nz_spec.specs.terms.Table as table
 use Rattle.nz_term.specs.declared.heads.Head.{Head}
 use Rattle.nz_term.specs.declared.nodes.Node.{Node}
 use Rattle.nz_term.specs.Heads.{head_of}

@@ -1,7 +1,7 @@
 -- The numbers by which leaves are told apart, and what a hash is fed of them.
 use Rattle.std.specs.Prelude.{ℕ, List, [], ◌∷◌, ◌++◌}
 use Rattle.std.specs.Hash as fed
-use Rattle.nz_spec.specs.Literal.{head_numbers}
+use Rattle.nz_spec.specs.clauses.Literal.{head_numbers}
 use Rattle.nz_term.specs.declared.leaves.Leaf.{Leaf}
 use Rattle.nz_term.specs.Leaves.{leaf_head}
 

@@ -1,7 +1,7 @@
 -- What is left to do of terms, when they are put into their order.
 use Rattle.std.specs.Prelude.{◌≡◌, ℕ, ◌<◌, List, ◌++◌, map, reverse, All}
-use Rattle.nz_spec.specs.Term.{Head, apply}
-use Rattle.nz_spec.specs.Table.{Node, term_in, terms_at}
+use Rattle.nz_spec.specs.terms.Term.{Head, apply}
+use Rattle.nz_spec.specs.terms.Table.{Node, term_in, terms_at}
 use Rattle.nz_term.specs.declared.order.Step.{Step}
 use Rattle.nz_term.specs.declared.order.Step.TheVariants.{Enter}
 

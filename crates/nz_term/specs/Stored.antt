@@ -1,7 +1,7 @@
 -- What stored nodes are beside a table of leaves.
 use Rattle.std.specs.Prelude.{List, map}
 use Rattle.std.specs.List.{AllByRecursion}
-use Rattle.nz_spec.specs.Table as table
+use Rattle.nz_spec.specs.terms.Table as table
 use Rattle.nz_term.specs.declared.leaves.Leaf.{Leaf}
 use Rattle.nz_term.specs.declared.nodes.Stored.{Stored}
 use Rattle.nz_term.specs.Leaves.{AreDistinctLeaves}

@@ -1,9 +1,9 @@
 -- What a symbol of the code stands for beside a table of leaves.
 use Rattle.std.specs.Prelude.{◌≡◌, ℕ, ◌<◌, Bool, bytes_eq, List, [], ◌∷◌, ◌++◌, length, slice_get, Option, Some, None, ⊤}
 use Rattle.std.specs.Hash as fed
-use Rattle.nz_spec.specs.Literal.{head_kind, sort_number}
-use Rattle.nz_spec.specs.Term as spec
-use Rattle.nz_spec.specs.Term.{falsum, head_sort}
+use Rattle.nz_spec.specs.clauses.Literal.{head_kind, sort_number}
+use Rattle.nz_spec.specs.terms.Term as spec
+use Rattle.nz_spec.specs.terms.Term.{falsum, head_sort}
 use Rattle.nz_term.specs.declared.leaves.Leaf.{Leaf}
 use Rattle.nz_term.specs.declared.symbols.Symbol as symbols
 use Rattle.nz_term.specs.declared.symbols.Symbol.TheVariants as symbol

@@ -1,9 +1,9 @@
 -- What a value of the code is.
 use Rattle.std.specs.Prelude.{◌≡◌, ℕ, nat_eq, List, option_map}
 use Rattle.std.specs.HashMap.{HashMap, get}
-use Rattle.nz_spec.specs.Term as spec
-use Rattle.nz_spec.specs.Term.{truth, number}
-use Rattle.nz_spec.specs.Table.{listed_value}
+use Rattle.nz_spec.specs.terms.Term as spec
+use Rattle.nz_spec.specs.terms.Term.{truth, number}
+use Rattle.nz_spec.specs.terms.Table.{listed_value}
 use Rattle.nz_term.specs.declared.assign.Value.{Value}
 use Rattle.nz_term.specs.declared.assign.Value.TheVariants.{Truth, Number}
 

@@ -1,7 +1,7 @@
 //! What a model gives: values of the constants of a table, by their numbers.
 ghost use Rattle.std.specs.Prelude.{◌≡◌, ℕ, ◌<◌, ◌==◌, List, [], ◌∷◌, ◌++◌, length, Some, OnOk, OnErr, IsOkAnd, option_map, slice_get};
-ghost use Rattle.nz_spec.specs.Term as term;
-ghost use Rattle.nz_spec.specs.Table.{listed_value};
+ghost use Rattle.nz_spec.specs.terms.Term as term;
+ghost use Rattle.nz_spec.specs.terms.Table.{listed_value};
 ghost use Rattle.nz_term.specs.Values.{value_of, pair_of, HasFirsts};
 
 use crate::nodes::TermId;
@@ -31,7 +31,7 @@ pub struct Assign {
 
 impl Model for Assign {
     ghost use Rattle.std.specs.Prelude.{List, ℕ, map};
-    ghost use Rattle.nz_spec.specs.Term as spec;
+    ghost use Rattle.nz_spec.specs.terms.Term as spec;
 
     ghost Value = { List (ℕ × spec.Value) };
 

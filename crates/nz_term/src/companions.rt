@@ -2,8 +2,8 @@
 //! These are made where terms are made, so that a table whose terms are only listed stays as it is.
 ghost use Rattle.std.specs.Prelude.{◌≡◌, ℕ, ◌<◌, ◌≤◌, [], length, take, OnOk, option_map};
 ghost use Rattle.std.specs.List.{AllByRecursion};
-ghost use Rattle.nz_spec.specs.Order.{companions_of, HasCompanions, IsInTable};
-ghost use Rattle.nz_spec.specs.Table.{term_in};
+ghost use Rattle.nz_spec.specs.terms.Order.{companions_of, HasCompanions, IsInTable};
+ghost use Rattle.nz_spec.specs.terms.Table.{term_in};
 ghost use Rattle.nz_term.specs.Growth.{Grows};
 ghost use Rattle.nz_term.specs.Heads.{head_of};
 ghost use Rattle.nz_term.specs.Listings.{companion_head};

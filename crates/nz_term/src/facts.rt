@@ -1,10 +1,10 @@
 //! What is known of a term, by its head and by what is known of its arguments.
 ghost use Rattle.std.specs.Prelude.{◌≡◌, ◌≢◌, ◌^◌, ◌<◌, ◌≤◌, ◌&&◌, ◌||◌, List, length, map, All, IsTrue, Some, false, not, pos};
-ghost use Rattle.nz_spec.specs.Bounds.{place_limit};
+ghost use Rattle.nz_spec.specs.terms.Term.{place_limit};
 ghost use Rattle.nz_fractions.specs.Fraction.{exceeds, whole};
-ghost use Rattle.nz_spec.specs.Linear.{are_divisors, divides_by_constants, folded, folded_step, head_constant, is_linear_node, variable_count};
-ghost use Rattle.nz_spec.specs.Table.{listed_term, terms_at};
-ghost use Rattle.nz_spec.specs.Term.{Term, apply, decimal_number, difference, head_fits, is_integral, over_int, decimal_value};
+ghost use Rattle.nz_spec.specs.terms.Linear.{are_divisors, divides_by_constants, folded, folded_step, head_constant, is_linear_node, variable_count};
+ghost use Rattle.nz_spec.specs.terms.Table.{listed_term, terms_at};
+ghost use Rattle.nz_spec.specs.terms.Term.{Term, apply, decimal_number, difference, head_fits, is_integral, over_int, decimal_value};
 ghost use Rattle.nz_term.specs.Facts.{are_linear_at, constants_at, fact_of, folded_all, hold_integer_at, is_divisor};
 ghost use Rattle.nz_frac.specs.Operations.{operator_of as arithmetic_of};
 ghost use Rattle.nz_term.specs.Heads.{head_of, operator_of};

@@ -1,9 +1,9 @@
 //! What a term is of: an operator of the theories Core and Reals_Ints (SMT-LIB 2.6), a declared constant, or a number.
 ghost use Rattle.std.specs.Prelude.{◌≡◌, ℕ, List, IsTrue, IfSome, IfNone};
-ghost use Rattle.nz_spec.specs.Elaboration.{numbers_at};
-ghost use Rattle.nz_spec.specs.Literal.{are_same_head, head_digits, head_kind, head_name, head_place, sort_number};
-ghost use Rattle.nz_spec.specs.Table.{HasItsArguments};
-ghost use Rattle.nz_spec.specs.Term.{head_fits, head_sort, is_integral, sort_over};
+ghost use Rattle.nz_spec.specs.terms.Operators.{numbers_at};
+ghost use Rattle.nz_spec.specs.clauses.Literal.{are_same_head, head_digits, head_kind, head_name, head_place, sort_number};
+ghost use Rattle.nz_spec.specs.terms.Table.{HasItsArguments};
+ghost use Rattle.nz_spec.specs.terms.Term.{head_fits, head_sort, is_integral, sort_over};
 ghost use Rattle.nz_term.specs.Constants.{number_sort_of, sort_of};
 ghost use Rattle.nz_term.specs.Growth.{IsOperator};
 ghost use Rattle.nz_term.specs.Heads.{head_of, operator_of};

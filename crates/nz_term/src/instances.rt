@@ -1,7 +1,7 @@
 //! Instances of definitions: a body with terms for its parameters.
 ghost use Rattle.std.specs.Prelude.{◌≡◌, ◌<◌, length, map, All, IfOk};
-ghost use Rattle.nz_spec.specs.Table.{term_in, terms_at};
-ghost use Rattle.nz_spec.specs.Elaboration.{instance_of};
+ghost use Rattle.nz_spec.specs.terms.Table.{term_in, terms_at};
+ghost use Rattle.nz_spec.specs.terms.Definitions.{instance_of};
 ghost use Rattle.nz_term.specs.Growth.{Grows};
 ghost use Rattle.nz_term.specs.Heads.{head_of};
 ghost use Rattle.nz_term.specs.Instances.{argument_of, instance_in, IsInstance, HasInstances};

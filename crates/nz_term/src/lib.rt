@@ -14,7 +14,9 @@ mod leaves;
 mod listings;
 mod nodes;
 mod order;
+mod stops;
 mod symbols;
+mod term_lits;
 mod terms;
 
 pub use assign::{Assign, Value};
@@ -24,4 +26,6 @@ pub use instances::instance;
 pub use listings::listing_order;
 pub use nodes::{Node, TermId};
 pub use order::post_order;
+pub use stops::ArithmeticStop;
+pub use term_lits::TermLit;
 pub use terms::{Terms, grows_twice, known_table};

@@ -1,9 +1,9 @@
 //! The order in which a term list has shared terms: that of their parts, with what it has besides these.
 ghost use Rattle.std.specs.Prelude.{◌≡◌, ◌<◌, ◌++◌, [], ◌∷◌, List, length, map, flat_map, All, IfOk, OnOk};
-ghost use Rattle.nz_spec.specs.Order.{listing_order, AreFirst, HasCompanions};
-ghost use Rattle.nz_spec.specs.Table.{term_in, HasOneNumberEach};
-ghost use Rattle.nz_spec.specs.Table as table;
-ghost use Rattle.nz_spec.specs.Term as spec;
+ghost use Rattle.nz_spec.specs.terms.Order.{listing_order, AreFirst, HasCompanions};
+ghost use Rattle.nz_spec.specs.terms.Table.{term_in, HasOneNumberEach};
+ghost use Rattle.nz_spec.specs.terms.Table as table;
+ghost use Rattle.nz_spec.specs.terms.Term as spec;
 ghost use Rattle.nz_term.specs.Listings.{with_companions, AreCompanions, IsListing};
 
 use crate::companions::companion_head;

@@ -5,8 +5,8 @@ ghost use Rattle.std.specs.Cmp.{on_equiv, on_per, partial_equiv_from_equiv};
 ghost use Rattle.std.specs.Cmp.Lexicographic.{nat_list_eq_equiv};
 ghost use Rattle.std.specs.Cmp.Rules.{hashing};
 ghost use Rattle.std.specs.Hash as fed;
-ghost use Rattle.nz_spec.specs.Term.{apply, head_fits};
-ghost use Rattle.nz_spec.specs.Table.{HasItsArguments, IsTable, term_in, terms_at};
+ghost use Rattle.nz_spec.specs.terms.Term.{apply, head_fits};
+ghost use Rattle.nz_spec.specs.terms.Table.{HasItsArguments, IsTable, term_in, terms_at};
 ghost use Rattle.nz_term.specs.Found.{IsFound};
 ghost use Rattle.nz_term.specs.Growth.{GoesOn};
 ghost use Rattle.nz_term.specs.Heads.{head_of};
@@ -110,7 +110,7 @@ pub(crate) struct Nodes {
 
 impl Model for Nodes {
     ghost use Rattle.std.specs.Prelude.{List};
-    ghost use Rattle.nz_spec.specs.Table.{Node};
+    ghost use Rattle.nz_spec.specs.terms.Table.{Node};
 
     ghost Value = { List Node };
 

@@ -1,7 +1,7 @@
 //! The order of shared terms in which what a term is made of comes before it.
 ghost use Rattle.std.specs.Prelude.{◌≡◌, ◌<◌, ◌++◌, [], length, map, flat_map, All, Contains, IfOk, OnOk};
-ghost use Rattle.nz_spec.specs.Table.{term_in};
-ghost use Rattle.nz_spec.specs.Order.{post_order, AreFirst, ComeBehindArguments};
+ghost use Rattle.nz_spec.specs.terms.Table.{term_in};
+ghost use Rattle.nz_spec.specs.terms.Order.{post_order, AreFirst, ComeBehindArguments};
 ghost use Rattle.nz_term.specs.Steps.{entries, EntersArguments};
 
 use crate::nodes::TermId;

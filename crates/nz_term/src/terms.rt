@@ -1,8 +1,8 @@
 //! The table of shared terms.
 ghost use Rattle.std.specs.Prelude.{◌≡◌, ℕ, ◌<◌, ◌==◌, ◌⊎◌, [], ◌∷◌, ◌++◌, length, take, All, Some, IsTrue, IfOk, OnOk, OnErr, IsOkAnd, option_map, slice_get};
-ghost use Rattle.nz_spec.specs.Linear.{constant_value, is_linear};
-ghost use Rattle.nz_spec.specs.Term.{apply, head_fits, holds_integer};
-ghost use Rattle.nz_spec.specs.Table.{HasItsArguments, HasOneNumberEach, IsTable, term_in, terms_at};
+ghost use Rattle.nz_spec.specs.terms.Linear.{constant_value, is_linear};
+ghost use Rattle.nz_spec.specs.terms.Term.{apply, head_fits, holds_integer};
+ghost use Rattle.nz_spec.specs.terms.Table.{HasItsArguments, HasOneNumberEach, IsTable, term_in, terms_at};
 ghost use Rattle.nz_term.specs.Facts.{fact_of};
 ghost use Rattle.nz_term.specs.Found.{IsFound};
 ghost use Rattle.nz_term.specs.Growth.{GrowsTwice, KeepsTerms};
@@ -29,7 +29,7 @@ pub struct Terms {
 
 impl Model for Terms {
     ghost use Rattle.std.specs.Prelude.{List};
-    ghost use Rattle.nz_spec.specs.Table.{Node};
+    ghost use Rattle.nz_spec.specs.terms.Table.{Node};
 
     ghost Value = { List Node };
 

@@ -43,7 +43,7 @@ const THREE_AND_A_HALF: &[Act] = &[
 ];
 
 #[test]
-fn equal_terms_have_one_number(rt: HostRuntime) -> Result<(), Fail> {
+fn test_equal_terms_have_one_number(rt: HostRuntime) -> Result<(), Fail> {
     const AGAIN: &[Act] = &[
         Act::Constant(b"p", 0),
         Act::Count(4),
@@ -53,7 +53,7 @@ fn equal_terms_have_one_number(rt: HostRuntime) -> Result<(), Fail> {
 }
 
 #[test]
-fn the_order_of_arguments_matters(rt: HostRuntime) -> Result<(), Fail> {
+fn test_the_order_of_arguments_matters(rt: HostRuntime) -> Result<(), Fail> {
     const SWAPPED: &[Act] = &[
         Act::Count(4),
         Act::Operation(Operator::Or, &[2, 0], 4),
@@ -63,7 +63,7 @@ fn the_order_of_arguments_matters(rt: HostRuntime) -> Result<(), Fail> {
 }
 
 #[test]
-fn terms_of_different_operators_are_different(rt: HostRuntime) -> Result<(), Fail> {
+fn test_terms_of_different_operators_are_different(rt: HostRuntime) -> Result<(), Fail> {
     const OTHERS: &[Act] = &[
         Act::Count(4),
         Act::Operation(Operator::Xor, &[0, 1], 4),
@@ -75,7 +75,7 @@ fn terms_of_different_operators_are_different(rt: HostRuntime) -> Result<(), Fai
 }
 
 #[test]
-fn nodes_are_lent(rt: HostRuntime) -> Result<(), Fail> {
+fn test_nodes_are_lent(rt: HostRuntime) -> Result<(), Fail> {
     const NODES: &[Act] = &[
         Act::HasHead(3, Operator::Or),
         Act::HasKids(3, &[0, 2]),
@@ -86,7 +86,7 @@ fn nodes_are_lent(rt: HostRuntime) -> Result<(), Fail> {
 }
 
 #[test]
-fn cut_goes_back_to_the_mark(rt: HostRuntime) -> Result<(), Fail> {
+fn test_cut_goes_back_to_the_mark(rt: HostRuntime) -> Result<(), Fail> {
     const CUT: &[Act] = &[
         Act::Count(4),
         Act::Undone(Operator::True, &[], 4),
@@ -98,7 +98,7 @@ fn cut_goes_back_to_the_mark(rt: HostRuntime) -> Result<(), Fail> {
 }
 
 #[test]
-fn arguments_come_before_from_the_left(rt: HostRuntime) -> Result<(), Fail> {
+fn test_arguments_come_before_from_the_left(rt: HostRuntime) -> Result<(), Fail> {
     const ORDER: &[Act] = &[
         Act::Count(4),
         Act::Operation(Operator::And, &[3, 1, 2, 1], 4),
@@ -109,29 +109,29 @@ fn arguments_come_before_from_the_left(rt: HostRuntime) -> Result<(), Fail> {
 }
 
 #[test]
-fn each_root_comes_once(rt: HostRuntime) -> Result<(), Fail> {
+fn test_each_root_comes_once(rt: HostRuntime) -> Result<(), Fail> {
     const ORDER: &[Act] = &[Act::Count(4), Act::Ordered(&[2, 3, 2], &[1, 2, 0, 3])];
     run(rt.alloc(), CLAUSE, ORDER)
 }
 
 #[test]
-fn no_root_leads_nowhere(rt: HostRuntime) -> Result<(), Fail> {
+fn test_no_root_leads_nowhere(rt: HostRuntime) -> Result<(), Fail> {
     run(rt.alloc(), CLAUSE, &[Act::Ordered(&[], &[])])
 }
 
 #[test]
-fn a_long_chain_needs_no_deep_stack(rt: HostRuntime) -> Result<(), Fail> {
+fn test_a_long_chain_needs_no_deep_stack(rt: HostRuntime) -> Result<(), Fail> {
     run(rt.alloc(), &[], &[Act::Chain(100_000)])
 }
 
 #[test]
-fn a_quotient_comes_just_before_its_remainder(rt: HostRuntime) -> Result<(), Fail> {
+fn test_a_quotient_comes_just_before_its_remainder(rt: HostRuntime) -> Result<(), Fail> {
     const LISTING: &[Act] = &[Act::Listed(&[2], &[0, 1, 3, 2]), Act::Count(4)];
     run(rt.alloc(), REMAINDER, LISTING)
 }
 
 #[test]
-fn a_term_is_found_by_its_head_and_arguments(rt: HostRuntime) -> Result<(), Fail> {
+fn test_a_term_is_found_by_its_head_and_arguments(rt: HostRuntime) -> Result<(), Fail> {
     const FOUND: &[Act] = &[
         Act::Companions,
         Act::Count(4),
@@ -143,14 +143,14 @@ fn a_term_is_found_by_its_head_and_arguments(rt: HostRuntime) -> Result<(), Fail
 }
 
 #[test]
-fn a_rounded_number_is_listed_once(rt: HostRuntime) -> Result<(), Fail> {
+fn test_a_rounded_number_is_listed_once(rt: HostRuntime) -> Result<(), Fail> {
     const LISTING: &[Act] = &[Act::Listed(&[1, 2], &[0, 2, 1]), Act::Count(3)];
     run(rt.alloc(), ROUNDED, LISTING)
 }
 
 // The argument holds the parameter too, which stays in it.
 #[test]
-fn an_argument_is_put_for_a_parameter(rt: HostRuntime) -> Result<(), Fail> {
+fn test_an_argument_is_put_for_a_parameter(rt: HostRuntime) -> Result<(), Fail> {
     const MADE: &[Act] = &[
         Act::Instance(3, &[3], 5),
         Act::Count(6),
@@ -160,7 +160,7 @@ fn an_argument_is_put_for_a_parameter(rt: HostRuntime) -> Result<(), Fail> {
 }
 
 #[test]
-fn a_body_without_its_parameters_stays(rt: HostRuntime) -> Result<(), Fail> {
+fn test_a_body_without_its_parameters_stays(rt: HostRuntime) -> Result<(), Fail> {
     run(
         rt.alloc(),
         TRIPLED,
@@ -169,13 +169,13 @@ fn a_body_without_its_parameters_stays(rt: HostRuntime) -> Result<(), Fail> {
 }
 
 #[test]
-fn constants_have_their_values(rt: HostRuntime) -> Result<(), Fail> {
+fn test_constants_have_their_values(rt: HostRuntime) -> Result<(), Fail> {
     const VALUES: &[Act] = &[Act::Value(3, Some((7, 2))), Act::LinearReal(3)];
     run(rt.alloc(), THREE_AND_A_HALF, VALUES)
 }
 
 #[test]
-fn a_parameter_is_no_constant(rt: HostRuntime) -> Result<(), Fail> {
+fn test_a_parameter_is_no_constant(rt: HostRuntime) -> Result<(), Fail> {
     run(
         rt.alloc(),
         TRIPLED,
@@ -185,7 +185,9 @@ fn a_parameter_is_no_constant(rt: HostRuntime) -> Result<(), Fail> {
 
 // The terms `(* x0 x0)` and `(/ x0 0)`.
 #[test]
-fn products_of_variables_and_quotients_by_zero_are_not_linear(rt: HostRuntime) -> Result<(), Fail> {
+fn test_products_of_variables_and_quotients_by_zero_are_not_linear(
+    rt: HostRuntime,
+) -> Result<(), Fail> {
     const MADE: &[Act] = &[
         Act::Parameter(Sort::Real, 0),
         Act::Decimal(0, 1, 1),

@@ -42,7 +42,7 @@ fn finds_values(model: &mut Assign) -> Result<(), Fail> {
 }
 
 #[test]
-fn values_are_found_by_number(rt: HostRuntime) -> Result<(), Fail> {
+fn test_values_are_found_by_number(rt: HostRuntime) -> Result<(), Fail> {
     let mut model = Assign::new(rt.alloc())?;
     finds_values(&mut model)
 }
@@ -54,7 +54,7 @@ fn is_read(sort: Sort, read: Sort) -> bool {
 }
 
 #[test]
-fn numbers_are_read_at_a_sort(rt: HostRuntime) -> Result<(), Fail> {
+fn test_numbers_are_read_at_a_sort(rt: HostRuntime) -> Result<(), Fail> {
     const CASES: &[(Sort, Sort)] = &[
         (Sort::Bool, Sort::Real),
         (Sort::Int, Sort::Int),

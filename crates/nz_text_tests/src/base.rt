@@ -92,7 +92,7 @@ fn planned_sink(alloc: Global, fails: &[u64]) -> Result<MemSink, Memory> {
 }
 
 #[test]
-fn plain_source_gives_pieces_and_the_end(rt: HostRuntime) -> Result<(), Fail> {
+fn test_plain_source_gives_pieces_and_the_end(rt: HostRuntime) -> Result<(), Fail> {
     let mut source = plain_source(rt.alloc(), b"check-sat")?;
     let mut buf = [b'.'; 6];
     reads(&rt, &mut source, &mut buf, Ok(4), b"chec..");
@@ -103,7 +103,7 @@ fn plain_source_gives_pieces_and_the_end(rt: HostRuntime) -> Result<(), Fail> {
 }
 
 #[test]
-fn mem_source_fails_in_mid_stream(rt: HostRuntime) -> Result<(), Fail> {
+fn test_mem_source_fails_in_mid_stream(rt: HostRuntime) -> Result<(), Fail> {
     let mut source = planned_source(rt.alloc(), b"exit", &[1, 3])?;
     let mut buf = [b'.'; 3];
     reads(&rt, &mut source, &mut buf, Ok(3), b"exi");
@@ -116,7 +116,7 @@ fn mem_source_fails_in_mid_stream(rt: HostRuntime) -> Result<(), Fail> {
 }
 
 #[test]
-fn plain_sink_takes_what_fits(rt: HostRuntime) -> Result<(), Fail> {
+fn test_plain_sink_takes_what_fits(rt: HostRuntime) -> Result<(), Fail> {
     let mut sink = plain_sink(rt.alloc(), 5)?;
     hands_on(&rt, &mut sink, b"sat", 3);
     hands_on(&rt, &mut sink, b"unsat", 2);
@@ -128,7 +128,7 @@ fn plain_sink_takes_what_fits(rt: HostRuntime) -> Result<(), Fail> {
 }
 
 #[test]
-fn mem_sink_fails_where_planned(rt: HostRuntime) -> Result<(), Fail> {
+fn test_mem_sink_fails_where_planned(rt: HostRuntime) -> Result<(), Fail> {
     let mut sink = planned_sink(rt.alloc(), &[1, 2])?;
     writes(&rt, &mut sink, b"sat", Ok(3));
     flushes(&rt, &mut sink, Err(Failed));
@@ -141,7 +141,7 @@ fn mem_sink_fails_where_planned(rt: HostRuntime) -> Result<(), Fail> {
 }
 
 #[test]
-fn a_failed_flush_hands_on_nothing(rt: HostRuntime) -> Result<(), Fail> {
+fn test_a_failed_flush_hands_on_nothing(rt: HostRuntime) -> Result<(), Fail> {
     let mut sink = planned_sink(rt.alloc(), &[1])?;
     writes(&rt, &mut sink, b"sat", Ok(3));
     flushes(&rt, &mut sink, Err(Failed));
@@ -152,7 +152,7 @@ fn a_failed_flush_hands_on_nothing(rt: HostRuntime) -> Result<(), Fail> {
 }
 
 #[test]
-fn write_all_writes_every_byte_or_fails(rt: HostRuntime) -> Result<(), Fail> {
+fn test_write_all_writes_every_byte_or_fails(rt: HostRuntime) -> Result<(), Fail> {
     let mut sink = plain_sink(rt.alloc(), 8)?;
     writes_all(&rt, &mut sink, b"sat\n", Ok(()));
     writes_all(&rt, &mut sink, b"unsat\n", Err(Failed));
@@ -161,7 +161,7 @@ fn write_all_writes_every_byte_or_fails(rt: HostRuntime) -> Result<(), Fail> {
 }
 
 #[test]
-fn streams_pass_bytes_and_faults_on(rt: HostRuntime) -> Result<(), Fail> {
+fn test_streams_pass_bytes_and_faults_on(rt: HostRuntime) -> Result<(), Fail> {
     let mut input = Input::new(b"sat".as_slice());
     let mut buf = [b'.'; 8];
     reads(&rt, &mut input, &mut buf, Ok(3), b"sat.....");
@@ -184,7 +184,7 @@ fn an_output_passes_bytes_on(rt: &impl Abort, alloc: Global) -> Result<(), Fail>
 }
 
 #[test]
-fn an_output_fails_where_its_block_is_handed_on(rt: HostRuntime) -> Result<(), Fail> {
+fn test_an_output_fails_where_its_block_is_handed_on(rt: HostRuntime) -> Result<(), Fail> {
     let mut broken = Output::new(rt.alloc(), Broken)?;
     writes(&rt, &mut broken, b"sat", Ok(3));
     flushes(&rt, &mut broken, Err(Failed));
@@ -195,7 +195,7 @@ fn an_output_fails_where_its_block_is_handed_on(rt: HostRuntime) -> Result<(), F
 const PAIRS: &[(usize, bool)] = &[(3, true), (0, false)];
 
 #[test]
-fn literals_give_their_list_back(rt: HostRuntime) -> Result<(), Fail> {
+fn test_literals_give_their_list_back(rt: HostRuntime) -> Result<(), Fail> {
     let literals = Literals::from(PAIRS.to_vec(rt.alloc())?);
     is(&rt, literals.as_slice(), PAIRS);
     is(&rt, literals.into_vec().len(), 2);
@@ -290,7 +290,7 @@ fn used_work(rt: &impl Abort, alloc: Global) -> Result<Work<u8>, Fail> {
 }
 
 #[test]
-fn work_counts_units_and_keeps_lines(rt: HostRuntime) -> Result<(), Fail> {
+fn test_work_counts_units_and_keeps_lines(rt: HostRuntime) -> Result<(), Fail> {
     let mut work = used_work(&rt, rt.alloc())?;
     work_has(&rt, &work, 6, 0);
     is(&rt, line_at(&work, 1), Some(('D', 5)));
@@ -305,7 +305,7 @@ fn work_counts_units_and_keeps_lines(rt: HostRuntime) -> Result<(), Fail> {
 }
 
 #[test]
-fn reserve_empties_the_list(rt: HostRuntime) -> Result<(), Fail> {
+fn test_reserve_empties_the_list(rt: HostRuntime) -> Result<(), Fail> {
     let mut work = new_work(rt.alloc())?;
     reserve(&mut work, 1)?;
     note(&mut work, 7)?;
@@ -317,7 +317,7 @@ fn reserve_empties_the_list(rt: HostRuntime) -> Result<(), Fail> {
 }
 
 #[test]
-fn want_of_memory_has_one_name(rt: HostRuntime) {
+fn test_want_of_memory_has_one_name(rt: HostRuntime) {
     is(&rt, Memory::from(AllocError), Memory);
 }
 
@@ -345,7 +345,7 @@ fn texts_compare(rt: &impl Abort, a: &Text, b: &Text, same: bool) {
 }
 
 #[test]
-fn grows_and_gives_its_bytes(rt: HostRuntime) -> Result<(), Fail> {
+fn test_grows_and_gives_its_bytes(rt: HostRuntime) -> Result<(), Fail> {
     let mut text = text_of(rt.alloc(), b"check")?;
     text.push_slice(b"-sat")?;
     text_is(&rt, &text, b"check-sat");
@@ -359,7 +359,7 @@ fn grows_and_gives_its_bytes(rt: HostRuntime) -> Result<(), Fail> {
 }
 
 #[test]
-fn holds_what_is_longer_than_a_short_text(rt: HostRuntime) -> Result<(), Fail> {
+fn test_holds_what_is_longer_than_a_short_text(rt: HostRuntime) -> Result<(), Fail> {
     let mut text = text_of(rt.alloc(), b"sixteen bytes is")?;
     text_is(&rt, &text, b"sixteen bytes is");
     text.push_slice(b", and more")?;
@@ -369,7 +369,7 @@ fn holds_what_is_longer_than_a_short_text(rt: HostRuntime) -> Result<(), Fail> {
 }
 
 #[test]
-fn is_told_apart_by_its_bytes(rt: HostRuntime) -> Result<(), Fail> {
+fn test_is_told_apart_by_its_bytes(rt: HostRuntime) -> Result<(), Fail> {
     let text = text_of(rt.alloc(), b"p")?;
     texts_compare(&rt, &text, &text_of(rt.alloc(), b"q")?, false);
     text_is(&rt, &text, b"p");

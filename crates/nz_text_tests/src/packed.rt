@@ -32,7 +32,7 @@ fn is_packed(rt: &impl Abort, what: &PackedWhat, want: &[u8]) {
 }
 
 #[test]
-fn a_command_is_packed(rt: HostRuntime) -> Result<(), Fail> {
+fn test_a_command_is_packed(rt: HostRuntime) -> Result<(), Fail> {
     let script = b" (assert (or p |\t|) () :k 1 1.5 #xF #b1 \"s\")";
     let packed = pack_first(rt.alloc(), script)?;
     is(&rt, packed.from, 1);
@@ -53,14 +53,14 @@ fn pack_tree(alloc: Global, tree: &Tree) -> Result<Packed, Memory> {
 }
 
 #[test]
-fn a_token_alone_is_packed(rt: HostRuntime) -> Result<(), Fail> {
+fn test_a_token_alone_is_packed(rt: HostRuntime) -> Result<(), Fail> {
     let packed = pack_tree(rt.alloc(), &numeral(rt.alloc(), b"12")?)?;
     is_bytes(&rt, packed.as_bytes(), b"\x0112\x05");
     Ok(())
 }
 
 #[test]
-fn what_is_refused_is_kept(rt: HostRuntime) -> Result<(), Fail> {
+fn test_what_is_refused_is_kept(rt: HostRuntime) -> Result<(), Fail> {
     let heard = Heard {
         from: 3,
         to: 5,
@@ -76,7 +76,7 @@ fn what_is_refused_is_kept(rt: HostRuntime) -> Result<(), Fail> {
 }
 
 #[test]
-fn an_entry_is_small(rt: HostRuntime) -> Result<(), Fail> {
+fn test_an_entry_is_small(rt: HostRuntime) -> Result<(), Fail> {
     holds(&rt, size_of::<Kept>() <= ENTRY, "few bytes");
     Ok(())
 }

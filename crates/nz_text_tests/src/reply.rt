@@ -77,7 +77,7 @@ fn show_numbers(shows: &mut Shows, numbers: &[(Sort, i64, i64)]) -> Result<(), M
 }
 
 #[test]
-fn values_are_told_behind_their_terms(rt: HostRuntime) -> Result<(), Fail> {
+fn test_values_are_told_behind_their_terms(rt: HostRuntime) -> Result<(), Fail> {
     let mut shows = Shows::new(rt.alloc());
     show(&mut shows, Shown::Value(Sort::Bool, Value::Truth(true)))?;
     show_numbers(&mut shows, &[(Sort::Int, -7, 1), (Sort::Real, 3, 2)])?;
@@ -99,7 +99,7 @@ const NUMBERS: &[(Sort, i64, i64)] = &[
 ];
 
 #[test]
-fn numbers_are_spelled_by_their_sort(rt: HostRuntime) -> Result<(), Fail> {
+fn test_numbers_are_spelled_by_their_sort(rt: HostRuntime) -> Result<(), Fail> {
     let mut shows = Shows::new(rt.alloc());
     show_numbers(&mut shows, NUMBERS)?;
     tells(
@@ -112,7 +112,7 @@ fn numbers_are_spelled_by_their_sort(rt: HostRuntime) -> Result<(), Fail> {
 }
 
 #[test]
-fn operations_that_leave_the_numbers_are_told(rt: HostRuntime) -> Result<(), Fail> {
+fn test_operations_that_leave_the_numbers_are_told(rt: HostRuntime) -> Result<(), Fail> {
     let mut shows = Shows::new(rt.alloc());
     let wide = Wide {
         op: Op::Add,
@@ -149,7 +149,7 @@ fn model(alloc: Global, bindings: Bindings) -> Result<Reply, Memory> {
 }
 
 #[test]
-fn a_model_is_told(rt: HostRuntime) -> Result<(), Fail> {
+fn test_a_model_is_told(rt: HostRuntime) -> Result<(), Fail> {
     let mut bindings = Bindings::new(rt.alloc());
     let truth = Value::Truth(false);
     bind(rt.alloc(), &mut bindings, b"p q", Sort::Bool, truth)?;
@@ -181,7 +181,7 @@ const LINES: &[u8] = b"success\n(:name \"nuz\")\n(:error-behavior continued-exec
     (:assertion-stack-levels 2)\n(:reason-unknown (spent 9))\n\"say \"\"a\"\"\"\n(error \"4 not linear\")\n";
 
 #[test]
-fn replies_of_one_line_are_told(rt: HostRuntime) -> Result<(), Fail> {
+fn test_replies_of_one_line_are_told(rt: HostRuntime) -> Result<(), Fail> {
     let mut sink = sink_with(rt.alloc(), ROOM)?;
     let what = heard_in(rt.alloc(), b"(echo \"say \"\"a\"\"\")");
     is(&rt, write_lines(&mut sink, &what), Ok(()));
@@ -190,7 +190,7 @@ fn replies_of_one_line_are_told(rt: HostRuntime) -> Result<(), Fail> {
 }
 
 #[test]
-fn a_reason_names_the_operation_that_left_the_numbers(rt: HostRuntime) -> Result<(), Fail> {
+fn test_a_reason_names_the_operation_that_left_the_numbers(rt: HostRuntime) -> Result<(), Fail> {
     let wide = Wide {
         op: Op::Mul,
         a: number(-1, 2),
@@ -206,7 +206,7 @@ fn a_reason_names_the_operation_that_left_the_numbers(rt: HostRuntime) -> Result
 }
 
 #[test]
-fn a_command_without_a_text_repeats_none(rt: HostRuntime) -> Result<(), Fail> {
+fn test_a_command_without_a_text_repeats_none(rt: HostRuntime) -> Result<(), Fail> {
     tells(&rt, rt.alloc(), b"(echo a)", &Reply::Echo, b"\"\"\n")
 }
 
@@ -229,7 +229,7 @@ fn each_is(rt: &impl Abort, bindings: &Bindings, name: &[u8], wanted: &Value) {
 }
 
 #[test]
-fn bindings_have_their_values(rt: HostRuntime) -> Result<(), Fail> {
+fn test_bindings_have_their_values(rt: HostRuntime) -> Result<(), Fail> {
     let mut bindings = Bindings::new(rt.alloc());
     is(&rt, count_of(&bindings), 0);
     bind(
@@ -257,7 +257,7 @@ fn each_is_true(rt: &impl Abort, shows: &Shows) {
 }
 
 #[test]
-fn shows_have_what_is_told(rt: HostRuntime) -> Result<(), Fail> {
+fn test_shows_have_what_is_told(rt: HostRuntime) -> Result<(), Fail> {
     let mut shows = Shows::new(rt.alloc());
     show(&mut shows, Shown::Value(Sort::Bool, Value::Truth(true)))?;
     each_is_true(&rt, &shows);
@@ -265,7 +265,7 @@ fn shows_have_what_is_told(rt: HostRuntime) -> Result<(), Fail> {
 }
 
 #[test]
-fn a_sink_without_room_is_told(rt: HostRuntime) -> Result<(), Fail> {
+fn test_a_sink_without_room_is_told(rt: HostRuntime) -> Result<(), Fail> {
     let mut sink = sink_with(rt.alloc(), 5)?;
     let written = write(&mut sink, &What::Unread, &Reply::Unsupported);
     is(&rt, written, Err(WriteFault));
@@ -275,7 +275,7 @@ fn a_sink_without_room_is_told(rt: HostRuntime) -> Result<(), Fail> {
 }
 
 #[test]
-fn a_journal_has_what_it_was_given(rt: HostRuntime) -> Result<(), Fail> {
+fn test_a_journal_has_what_it_was_given(rt: HostRuntime) -> Result<(), Fail> {
     let journal = Journal::from_vec(Vec::new(rt.alloc()));
     holds(&rt, journal.as_slice().is_empty(), "nothing");
     Ok(())

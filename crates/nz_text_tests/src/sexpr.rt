@@ -212,12 +212,12 @@ fn hears_table(
 }
 
 #[test]
-fn hears_hostile_scripts(rt: HostRuntime) -> Result<(), Fail> {
+fn test_hears_hostile_scripts(rt: HostRuntime) -> Result<(), Fail> {
     hears_table(&rt, rt.alloc(), SCRIPT_LIMITS, HEARD)
 }
 
 #[test]
-fn hears_scripts_at_the_limits(rt: HostRuntime) -> Result<(), Fail> {
+fn test_hears_scripts_at_the_limits(rt: HostRuntime) -> Result<(), Fail> {
     let limits = Limits { depth: 3, bytes: 9 };
     hears_table(&rt, rt.alloc(), limits, HEARD_AT_LIMITS)
 }
@@ -244,7 +244,7 @@ fn hears_nested(rt: &impl Abort, alloc: Global, depth: usize, want: &str) -> Res
 }
 
 #[test]
-fn hears_two_hundred_lists_in_one_another(rt: HostRuntime) -> Result<(), Fail> {
+fn test_hears_two_hundred_lists_in_one_another(rt: HostRuntime) -> Result<(), Fail> {
     let shown = nested(rt.alloc(), " [", "]", 200)?;
     let want = format!(in rt.alloc(); "0-400{shown}\n")?;
     hears_nested(&rt, rt.alloc(), 200, want.as_str())?;
@@ -265,7 +265,7 @@ fn every_byte_in_a_comment(alloc: Global) -> Result<Vec<u8>, AllocError> {
 }
 
 #[test]
-fn passes_every_byte_in_a_comment(rt: HostRuntime) -> Result<(), Fail> {
+fn test_passes_every_byte_in_a_comment(rt: HostRuntime) -> Result<(), Fail> {
     let bytes = every_byte_in_a_comment(rt.alloc())?;
     let want = "256-259 [ |a|]\n";
     hears(&rt, rt.alloc(), SCRIPT_LIMITS, bytes.as_slice(), want)
@@ -277,7 +277,7 @@ const PIECES_HEARD: &str =
     "1-11 [ |ab| [ |c|] |d|]\n11-12 bad 1\n12-13 bad 1\n13-14 bad 1\n16-22 bad 1\n22-31 bad 6\n31-52 bad 6\n52-54 []\n54-55 bad 1\n55-57 unclosed\n";
 
 #[test]
-fn reads_pieces_of_any_size(rt: HostRuntime) -> Result<(), Fail> {
+fn test_reads_pieces_of_any_size(rt: HostRuntime) -> Result<(), Fail> {
     let limits = Limits {
         depth: 2,
         bytes: 20,
@@ -295,7 +295,7 @@ fn read_script(reader: &mut Reader, script: &[u8], all: &mut Vec<Heard>) -> Resu
 }
 
 #[test]
-fn begins_again_after_the_end(rt: HostRuntime) -> Result<(), Fail> {
+fn test_begins_again_after_the_end(rt: HostRuntime) -> Result<(), Fail> {
     let mut reader = new_reader(rt.alloc(), Limits { depth: 1, bytes: 4 });
     let mut all = Vec::new(rt.alloc());
     read_script(&mut reader, b"(x", &mut all)?;
@@ -311,7 +311,7 @@ fn list_of_one(alloc: Global) -> Result<TreeList, Memory> {
 }
 
 #[test]
-fn builds_a_list(rt: HostRuntime) -> Result<(), Fail> {
+fn test_builds_a_list(rt: HostRuntime) -> Result<(), Fail> {
     let list = list_of_one(rt.alloc())?;
     is(&rt, list.as_slice().len(), 1);
     Ok(())

@@ -1,4 +1,4 @@
+mod AssertedBounds
 mod Ordered
 mod Outcomes
-mod Standing
 mod Tables

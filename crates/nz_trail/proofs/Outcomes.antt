@@ -3,14 +3,14 @@ use Rattle.std.proofs.Common.{◌≡◌, ℕ, List, refl, sym, ap₂, subst}
 use Rattle.std.specs.Prelude.{◌↔◌}
 use Rattle.std.specs.declared.cmp.Ordering.{Ordering}
 use Rattle.std.specs.Cmp.{IsTotalOrder}
-use Rattle.nz_trail.specs.declared.limits.Bound.{Bound}
-use Rattle.nz_trail.specs.declared.limits.Bound.TheVariants.{Kept, Tighter, Clash}
+use Rattle.nz_trail.specs.declared.limits.AssertOutcome.{AssertOutcome}
+use Rattle.nz_trail.specs.declared.limits.AssertOutcome.TheVariants.{Kept, Tighter, Clash}
 use Rattle.nz_trail.specs.Bounds.{Asserted, IsImplied, IsExcluded, ClashesWith, IsConsistent}
-use Rattle.nz_trail.proofs.Standing.{clash_excludes, clashes_with_one, implied_not_excluded}
+use Rattle.nz_trail.proofs.AssertedBounds.{clash_excludes, clashes_with_one, implied_not_excluded}
 
 module _ {S : Type 0} (order : S → S → Ordering) where
   -- what the clauses say of the answer
-  pub record IsToldOf (list : List (Asserted S)) (b : Asserted S) (told : Bound) : Type 0 where
+  pub record IsToldOf (list : List (Asserted S)) (b : Asserted S) (told : AssertOutcome) : Type 0 where
     pub kept : (told ≡ Kept) ↔ IsImplied order list b
     pub clash : (r s : ℕ) → (told ≡ Clash r s) ↔ ((r ≡ b.reason) × ClashesWith order list b s)
     pub tighter : (told ≡ Tighter) ↔ ((¬ IsImplied order list b) × (¬ IsExcluded order list b))

@@ -16,7 +16,7 @@ use Rattle.nz_trail.specs.declared.trail.Entry.{Entry}
 use Rattle.nz_trail.specs.Bounds.{Asserted, TrailState, IsOn, Stands, IsImplied, IsExcluded, IsConsistent}
 use Rattle.nz_trail.specs.Pairs.{limit_on, with_limit}
 use Rattle.nz_trail.specs.Stored.{IsTable, IsTabled, asserted_of, state_of}
-use Rattle.nz_trail.proofs.Standing.{stands_put, stands_other, stands_back, consistent_put, consistent_front}
+use Rattle.nz_trail.proofs.AssertedBounds.{stands_put, stands_other, stands_back, consistent_put, consistent_front}
 
 -- ---- Lists
 

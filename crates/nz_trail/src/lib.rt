@@ -7,5 +7,5 @@
 mod limits;
 mod trail;
 
-pub use limits::{Bound, Limit, Reason, Side, Var};
+pub use limits::{AssertOutcome, Limit, Reason, Side, Var};
 pub use trail::Trail;

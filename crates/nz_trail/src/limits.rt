@@ -36,7 +36,7 @@ impl Side {
 
 /// What comes of an asserted bound.
 #[derive(Clone, Copy, Debug, PartialEq, Eq)]
-pub enum Bound {
+pub enum AssertOutcome {
     /// One at least as tight stands.
     Kept,
     /// It stands from now on.

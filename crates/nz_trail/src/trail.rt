@@ -3,7 +3,7 @@ ghost use Rattle.std.specs.Prelude.{◌≡◌, ◌≢◌, ◌↔◌, ◌+◌, �
 ghost use Rattle.nz_trail.specs.Bounds.{ClashesWith, IsConsistent, IsExcluded, IsImplied, Stands, asserted, empty_trail, with_bound};
 ghost use Rattle.nz_trail.specs.declared.limits.Side.TheVariants.{Lower, Upper};
 
-use crate::limits::{Bound, Limit, Limits, Reason, Side, Var, excluding, is_implied};
+use crate::limits::{AssertOutcome, Limit, Limits, Reason, Side, Var, excluding, is_implied};
 use nz_base::Memory;
 use nz_delta::Scalar;
 use std::alloc::Global;
@@ -104,49 +104,49 @@ impl<S: Scalar> Trail<S> {
         side: Side,
         value: S,
         reason: Reason,
-    ) -> Result<Bound, Memory>
+    ) -> Result<AssertOutcome, Memory>
         requires known { var < self.old.vars }
         ensures kept { let b = asserted var side value reason in
-            IfOk result (λ o. (o ≡ Bound.Kept) ↔ IsImplied S.order self.old.asserted b) }
+            IfOk result (λ o. (o ≡ AssertOutcome.Kept) ↔ IsImplied S.order self.old.asserted b) }
 
         // A bound that clashes is never implied too, since the bounds of a trail are consistent.
         ensures clash { let b = asserted var side value reason in
-            IfOk result (λ o. (r : ℕ) → (s : ℕ) → (o ≡ Bound.Clash r s) ↔ ((r ≡ reason) × ClashesWith S.order self.old.asserted b s)) }
+            IfOk result (λ o. (r : ℕ) → (s : ℕ) → (o ≡ AssertOutcome.Clash r s) ↔ ((r ≡ reason) × ClashesWith S.order self.old.asserted b s)) }
         ensures tighter { let b = asserted var side value reason in
-            IfOk result (λ o. (o ≡ Bound.Tighter) ↔ ((¬ IsImplied S.order self.old.asserted b) × (¬ IsExcluded S.order self.old.asserted b))) }
+            IfOk result (λ o. (o ≡ AssertOutcome.Tighter) ↔ ((¬ IsImplied S.order self.old.asserted b) × (¬ IsExcluded S.order self.old.asserted b))) }
 
-        ensures grown { result ≡ Ok Bound.Tighter → self.new ≡ with_bound self.old (asserted var side value reason) }
-        ensures unchanged { result ≢ Ok Bound.Tighter → self.new ≡ self.old }
+        ensures grown { result ≡ Ok AssertOutcome.Tighter → self.new ≡ with_bound self.old (asserted var side value reason) }
+        ensures unchanged { result ≢ Ok AssertOutcome.Tighter → self.new ≡ self.old }
 
         // Only a bound that is to stand takes memory.
         ensures memory { let b = asserted var side value reason in
             OnErr result ((¬ IsImplied S.order self.old.asserted b) × (¬ IsExcluded S.order self.old.asserted b)) }
     {
         match self.judge(var, side, value, reason) {
-            Bound::Tighter => {
+            AssertOutcome::Tighter => {
                 self.put(var, side, Limit { value, reason })?;
-                Ok(Bound::Tighter)
+                Ok(AssertOutcome::Tighter)
             }
             outcome => Ok(outcome),
         }
     }
 
     /// What comes of a bound, by what stands.
-    fn judge(&self, var: Var, side: Side, value: S, reason: Reason) -> Bound
+    fn judge(&self, var: Var, side: Side, value: S, reason: Reason) -> AssertOutcome
         requires known { var < self.now.vars }
-        ensures kept { (result ≡ Bound.Kept) ↔ IsImplied S.order self.now.asserted (asserted var side value reason) }
+        ensures kept { (result ≡ AssertOutcome.Kept) ↔ IsImplied S.order self.now.asserted (asserted var side value reason) }
         ensures clash { let b = asserted var side value reason in
-            (r : ℕ) → (s : ℕ) → (result ≡ Bound.Clash r s) ↔ ((r ≡ reason) × ClashesWith S.order self.now.asserted b s) }
+            (r : ℕ) → (s : ℕ) → (result ≡ AssertOutcome.Clash r s) ↔ ((r ≡ reason) × ClashesWith S.order self.now.asserted b s) }
         ensures tighter { let b = asserted var side value reason in
-            (result ≡ Bound.Tighter) ↔ ((¬ IsImplied S.order self.now.asserted b) × (¬ IsExcluded S.order self.now.asserted b)) }
+            (result ≡ AssertOutcome.Tighter) ↔ ((¬ IsImplied S.order self.now.asserted b) × (¬ IsExcluded S.order self.now.asserted b)) }
     {
         let limits = self.limits[var];
         if is_implied(side, value, limits.on(side)) {
-            return Bound::Kept;
+            return AssertOutcome::Kept;
         }
         match excluding(side, value, limits.on(side.other())) {
-            Some(other) => Bound::Clash(reason, other.reason),
-            None => Bound::Tighter,
+            Some(other) => AssertOutcome::Clash(reason, other.reason),
+            None => AssertOutcome::Tighter,
         }
     }
 

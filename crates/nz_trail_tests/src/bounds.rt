@@ -2,7 +2,7 @@
 use crate::plain::{Plain, expected, next, plainly, random_bound, tightest};
 use nz_delta::{Delta, Scalar};
 use nz_frac::Frac;
-use nz_trail::{Bound, Limit, Reason, Side, Trail, Var};
+use nz_trail::{AssertOutcome, Limit, Reason, Side, Trail, Var};
 use std::test::Fail;
 
 fn frac(num: i128, den: i128) -> Result<Frac, Fail> {
@@ -23,7 +23,7 @@ fn put<S: Scalar>(
     side: Side,
     value: S,
     reason: Reason,
-) -> Result<Bound, Fail> {
+) -> Result<AssertOutcome, Fail> {
     if var >= trail.len() {
         return Err(Fail::from("no variable"));
     }
@@ -55,7 +55,7 @@ fn reasons<S: Scalar>(trail: &Trail<S>, var: Var) -> (Option<Reason>, Option<Rea
 /// Whether bounds of the first variable, asserted one after another, come to what is expected.
 fn all_come_to<S: Scalar>(
     trail: &mut Trail<S>,
-    steps: &[(Side, S, Reason, Bound)],
+    steps: &[(Side, S, Reason, AssertOutcome)],
 ) -> Result<bool, Fail> {
     for (side, value, reason, wanted) in steps {
         if put(trail, 0, *side, *value, *reason)? != *wanted {
@@ -66,7 +66,7 @@ fn all_come_to<S: Scalar>(
 }
 
 #[test]
-fn variables_have_no_bounds_at_first(rt: HostRuntime) -> Result<(), Fail> {
+fn test_variables_have_no_bounds_at_first(rt: HostRuntime) -> Result<(), Fail> {
     let mut trail: Trail<Frac> = Trail::new(rt.alloc());
     assert_eq!(rt; trail.add_var()?, 0);
     assert_eq!(rt; trail.add_var()?, 1);
@@ -75,20 +75,20 @@ fn variables_have_no_bounds_at_first(rt: HostRuntime) -> Result<(), Fail> {
 }
 
 #[test]
-fn fractions_tighten_and_clash(rt: HostRuntime) -> Result<(), Fail> {
+fn test_fractions_tighten_and_clash(rt: HostRuntime) -> Result<(), Fail> {
     let mut trail = Trail::new(rt.alloc());
     trail.add_var()?;
     let below = [
-        (Side::Lower, frac(1, 2)?, 10, Bound::Tighter),
-        (Side::Lower, frac(1, 3)?, 11, Bound::Kept),
-        (Side::Lower, frac(2, 4)?, 12, Bound::Kept),
+        (Side::Lower, frac(1, 2)?, 10, AssertOutcome::Tighter),
+        (Side::Lower, frac(1, 3)?, 11, AssertOutcome::Kept),
+        (Side::Lower, frac(2, 4)?, 12, AssertOutcome::Kept),
     ];
     assert!(rt; all_come_to(&mut trail, &below)?);
     let above = [
-        (Side::Upper, frac(2, 3)?, 13, Bound::Tighter),
-        (Side::Lower, frac(3, 4)?, 14, Bound::Clash(14, 13)),
-        (Side::Upper, frac(1, 4)?, 15, Bound::Clash(15, 10)),
-        (Side::Upper, frac(1, 2)?, 16, Bound::Tighter),
+        (Side::Upper, frac(2, 3)?, 13, AssertOutcome::Tighter),
+        (Side::Lower, frac(3, 4)?, 14, AssertOutcome::Clash(14, 13)),
+        (Side::Upper, frac(1, 4)?, 15, AssertOutcome::Clash(15, 10)),
+        (Side::Upper, frac(1, 2)?, 16, AssertOutcome::Tighter),
     ];
     assert!(rt; all_come_to(&mut trail, &above)?);
     assert_eq!(rt; reasons(&trail, 0), (Some(10), Some(16)));
@@ -98,13 +98,13 @@ fn fractions_tighten_and_clash(rt: HostRuntime) -> Result<(), Fail> {
 }
 
 #[test]
-fn strict_bounds_clash(rt: HostRuntime) -> Result<(), Fail> {
+fn test_strict_bounds_clash(rt: HostRuntime) -> Result<(), Fail> {
     let mut trail = Trail::new(rt.alloc());
     trail.add_var()?;
     let steps = [
-        (Side::Upper, delta(1, 0)?, 1, Bound::Tighter),
-        (Side::Lower, delta(1, 1)?, 2, Bound::Clash(2, 1)),
-        (Side::Lower, delta(1, -1)?, 3, Bound::Tighter),
+        (Side::Upper, delta(1, 0)?, 1, AssertOutcome::Tighter),
+        (Side::Lower, delta(1, 1)?, 2, AssertOutcome::Clash(2, 1)),
+        (Side::Lower, delta(1, -1)?, 3, AssertOutcome::Tighter),
     ];
     assert!(rt; all_come_to(&mut trail, &steps)?);
     let (lower, upper) = bounds(&trail, 0);
@@ -128,13 +128,17 @@ fn agrees(trail: &Trail<Delta>, list: &[Plain]) -> bool {
 }
 
 /// Asserts a bound on the trail and puts it on the list, if it doesn't clash.
-fn put_both(trail: &mut Trail<Delta>, list: &mut Vec<Plain>, b: Plain) -> Result<Bound, Fail> {
+fn put_both(
+    trail: &mut Trail<Delta>,
+    list: &mut Vec<Plain>,
+    b: Plain,
+) -> Result<AssertOutcome, Fail> {
     let told = put(trail, b.var, b.side, delta(b.value.0, b.value.1)?, b.reason)?;
     if told != expected(list.as_slice(), b) {
         return Err(Fail::from("another outcome"));
     }
     match told {
-        Bound::Clash(_, _) => {}
+        AssertOutcome::Clash(_, _) => {}
         _ => list.push(b)?,
     }
     Ok(told)
@@ -170,15 +174,15 @@ fn step(
             None => Ok(0),
         },
         _ => match put_both(trail, list, random_bound(seed, reason))? {
-            Bound::Kept => Ok(2),
-            Bound::Tighter => Ok(3),
-            Bound::Clash(_, _) => Ok(4),
+            AssertOutcome::Kept => Ok(2),
+            AssertOutcome::Tighter => Ok(3),
+            AssertOutcome::Clash(_, _) => Ok(4),
         },
     }
 }
 
 #[test]
-fn undo_gives_back_what_stood(rt: HostRuntime) -> Result<(), Fail> {
+fn test_undo_gives_back_what_stood(rt: HostRuntime) -> Result<(), Fail> {
     let mut trail = Trail::new(rt.alloc());
     for _ in 0..3 {
         trail.add_var()?;

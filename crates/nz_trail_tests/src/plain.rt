@@ -1,6 +1,6 @@
 //! Bounds as a plain list that is scanned, and a sequence of numbers that looks random.
 use nz_delta::Delta;
-use nz_trail::{Bound, Limit, Side};
+use nz_trail::{AssertOutcome, Limit, Side};
 
 /// A bound c + k*δ that was asserted.
 #[derive(Clone, Copy, Debug, PartialEq, Eq)]
@@ -37,10 +37,10 @@ pub fn tightest(list: &[Plain], var: usize, side: Side) -> Option<((i128, i128),
 }
 
 /// What comes of a bound, where the list has those before it.
-pub fn expected(list: &[Plain], b: Plain) -> Bound {
+pub fn expected(list: &[Plain], b: Plain) -> AssertOutcome {
     if let Some((value, _)) = tightest(list, b.var, b.side) {
         if !is_tighter(b.side, b.value, value) {
-            return Bound::Kept;
+            return AssertOutcome::Kept;
         }
     }
     let (other, low_side) = match b.side {
@@ -48,9 +48,13 @@ pub fn expected(list: &[Plain], b: Plain) -> Bound {
         Side::Upper => (tightest(list, b.var, Side::Lower), false),
     };
     match other {
-        Some((value, reason)) if low_side && b.value > value => Bound::Clash(b.reason, reason),
-        Some((value, reason)) if !low_side && b.value < value => Bound::Clash(b.reason, reason),
-        _ => Bound::Tighter,
+        Some((value, reason)) if low_side && b.value > value => AssertOutcome::Clash(
+            b.reason, reason,
+        ),
+        Some((value, reason)) if !low_side && b.value < value => AssertOutcome::Clash(
+            b.reason, reason,
+        ),
+        _ => AssertOutcome::Tighter,
     }
 }
 

@@ -1,5 +1,5 @@
-pub mod Carrying
-pub mod Comparing
-pub mod Dividing
-pub mod Gathering
-pub mod Walking
+pub mod CombinedValues
+pub mod Comparisons
+pub mod IntegerDivision
+pub mod OperationSequences
+pub mod TermOutcomes

@@ -1,3 +1,2 @@
 pub mod Outcomes
 pub mod Relations
-pub mod Stops

@@ -3,10 +3,10 @@ use Rattle.std.specs.Prelude.{◌≡◌, ℕ, nat_eq, ⊤, List, [], ◌∷◌, 
 use Rattle.std.specs.HashMap.{HashMap, get}
 use Rattle.std.specs.List.{AllByRecursion}
 use Rattle.nz_fractions.specs.Fraction.{Arithmetic, Operation, first_wide}
-use Rattle.nz_spec.specs.Operations.{operations_by, operations_of}
-use Rattle.nz_spec.specs.Term as spec
-use Rattle.nz_spec.specs.Term.{Assignment, Constant, Head, constant, integer, decimal_number, Term, value_of, carried_out, combined, default_value, number, whole_number, decimal_value}
-use Rattle.nz_spec.specs.Table.{Node, listed_value, term_in}
+use Rattle.nz_spec.specs.terms.Operations.{operations_by, operations_of}
+use Rattle.nz_spec.specs.terms.Term as spec
+use Rattle.nz_spec.specs.terms.Term.{Assignment, Constant, Head, constant, integer, decimal_number, Term, value_of, carried_out, combined, default_value, number, whole_number, decimal_value}
+use Rattle.nz_spec.specs.terms.Table.{Node, listed_value, term_in}
 use Rattle.nz_frac.specs.Operations.{operation_of}
 use Rattle.nz_frac.specs.declared.frac.Wide as wide
 use Rattle.nz_term.specs.Values as own

@@ -1,6 +1,6 @@
 -- What the relations of the code are.
 use Rattle.std.specs.Prelude.{Bool}
-use Rattle.nz_spec.specs.Term.{Value, are_equal, is_less, is_at_most}
+use Rattle.nz_spec.specs.terms.Term.{Value, are_equal, is_less, is_at_most}
 use Rattle.nz_truth.specs.declared.chains.Relation.{Relation}
 use Rattle.nz_truth.specs.declared.chains.Relation.TheVariants.{Equal, Less, AtMost}
 

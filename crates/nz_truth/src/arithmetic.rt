@@ -1,8 +1,8 @@
 //! The operations that can leave the numbers, on values. A truth counts as 0 where a number is meant.
 ghost use Rattle.std.specs.Prelude.{◌≡◌, map};
 ghost use Rattle.nz_fractions.specs.Fraction.{whole};
-ghost use Rattle.nz_spec.specs.Operations.{head_operations, operations_by};
-ghost use Rattle.nz_spec.specs.Term.{Assignment, NumberSort, difference as minus_head, carried_out, combined, head_value, number, number_of};
+ghost use Rattle.nz_spec.specs.terms.Operations.{head_operations, operations_by};
+ghost use Rattle.nz_spec.specs.terms.Term.{Assignment, NumberSort, difference as minus_head, carried_out, combined, head_value, number, number_of};
 ghost use Rattle.nz_frac.specs.Operations.{operator_of};
 ghost use Rattle.nz_term.specs.Values.{value_of};
 ghost use Rattle.nz_truth.specs.Outcomes.{IsOperated, IsOutcomeOf};

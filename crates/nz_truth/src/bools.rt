@@ -1,7 +1,7 @@
 //! The operators of Core on values. A number counts as `false` where a truth is meant.
 ghost use Rattle.std.specs.Prelude.{◌≡◌, map};
 ghost use Rattle.std.specs.List.{list_all, list_any};
-ghost use Rattle.nz_spec.specs.Term.{Assignment, negation as not_head, conjunction as and_head, disjunction as or_head, exclusion as xor_head, choice as ite_head, Sort, combined, excluded, is_true, head_value};
+ghost use Rattle.nz_spec.specs.terms.Term.{Assignment, negation as not_head, conjunction as and_head, disjunction as or_head, exclusion as xor_head, choice as ite_head, Sort, combined, excluded, is_true, head_value};
 ghost use Rattle.nz_term.specs.Values.{value_of};
 
 use crate::chains::are_equal;

@@ -1,6 +1,6 @@
 //! Relations of values, and chains of them: each argument stands in the relation to the next.
 ghost use Rattle.std.specs.Prelude.{◌≡◌, map};
-ghost use Rattle.nz_spec.specs.Term.{are_chained, are_equal, is_at_most, is_less};
+ghost use Rattle.nz_spec.specs.terms.Term.{are_chained, are_equal, is_at_most, is_less};
 ghost use Rattle.nz_term.specs.Values.{value_of};
 ghost use Rattle.nz_truth.specs.Relations.{relation_of};
 

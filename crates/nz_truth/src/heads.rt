@@ -1,7 +1,7 @@
 //! What a head comes to over the values of its arguments.
 ghost use Rattle.std.specs.Prelude.{◌≡◌, [], map};
-ghost use Rattle.nz_spec.specs.Operations.{head_operations};
-ghost use Rattle.nz_spec.specs.Term.{Assignment, are_chained, default_value, head_value, truth};
+ghost use Rattle.nz_spec.specs.terms.Operations.{head_operations};
+ghost use Rattle.nz_spec.specs.terms.Term.{Assignment, are_chained, default_value, head_value, truth};
 ghost use Rattle.nz_term.specs.Constants.{sort_of};
 ghost use Rattle.nz_term.specs.Heads.{head_of, operator_of};
 ghost use Rattle.nz_term.specs.Values.{value_of};

@@ -1,7 +1,7 @@
 //! The operators on integers, which never leave the numbers: `div`, `mod`, `abs`, and those that round.
 ghost use Rattle.std.specs.Prelude.{◌≡◌, ◌≤◌, map, unsigned_abs};
 ghost use Rattle.nz_fractions.specs.Fraction.{largest, whole};
-ghost use Rattle.nz_spec.specs.Term.{Assignment, integer_quotient as div_head, modulus as mod_head, magnitude as abs_head, to_real as to_real_head, to_int as to_int_head, is_int as is_int_head, combined, divided, div_of, head_value, integer_of, mod_of, whole_number};
+ghost use Rattle.nz_spec.specs.terms.Term.{Assignment, integer_quotient as div_head, modulus as mod_head, magnitude as abs_head, to_real as to_real_head, to_int as to_int_head, is_int as is_int_head, combined, divided, div_of, head_value, integer_of, mod_of, whole_number};
 ghost use Rattle.nz_term.specs.Values.{value_of};
 
 use crate::arithmetic::{number_of, whole_value};

@@ -10,5 +10,5 @@ mod value;
 mod walk;
 
 pub use heads::default_value;
-pub use value::{EvalStop, Values, eval};
+pub use value::{Values, eval};
 pub use walk::{Outcome, outcomes};

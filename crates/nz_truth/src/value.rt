@@ -1,17 +1,15 @@
 //! The values of terms, where the constants of their table have given values.
 ghost use Rattle.std.specs.Prelude.{◌≡◌, ◌<◌, length, map, flat_map, All, IfOk, IfErr};
 ghost use Rattle.nz_fractions.specs.Fraction.{first_wide};
-ghost use Rattle.nz_spec.specs.Operations.{operations_of};
-ghost use Rattle.nz_spec.specs.Term.{value_of};
-ghost use Rattle.nz_spec.specs.Table.{term_in, assignment_by};
+ghost use Rattle.nz_spec.specs.terms.Operations.{operations_of};
+ghost use Rattle.nz_spec.specs.terms.Term.{value_of};
+ghost use Rattle.nz_spec.specs.terms.Table.{term_in, assignment_by};
 ghost use Rattle.nz_term.specs.Values as own;
-ghost use Rattle.nz_truth.specs.Stops.{IsStopAt};
+ghost use Rattle.nz_term.specs.Stops.{IsStopAt};
 
 use crate::walk::{evaluated, gather};
-use nz_base::Memory;
-use nz_frac::Wide;
-use nz_term::{Assign, TermId, Terms, Value};
-use std::alloc::{AllocError, Global};
+use nz_term::{ArithmeticStop, Assign, TermId, Terms, Value};
+use std::alloc::Global;
 use std::marker::Model;
 
 /// Values of terms, in order. A contract sees them as a list.
@@ -22,7 +20,7 @@ pub struct Values {
 
 impl Model for Values {
     ghost use Rattle.std.specs.Prelude.{List, map};
-    ghost use Rattle.nz_spec.specs.Term as spec;
+    ghost use Rattle.nz_spec.specs.terms.Term as spec;
 
     ghost Value = { List spec.Value };
 
@@ -40,35 +38,6 @@ impl Values {
     }
 }
 
-/// Why terms were not evaluated.
-#[derive(Clone, Copy, Debug)]
-pub enum EvalStop {
-    /// The first operation that leaves the numbers.
-    Wide(Wide),
-    /// Memory was wanted and refused.
-    Memory,
-}
-
-impl From<Memory> for EvalStop {
-    ghost use Rattle.nz_truth.specs.declared.value.EvalStop.TheVariants as stops;
-
-    ghost from_gives = { λ _ r. r ≡ stops.Memory };
-
-    fn from(_memory: Memory) -> EvalStop {
-        EvalStop::Memory
-    }
-}
-
-impl From<AllocError> for EvalStop {
-    ghost use Rattle.nz_truth.specs.declared.value.EvalStop.TheVariants as stops;
-
-    ghost from_gives = { λ _ r. r ≡ stops.Memory };
-
-    fn from(_error: AllocError) -> EvalStop {
-        EvalStop::Memory
-    }
-}
-
 /// The values of these roots, where the constants have the values that `assign` gives their numbers, and the defaults of
 /// their sorts where it gives none. Each shared term is evaluated once.
 ///
@@ -80,7 +49,7 @@ pub fn eval(
     terms: &Terms,
     roots: &[TermId],
     assign: &Assign,
-) -> Result<Values, EvalStop>
+) -> Result<Values, ArithmeticStop>
     requires within { All (λ r. r < length terms.now) roots.now }
     ensures values { IfOk result (λ vs. vs ≡ map (λ r. value_of (assignment_by terms.now assign.now) (term_in terms.now r)) roots.now) }
     ensures fits { IfOk result (λ vs. first_wide (flat_map (λ r. operations_of (assignment_by terms.now assign.now) (term_in terms.now r)) roots.now) ≡ None) }
@@ -89,7 +58,7 @@ pub fn eval(
     let outcomes = evaluated(alloc, terms, roots, assign)?;
     let mut values = Vec::new(alloc);
     match gather(roots, &outcomes, &mut values)? {
-        Some(wide) => Err(EvalStop::Wide(wide)),
+        Some(wide) => Err(ArithmeticStop::Wide(wide)),
         None => Ok(Values { values }),
     }
 }

@@ -1,8 +1,8 @@
 //! What terms come to, one after another, each behind its arguments.
 ghost use Rattle.std.specs.Prelude.{◌≡◌, ◌<◌, length, map, All, IfOk, OnOk, slice_get};
-ghost use Rattle.nz_spec.specs.Term as spec;
-ghost use Rattle.nz_spec.specs.Term.{Assignment, apply};
-ghost use Rattle.nz_spec.specs.Table.{Node, term_in, assignment_by};
+ghost use Rattle.nz_spec.specs.terms.Term as spec;
+ghost use Rattle.nz_spec.specs.terms.Term.{Assignment, apply};
+ghost use Rattle.nz_spec.specs.terms.Table.{Node, term_in, assignment_by};
 ghost use Rattle.nz_term.specs.Values.{value_of};
 ghost use Rattle.nz_truth.specs.Outcomes.{AreEvaluated, AreGiven, AreOutcomes, HasEvaluatedKids, IsGiven, IsOutcome, first_stop, outcome_in, values_in};
 

@@ -1,9 +1,9 @@
 //! Calls that ask something of numbers: it is tested here, and where it doesn't hold the answer fails the test.
 use nz_base::Memory;
 use nz_frac::{Op, Wide};
-use nz_term::{Assign, TermId, Terms, Value};
+use nz_term::{ArithmeticStop, Assign, TermId, Terms, Value};
 use nz_term_samples::are_below;
-use nz_truth::{EvalStop, Outcome, Values, eval, outcomes};
+use nz_truth::{Outcome, Values, eval, outcomes};
 use std::alloc::Global;
 
 /// M, the greatest number.
@@ -29,8 +29,8 @@ fn evaluated(
     }
     match eval(alloc, terms, roots, assign) {
         Ok(values) => Ok(Ok(values)),
-        Err(EvalStop::Wide(wide)) => Ok(Err(wide)),
-        Err(EvalStop::Memory) => Err(Memory),
+        Err(ArithmeticStop::Wide(wide)) => Ok(Err(wide)),
+        Err(ArithmeticStop::Memory) => Err(Memory),
     }
 }
 

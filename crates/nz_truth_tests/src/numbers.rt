@@ -70,7 +70,7 @@ fn run(alloc: Global, cases: &[Case]) -> Result<(), Fail> {
 }
 
 #[test]
-fn div_leaves_no_remainder_below_zero(rt: HostRuntime) -> Result<(), Fail> {
+fn test_div_leaves_no_remainder_below_zero(rt: HostRuntime) -> Result<(), Fail> {
     const CASES: &[Case] = &[
         Case(7, 2, Wanted::Of(Operator::Div, 3)),
         Case(-7, 2, Wanted::Of(Operator::Div, -4)),
@@ -81,7 +81,7 @@ fn div_leaves_no_remainder_below_zero(rt: HostRuntime) -> Result<(), Fail> {
 }
 
 #[test]
-fn mod_is_never_below_zero(rt: HostRuntime) -> Result<(), Fail> {
+fn test_mod_is_never_below_zero(rt: HostRuntime) -> Result<(), Fail> {
     const CASES: &[Case] = &[
         Case(-7, 3, Wanted::Of(Operator::Mod, 2)),
         Case(7, -3, Wanted::Of(Operator::Mod, 1)),
@@ -91,7 +91,7 @@ fn mod_is_never_below_zero(rt: HostRuntime) -> Result<(), Fail> {
 }
 
 #[test]
-fn by_zero_the_definition_is_computed(rt: HostRuntime) -> Result<(), Fail> {
+fn test_by_zero_the_definition_is_computed(rt: HostRuntime) -> Result<(), Fail> {
     const CASES: &[Case] = &[
         Case(-7, 0, Wanted::Of(Operator::Div, -1)),
         Case(-7, 0, Wanted::Of(Operator::Mod, -7)),
@@ -101,7 +101,7 @@ fn by_zero_the_definition_is_computed(rt: HostRuntime) -> Result<(), Fail> {
 }
 
 #[test]
-fn to_int_rounds_down(rt: HostRuntime) -> Result<(), Fail> {
+fn test_to_int_rounds_down(rt: HostRuntime) -> Result<(), Fail> {
     const CASES: &[Case] = &[
         Case(-1, 2, Wanted::Rounded(-1)),
         Case(5, 3, Wanted::Rounded(1)),
@@ -110,7 +110,7 @@ fn to_int_rounds_down(rt: HostRuntime) -> Result<(), Fail> {
 }
 
 #[test]
-fn integers_are_told_from_fractions(rt: HostRuntime) -> Result<(), Fail> {
+fn test_integers_are_told_from_fractions(rt: HostRuntime) -> Result<(), Fail> {
     const CASES: &[Case] = &[
         Case(6, 3, Wanted::Whole(true)),
         Case(-1, 2, Wanted::Whole(false)),

@@ -30,7 +30,7 @@ const WIDE_OPERATIONS: &[Act] = &[
 ];
 
 #[test]
-fn operators_have_their_values(rt: HostRuntime) -> Result<(), Fail> {
+fn test_operators_have_their_values(rt: HostRuntime) -> Result<(), Fail> {
     const VALUES: &[Act] = &[
         Act::Truths(
             &[0, 1, 2, 3, 4, 5],
@@ -47,7 +47,7 @@ fn operators_have_their_values(rt: HostRuntime) -> Result<(), Fail> {
 }
 
 #[test]
-fn roots_have_their_values_in_order(rt: HostRuntime) -> Result<(), Fail> {
+fn test_roots_have_their_values_in_order(rt: HostRuntime) -> Result<(), Fail> {
     const VALUES: &[Act] = &[
         Act::Truths(&[2, 1, 2], &[(0, true)], &[true, false, true]),
         Act::Truths(&[], &[(0, true)], &[]),
@@ -56,7 +56,7 @@ fn roots_have_their_values_in_order(rt: HostRuntime) -> Result<(), Fail> {
 }
 
 #[test]
-fn the_first_pair_of_a_constant_counts(rt: HostRuntime) -> Result<(), Fail> {
+fn test_the_first_pair_of_a_constant_counts(rt: HostRuntime) -> Result<(), Fail> {
     const VALUES: &[Act] = &[
         // Past the table, of an operation, and then the constant twice.
         Act::Truths(
@@ -70,7 +70,7 @@ fn the_first_pair_of_a_constant_counts(rt: HostRuntime) -> Result<(), Fail> {
 }
 
 #[test]
-fn constants_of_one_name_differ_by_sort(rt: HostRuntime) -> Result<(), Fail> {
+fn test_constants_of_one_name_differ_by_sort(rt: HostRuntime) -> Result<(), Fail> {
     const TWO_SORTS: &[Act] = &[
         Act::Constant(Sort::Bool),
         Act::Constant(Sort::Int),
@@ -86,7 +86,7 @@ fn constants_of_one_name_differ_by_sort(rt: HostRuntime) -> Result<(), Fail> {
 
 // The last of a chain has the number of its length.
 #[test]
-fn a_long_chain_is_evaluated(rt: HostRuntime) -> Result<(), Fail> {
+fn test_a_long_chain_is_evaluated(rt: HostRuntime) -> Result<(), Fail> {
     const VALUES: &[Act] = &[Act::Truths(&[100_000], &[(0, true)], &[true])];
     run(
         rt.alloc(),
@@ -96,7 +96,7 @@ fn a_long_chain_is_evaluated(rt: HostRuntime) -> Result<(), Fail> {
 }
 
 #[test]
-fn shared_sums_are_evaluated_once(rt: HostRuntime) -> Result<(), Fail> {
+fn test_shared_sums_are_evaluated_once(rt: HostRuntime) -> Result<(), Fail> {
     const POWER: i128 = 1_267_650_600_228_229_401_496_703_205_376;
     run(
         rt.alloc(),
@@ -106,17 +106,17 @@ fn shared_sums_are_evaluated_once(rt: HostRuntime) -> Result<(), Fail> {
 }
 
 #[test]
-fn a_wide_sum_names_its_operands(rt: HostRuntime) -> Result<(), Fail> {
+fn test_a_wide_sum_names_its_operands(rt: HostRuntime) -> Result<(), Fail> {
     run(rt.alloc(), WIDE_OPERATIONS, &[Act::Wide(&[2], Op::Add, 1)])
 }
 
 #[test]
-fn a_branch_that_is_not_taken_counts(rt: HostRuntime) -> Result<(), Fail> {
+fn test_a_branch_that_is_not_taken_counts(rt: HostRuntime) -> Result<(), Fail> {
     run(rt.alloc(), WIDE_OPERATIONS, &[Act::Wide(&[5], Op::Add, 1)])
 }
 
 #[test]
-fn the_first_wide_operation_is_named(rt: HostRuntime) -> Result<(), Fail> {
+fn test_the_first_wide_operation_is_named(rt: HostRuntime) -> Result<(), Fail> {
     const PRODUCT: &[Act] = &[Act::Wide(&[1, 3, 2], Op::Mul, GREATEST as i128)];
     run(rt.alloc(), WIDE_OPERATIONS, PRODUCT)
 }

@@ -1,5 +1,5 @@
 -- The law, as it is proved over plain data.
-use Rattle.nz_fractions.proofs.Rounding as laws
+use Rattle.nz_fractions.proofs.FloorsAndCeilings as laws
 use Rattle.nz_fractions.proofs.rounds.Goals as goal
 
 pub returns : goal.returns

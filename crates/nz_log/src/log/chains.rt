@@ -1,10 +1,10 @@
 //! Chains of resolvents, of which the last one is kept.
 ghost use Rattle.std.specs.Prelude.{◌≡◌, ℕ, ◌<◌, [], List, length, All, OnOk, OnErr, IfOk};
-ghost use Rattle.nz_spec.specs.Table.{Node};
+ghost use Rattle.nz_spec.specs.terms.Table.{Node};
 ghost use Rattle.nz_log.specs.Atoms.{IsLitIn};
 ghost use Rattle.nz_log.specs.Logs.{IsLive, Puts, chain_entry, chained, level_of_links, literals_at, resolvent_entry};
 ghost use Rattle.nz_log.specs.Sound.{IsLog};
-ghost use Rattle.nz_log.specs.Theories.{Grows};
+ghost use Rattle.nz_log.specs.Growth.{Grows};
 
 use super::Log;
 use crate::lits::Lit;

@@ -1,6 +1,6 @@
 //! Dropping what is above a level.
 ghost use Rattle.std.specs.Prelude.{◌≡◌, ℕ, suc, List, option_map, slice_index_or, take, None};
-ghost use Rattle.nz_spec.specs.Table.{Node};
+ghost use Rattle.nz_spec.specs.terms.Table.{Node};
 ghost use Rattle.nz_log.specs.Logs.{Drops, kept_below, told_below};
 ghost use Rattle.nz_log.specs.Sound.{IsLog};
 ghost use Rattle.nz_log.specs.Stored.{entry_of};

@@ -1,25 +1,23 @@
 //! Clauses that rest on no other: live assertions, and clauses of the gate table.
 ghost use Rattle.std.specs.Prelude.{◌≡◌, ℕ, ◌<◌, [], List, length, All, Some, OnOk, OnErr, IfOk, slice_get, unwrap_or};
-ghost use Rattle.nz_spec.specs.Table.{Node, term_in};
-ghost use Rattle.nz_spec.specs.Gates.{HasBooleanArguments};
-ghost use Rattle.nz_spec.specs.Literal.{once};
-ghost use Rattle.nz_log.specs.Atoms.{AreAtoms, HasTerm, lit_of, lits_of};
+ghost use Rattle.nz_spec.specs.terms.Table.{Node, term_in};
+ghost use Rattle.nz_spec.specs.clauses.Gates.{HasBooleanArguments};
+ghost use Rattle.nz_spec.specs.clauses.Literal.{once};
+ghost use Rattle.nz_log.specs.Atoms.{AreAtoms, HasTerm};
 ghost use Rattle.nz_log.specs.Lits.{are_same_lit};
 ghost use Rattle.nz_log.specs.Logs.{IsLeaf, JoinsAtoms, Puts, gate_entry, given_entry, made_entry};
 ghost use Rattle.nz_log.specs.Sound.{IsLog, live_at};
 ghost use Rattle.nz_log.specs.Stored.{origin_of};
-ghost use Rattle.nz_log.specs.TermLits.{gates_at};
+ghost use Rattle.nz_rows.specs.GateRows.{gates_at};
 
 use super::Log;
-use crate::gates::gate_literals;
 use crate::lits::Lit;
 use crate::origins::{ClauseId, Origin, Stored};
 use crate::sets::set_of;
-use crate::term_lits::TermLit;
 use nz_base::Memory;
 use nz_spec::derivation::tells_literals;
 use nz_spec::table::{one_number, term_of_node};
-use nz_term::{TermId, Terms};
+use nz_term::{TermId, TermLit, Terms};
 
 impl Log {
     /// The clause that the live assertion of this place and level is true.
@@ -39,14 +37,20 @@ impl Log {
         self.put_leaf(&[literal], level, Origin::Assertion(k))
     }
 
-    /// The clause of this number of a term of the gate table.
+    /// The clause of this row, of this number, of a term of the gate table.
     ///
     /// # Errors
     ///
     /// `Memory`. Then at most atoms have joined the others.
-    pub fn gate(&mut self, terms: &Terms, term: TermId, j: usize) -> Result<ClauseId, Memory>
+    pub fn gate(
+        &mut self,
+        terms: &Terms,
+        term: TermId,
+        j: usize,
+        row: Vec<TermLit>,
+    ) -> Result<ClauseId, Memory>
         requires within { term < length terms.now }
-        requires table { j < length (gates_at terms.now term) }
+        requires row { slice_get (gates_at terms.now term) j ≡ Some row.items }
         ensures made { IfOk result (λ id. Puts self.old id (gate_entry terms.now self.new term j) self.new) }
         ensures there { OnOk result (All (λ l. HasTerm self.new.atoms l.term) (unwrap_or (slice_get (gates_at terms.now term) j) [])) }
         ensures atoms { AreAtoms self.new.atoms }
@@ -60,11 +64,7 @@ impl Log {
         let within = term < terms.len();
         prove!(within);
         self.atom_count();
-        let alloc = self.alloc();
-        let Some(gate) = gate_literals(alloc, terms, term, j)? else {
-            unreachable!()
-        };
-        let literals = self.lits_of(&gate)?;
+        let literals = self.lits_of(&row)?;
         self.put_leaf(&literals, 0, Origin::Gate(term, j))
     }
 

@@ -1,6 +1,6 @@
 //! Levels told of terms, and the level that a clause has by the terms that it names.
 ghost use Rattle.std.specs.Prelude.{◌≡◌, ◌≢◌, ℕ, List, slice_index_or, None, Some, OnOk, OnErr};
-ghost use Rattle.nz_spec.specs.Table.{Node};
+ghost use Rattle.nz_spec.specs.terms.Table.{Node};
 ghost use Rattle.nz_log.specs.Atoms.{terms_at, unit_numbers};
 ghost use Rattle.nz_log.specs.Logs.{level_of_terms, level_with, lowest, told_level, told_of};
 ghost use Rattle.nz_log.specs.Sound.{IsLog};

@@ -5,9 +5,8 @@ ghost use Rattle.nz_log.specs.Logs.{JoinsAtoms};
 
 use super::Log;
 use crate::lits::{AtomId, Lit};
-use crate::term_lits::TermLit;
 use nz_base::Memory;
-use nz_term::TermId;
+use nz_term::{TermId, TermLit};
 
 impl Log {
     /// The numbers of the atoms of these terms, which join the others where they aren't there.
@@ -35,7 +34,7 @@ impl Log {
     /// # Errors
     ///
     /// `Memory`. Then at most atoms have joined the others.
-    #[tactic(auto, using(crate::proofs::Joining::joins_twice))]
+    #[tactic(auto, using(crate::proofs::JoinedAtoms::joins_twice))]
     pub fn lits_of(&mut self, clause: &[TermLit]) -> Result<Vec<Lit>, Memory>
         ensures literals { IfOk result (λ v. v.items ≡ lits_of self.new.atoms clause.now) }
         ensures there { OnOk result (All (λ l. HasTerm self.new.atoms l.term) clause.now) }

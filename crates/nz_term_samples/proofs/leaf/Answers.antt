@@ -1,7 +1,7 @@
 -- A head has no arguments here.
 use Rattle.std.proofs.Common.{◌≡◌, [], Option, Some, None, refl}
-use Rattle.nz_spec.specs.Term.{Constant, Head, constant_of}
-use Rattle.nz_spec.specs.Table.{HasItsArguments}
+use Rattle.nz_spec.specs.terms.Term.{Constant, Head, constant_of}
+use Rattle.nz_spec.specs.terms.Table.{HasItsArguments}
 use Rattle.nz_term.specs.Heads.{head_of}
 use Rattle.nz_term_samples.proofs.leaf.Goals as goal
 

@@ -1,6 +1,6 @@
 use Rattle.std.proofs.Common.{◌≡◌, ◌≤◌, ◌-◌, length, take}
 use Rattle.std.specs.Io.KnownBytes.{Appends}
-use Rattle.nz_spec.specs.Outside.{TellsAlike}
+use Rattle.nz_spec.specs.outside.Outside.{TellsAlike}
 use Rattle.nz_base.proofs.outside.write_all.Given as goal
 
 abbrev pub invariant-pieces : goal.invariant-pieces

@@ -3,7 +3,7 @@ use Rattle.std.proofs.Common.{ℕ, List, get_or, refl, subst}
 use Rattle.std.proofs.lemmas.List.{take_all}
 use Rattle.std.proofs.lemmas.List.Elements.{All-get_or}
 use Rattle.nz_cform.specs.Covering.{AreBoundsListed, IsOnAtoms}
-use Rattle.nz_cform.proofs.Bounding.{one_of_all}
+use Rattle.nz_cform.proofs.ListedBounds.{one_of_all}
 use Rattle.nz_cform.proofs.bounds.list_bounds.Goals as goal
 
 pub list_clause-requires-clause-on_atoms : goal.list_clause-requires-clause-on_atoms

@@ -1,5 +1,5 @@
 use Rattle.std.proofs.Common.{take}
-use Rattle.nz_cform.proofs.Bounding.{IsListingAll}
+use Rattle.nz_cform.proofs.ListedBounds.{IsListingAll}
 use Rattle.nz_cform.proofs.bounds.list_bounds.Given as goal
 
 abbrev pub invariant-loop-clause : goal.invariant-loop-clause

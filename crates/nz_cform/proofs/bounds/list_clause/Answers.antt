@@ -4,7 +4,7 @@ use Rattle.std.specs.Prelude.{Contains}
 use Rattle.std.proofs.lemmas.List.{take_all}
 use Rattle.std.proofs.lemmas.List.Elements.{Contains-get_or}
 use Rattle.nz_log.specs.declared.lits.Lit.{Lit}
-use Rattle.nz_cform.proofs.Bounding.{IsListingClause, clause_listed, one_of_clause}
+use Rattle.nz_cform.proofs.ListedBounds.{IsListingClause, clause_listed, one_of_clause}
 use Rattle.nz_cform.proofs.bounds.list_clause.Goals as goal
 
 abbrev none : Lit

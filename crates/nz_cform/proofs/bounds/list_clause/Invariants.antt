@@ -1,5 +1,5 @@
 use Rattle.std.proofs.Common.{take}
-use Rattle.nz_cform.proofs.Bounding.{IsListingClause}
+use Rattle.nz_cform.proofs.ListedBounds.{IsListingClause}
 use Rattle.nz_cform.proofs.bounds.list_clause.Given as goal
 
 abbrev pub invariant-loop-literal : goal.invariant-loop-literal

@@ -1,5 +1,5 @@
 -- The law, as it is proved over plain data.
-use Rattle.nz_cform.proofs.Staying as laws
+use Rattle.nz_cform.proofs.CoveragePreservation as laws
 use Rattle.nz_cform.proofs.laws.covers_stay.Goals as goal
 
 pub returns : goal.returns

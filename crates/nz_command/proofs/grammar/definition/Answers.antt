@@ -1,5 +1,5 @@
 use Rattle.std.proofs.Common.{◌≡◌, IfOk, option_map, sym, subst}
-use Rattle.nz_spec.specs.Parse.{written_definition}
+use Rattle.nz_script.specs.commands.Parse.{written_definition}
 use Rattle.nz_command.specs.Requests.{request}
 use Rattle.nz_command.proofs.grammar.definition.Goals as goal
 

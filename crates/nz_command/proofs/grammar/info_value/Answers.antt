@@ -1,6 +1,6 @@
 use Rattle.std.proofs.Common.{arith}
 use Rattle.std.proofs.lemmas.Bool.Decides.{nat_tests}
-use Rattle.nz_command.proofs.Listing.{no_info}
+use Rattle.nz_command.proofs.ListLengths.{no_info}
 use Rattle.nz_command.proofs.grammar.info_value.Goals as goal
 
 pub returns-in_err-value : goal.returns-in_err-value

@@ -1,5 +1,5 @@
 use Rattle.std.proofs.Common.{◌∙◌, sym}
-use Rattle.nz_spec.specs.Parse.{info_of}
+use Rattle.nz_script.specs.commands.Parse.{info_of}
 use Rattle.nz_command.proofs.grammar.set_info.Goals as goal
 
 pub returns : goal.returns

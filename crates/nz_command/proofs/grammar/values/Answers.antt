@@ -1,6 +1,6 @@
 use Rattle.std.proofs.Common.{◌∙◌, arith, rules}
 use Rattle.std.proofs.lemmas.Bool.Decides.{nat_tests}
-use Rattle.nz_command.proofs.Listing.{some_listed}
+use Rattle.nz_command.proofs.ListLengths.{some_listed}
 use Rattle.nz_command.proofs.grammar.values.Goals as goal
 
 pub returns : goal.returns

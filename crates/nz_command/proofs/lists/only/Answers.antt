@@ -1,6 +1,6 @@
 use Rattle.std.proofs.Common.{arith}
 use Rattle.std.proofs.lemmas.Bool.Decides.{nat_tests}
-use Rattle.nz_command.proofs.Listing.{not_one}
+use Rattle.nz_command.proofs.ListLengths.{not_one}
 use Rattle.nz_command.proofs.lists.only.Goals as goal
 use Rattle.nz_command.proofs.lists.only.Goals.{in_default-via-then-list-lt1, in_default-via-else-list-lt1+else-list-lt2}
 

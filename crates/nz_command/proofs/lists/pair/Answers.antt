@@ -1,6 +1,6 @@
 use Rattle.std.proofs.Common.{arith}
 use Rattle.std.proofs.lemmas.Bool.Decides.{nat_tests}
-use Rattle.nz_command.proofs.Listing.{not_two}
+use Rattle.nz_command.proofs.ListLengths.{not_two}
 use Rattle.nz_command.proofs.lists.pair.Goals as goal
 use Rattle.nz_command.proofs.lists.pair.Goals.{in_default-via-then-list-lt2, in_default-via-else-list-lt2+else-list-lt3}
 

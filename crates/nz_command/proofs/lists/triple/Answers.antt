@@ -1,6 +1,6 @@
 use Rattle.std.proofs.Common.{arith}
 use Rattle.std.proofs.lemmas.Bool.Decides.{nat_tests}
-use Rattle.nz_command.proofs.Listing.{not_three}
+use Rattle.nz_command.proofs.ListLengths.{not_three}
 use Rattle.nz_command.proofs.lists.triple.Goals as goal
 use Rattle.nz_command.proofs.lists.triple.Goals.{in_default-via-then-list-lt3, in_default-via-else-list-lt3+else-list-lt4}
 

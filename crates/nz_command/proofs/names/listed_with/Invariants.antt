@@ -1,5 +1,5 @@
 use Rattle.std.proofs.Common.{◌≡◌, map, drop}
-use Rattle.nz_spec.specs.Parse.{listed_with}
+use Rattle.nz_script.specs.commands.Parse.{listed_with}
 use Rattle.nz_command.specs.Requests.{entry}
 use Rattle.nz_command.proofs.names.listed_with.Given as goal
 

@@ -1,7 +1,7 @@
 use Rattle.std.proofs.Common.{◌≡◌, ◌||◌, drop}
 use Rattle.nz_sexpr.specs.View.{view, seen}
 use Rattle.nz_sexpr.specs.Sizes.{tree_size, trees_size}
-use Rattle.nz_spec.specs.Bounds.{have_token, is_wide_token, is_long_decimal}
+use Rattle.nz_script.specs.text.Bounds.{have_token, is_wide_token, is_long_decimal}
 use Rattle.nz_command.proofs.numbers.+faults.Given as goal
 
 abbrev pub decreases-number_faults : goal.decreases-number_faults

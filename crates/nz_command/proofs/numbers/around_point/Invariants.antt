@@ -1,5 +1,5 @@
 use Rattle.std.proofs.Common.{◌≡◌, ◌++◌, take, drop}
-use Rattle.nz_spec.specs.Tree.{before_point, after_point}
+use Rattle.nz_script.specs.text.Tree.{before_point, after_point}
 use Rattle.nz_command.proofs.numbers.around_point.Given as goal
 
 abbrev pub invariant-loop-index : goal.invariant-loop-index

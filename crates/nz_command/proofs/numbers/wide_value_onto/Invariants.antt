@@ -1,5 +1,5 @@
 use Rattle.std.proofs.Common.{◌≡◌, ◌≤◌, drop}
-use Rattle.nz_spec.specs.Bounds.{value_onto}
+use Rattle.nz_script.specs.text.Bounds.{value_onto}
 use Rattle.nz_fractions.specs.Fraction.{largest}
 use Rattle.nz_command.proofs.numbers.wide_value_onto.Given as goal
 

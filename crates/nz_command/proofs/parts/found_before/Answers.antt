@@ -1,6 +1,6 @@
 use Rattle.std.proofs.Common.{arith}
 use Rattle.std.proofs.lemmas.Bool.Decides.{nat_tests}
-use Rattle.nz_command.proofs.Listing.{lone_attribute}
+use Rattle.nz_command.proofs.ListLengths.{lone_attribute}
 use Rattle.nz_command.proofs.parts.found_before.Goals as goal
 
 pub returns-else-is_empty : goal.returns-else-is_empty

@@ -1,6 +1,6 @@
 use Rattle.std.proofs.Common.{arith}
 use Rattle.std.proofs.lemmas.Bool.Decides.{nat_tests}
-use Rattle.nz_command.proofs.Listing.{no_levels}
+use Rattle.nz_command.proofs.ListLengths.{no_levels}
 use Rattle.nz_command.proofs.parts.level_count.Goals as goal
 
 pub returns-in_err-only : goal.returns-in_err-only

@@ -6,10 +6,10 @@ use Rattle.nz_command.specs.declared.expression.Expression.TheViews.{the_lemmas}
 use Rattle.nz_command.specs.declared.expression.Expression.TheFolds.{fold-roll-Expression, fold_out-Expression, fold-roll-Local, fold_out-Local}
 use Rattle.nz_sexpr.specs.View.{view, seen}
 use Rattle.nz_sexpr.specs.Sizes.{tree_size, trees_size}
-use Rattle.nz_spec.specs.Parse.{expression_of, expressions_of, local_of, locals_of, expressions_onto, locals_onto}
+use Rattle.nz_script.specs.commands.Parse.{expression_of, expressions_of, local_of, locals_of, expressions_onto, locals_onto}
 use Rattle.nz_command.specs.View as views
 use Rattle.nz_command.proofs.Sizes.{item_smaller}
-use Rattle.nz_command.proofs.Parsing.{before, parsed_next, parsed_none}
+use Rattle.nz_command.proofs.ParsedLists.{before, parsed_next, parsed_none}
 use Rattle.nz_command.proofs.TermLists.{expressions_end, locals_end, expressions_fail, locals_fail, used_parsed, bound_parsed}
 use Rattle.nz_command.proofs.terms.+terms.Goals as goal
 

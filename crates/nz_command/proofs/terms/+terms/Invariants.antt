@@ -1,9 +1,9 @@
 use Rattle.std.proofs.Common.{◌≡◌, suc, drop, map}
 use Rattle.nz_sexpr.specs.View.{view, seen}
 use Rattle.nz_sexpr.specs.Sizes.{tree_size, trees_size}
-use Rattle.nz_spec.specs.Parse.{expressions_of, locals_of, expressions_onto, locals_onto}
+use Rattle.nz_script.specs.commands.Parse.{expressions_of, locals_of, expressions_onto, locals_onto}
 use Rattle.nz_command.specs.View as views
-use Rattle.nz_command.proofs.Parsing.{before}
+use Rattle.nz_command.proofs.ParsedLists.{before}
 use Rattle.nz_command.proofs.terms.+terms.Given as goal
 
 abbrev pub decreases-expression : goal.decreases-expression

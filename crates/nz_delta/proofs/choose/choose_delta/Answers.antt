@@ -2,7 +2,7 @@ use Rattle.std.proofs.Common.{List, ◌+◌, pos, subst, map, drop, refl, ap, sy
 use Rattle.std.proofs.lemmas.Result.{err_from_is_err_and}
 use Rattle.nz_lists.proofs.Places.{drop_read}
 use Rattle.nz_fractions.specs.Fraction.{Fraction, whole, first_wide, ◌<ℚ◌, ◌≤ℚ◌}
-use Rattle.nz_spec.specs.Infinitesimal.{IsLeastLimit, AreOrderedAt, limits, least_from, delta_operations}
+use Rattle.nz_spec.specs.numbers.Infinitesimal.{IsLeastLimit, AreOrderedAt, limits, least_from, delta_operations}
 use Rattle.nz_delta.specs.declared.delta.Delta.{Delta}
 use Rattle.nz_delta.specs.Pairs.{pair_of}
 use Rattle.nz_delta.proofs.WideLemmas.{refused_is}

@@ -1,6 +1,6 @@
 use Rattle.std.proofs.Common.{◌≡◌, map, drop}
 use Rattle.nz_fractions.specs.Fraction.{first_wide}
-use Rattle.nz_spec.specs.Infinitesimal.{limits, least_from, chosen_delta, delta_operations}
+use Rattle.nz_spec.specs.numbers.Infinitesimal.{limits, least_from, chosen_delta, delta_operations}
 use Rattle.nz_delta.specs.Pairs.{pair_of}
 use Rattle.nz_delta.proofs.choose.choose_delta.Given as goal
 

@@ -3,7 +3,7 @@ use Rattle.std.proofs.lemmas.Result.{err_from_is_err_and, IfOk-weaker}
 use Rattle.nz_lists.proofs.Tests.{told_false, told_true}
 use Rattle.nz_fractions.specs.Fraction.{Fraction, outcome, Quotient, first_wide}
 use Rattle.nz_delta.specs.Operations.{alone}
-use Rattle.nz_spec.specs.Infinitesimal.{limit, limit_operations}
+use Rattle.nz_spec.specs.numbers.Infinitesimal.{limit, limit_operations}
 use Rattle.nz_delta.proofs.WideLemmas.{refused_is, first_here, first_later, refused_alone}
 use Rattle.nz_delta.proofs.LimitLemmas.{nonzero_difference}
 use Rattle.nz_delta.proofs.choose.limit_of.Goals as goal

@@ -1,6 +1,6 @@
 use Rattle.std.proofs.Common.{refl}
 use Rattle.nz_fractions.specs.Fraction.{◌-ℚ◌}
-use Rattle.nz_spec.specs.Infinitesimal.{◌+δ◌, ◌-δ◌, scaled, infinitesimal_cmp}
+use Rattle.nz_spec.specs.numbers.Infinitesimal.{◌+δ◌, ◌-δ◌, scaled, infinitesimal_cmp}
 use Rattle.nz_fractions.proofs.Arithmetic.{outcome-sum, outcome-difference, outcome-product}
 use Rattle.nz_delta.proofs.delta.stands_for_infinitesimal.Goals as goal
 

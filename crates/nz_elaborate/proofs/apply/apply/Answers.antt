@@ -1,11 +1,11 @@
 use Rattle.std.proofs.Common.{◌≡◌, true, false, length, subst}
-use Rattle.nz_spec.specs.Normal.{normal_node}
-use Rattle.nz_spec.specs.Table.{term_in, terms_at}
-use Rattle.nz_spec.specs.Elaboration.{takes, operator_head}
+use Rattle.nz_spec.specs.terms.Normal.{normal_node}
+use Rattle.nz_spec.specs.terms.Table.{term_in, terms_at}
+use Rattle.nz_spec.specs.terms.Operators.{takes, operator_head}
 use Rattle.nz_term.specs.Constants.{sort_of}
 use Rattle.nz_elaborate.specs.Typed.{StandsFor}
 use Rattle.nz_elaborate.specs.Operators.{operator_meaning, operands_meaning}
-use Rattle.nz_elaborate.proofs.Applying.{refused_count, refused_operands, applied_to}
+use Rattle.nz_elaborate.proofs.OperatorApplications.{refused_count, refused_operands, applied_to}
 use Rattle.nz_elaborate.proofs.apply.apply.Goals as goal
 
 pub returns-then-not-takes-clause-refused : goal.returns-then-not-takes-clause-refused

@@ -5,7 +5,7 @@ use Rattle.std.proofs.lemmas.Iterator.{YieldsList-from_slice}
 use Rattle.std.proofs.lemmas.Iterator.Search.{all_from_yields_List}
 use Rattle.nz_term.specs.Constants.{sort_of}
 use Rattle.nz_elaborate.specs.declared.typed.Typed.{Typed}
-use Rattle.nz_elaborate.proofs.Applying.{is_number_sort, sorts_typed}
+use Rattle.nz_elaborate.proofs.OperatorApplications.{is_number_sort, sorts_typed}
 use Rattle.nz_elaborate.proofs.apply.are_numbers.Goals as goal
 
 pub returns : goal.returns

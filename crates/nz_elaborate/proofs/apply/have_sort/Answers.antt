@@ -3,10 +3,10 @@ use borrow.Author.Tests.{tests}
 use Rattle.std.specs.List.{list_all}
 use Rattle.std.proofs.lemmas.Iterator.{YieldsList-from_slice}
 use Rattle.std.proofs.lemmas.Iterator.Search.{all_from_yields_List}
-use Rattle.nz_spec.specs.Term.{are_same_sort}
+use Rattle.nz_spec.specs.terms.Term.{are_same_sort}
 use Rattle.nz_term.specs.Constants.{sort_of}
 use Rattle.nz_elaborate.specs.declared.typed.Typed.{Typed}
-use Rattle.nz_elaborate.proofs.Applying.{sorts_typed}
+use Rattle.nz_elaborate.proofs.OperatorApplications.{sorts_typed}
 use Rattle.nz_elaborate.proofs.apply.have_sort.Goals as goal
 
 pub returns : goal.returns

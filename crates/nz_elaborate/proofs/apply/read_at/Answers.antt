@@ -1,7 +1,7 @@
 use Rattle.std.proofs.Common.{◌≤◌, length, refl, arith}
 use Rattle.nz_term.specs.Constants.{sort_of}
-use Rattle.nz_elaborate.proofs.Growing.{push_within}
-use Rattle.nz_elaborate.proofs.Applying.{reading_next, reading_ends}
+use Rattle.nz_elaborate.proofs.TableGrowth.{push_within}
+use Rattle.nz_elaborate.proofs.OperatorApplications.{reading_next, reading_ends}
 use Rattle.nz_elaborate.proofs.apply.read_at.Goals as goal
 
 pub loop-argument-preserved : goal.loop-argument-preserved

@@ -1,8 +1,8 @@
 use Rattle.std.proofs.Common.{◌<◌, length, drop, All}
-use Rattle.nz_spec.specs.Term.{Terms}
+use Rattle.nz_spec.specs.terms.Term.{Terms}
 use Rattle.nz_term.specs.Constants.{sort_of}
 use Rattle.nz_elaborate.specs.Typed.{Grows, AreTyped}
-use Rattle.nz_elaborate.proofs.Applying.{IsReading}
+use Rattle.nz_elaborate.proofs.OperatorApplications.{IsReading}
 use Rattle.nz_elaborate.proofs.apply.read_at.Given as goal
 
 -- the numbers so far, and what is left to be read, are the whole

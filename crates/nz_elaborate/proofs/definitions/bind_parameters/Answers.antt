@@ -2,16 +2,16 @@ use Rattle.std.proofs.Common.{◌≡◌, ◌+◌, ◌∷◌, ◌||◌, List, fal
 use Rattle.std.specs.List.{list_any}
 use Rattle.std.proofs.lemmas.List.{drop_all}
 use Rattle.nz_command.specs.Requests.{parameter_view, sort_view}
-use Rattle.nz_spec.specs.Request.{Parameter}
-use Rattle.nz_spec.specs.Scoping.{clash}
-use Rattle.nz_spec.specs.Script.{is_unknown_sort, parameter_names, parameter_sorts}
+use Rattle.nz_script.specs.commands.Request.{Parameter}
+use Rattle.nz_script.specs.commands.Scoping.{clash}
+use Rattle.nz_script.specs.commands.Script.{is_unknown_sort, parameter_names, parameter_sorts}
 use Rattle.nz_term.specs.Constants.{sort_of}
 use Rattle.nz_elaborate.specs.Names.{named_by, is_operator_entry}
 use Rattle.nz_elaborate.specs.Faults.{fault_in, term_in_found}
-use Rattle.nz_elaborate.proofs.Growing.{grows_none}
-use Rattle.nz_elaborate.proofs.Telling.{settles_none}
-use Rattle.nz_elaborate.proofs.Scoping.{BindLeads, empty_within, has_none, has_next, leads_start, bind_next, frame_within, found_bound_within}
-use Rattle.nz_elaborate.proofs.Defining.{parameters_start, parameters_next, parameters_end, parameters_turn}
+use Rattle.nz_elaborate.proofs.TableGrowth.{grows_none}
+use Rattle.nz_elaborate.proofs.FaultOrder.{settles_none}
+use Rattle.nz_elaborate.proofs.ScopeNames.{BindLeads, empty_within, has_none, has_next, leads_start, bind_next, frame_within, found_bound_within}
+use Rattle.nz_elaborate.proofs.DefinitionParts.{parameters_start, parameters_next, parameters_end, parameters_turn}
 use Rattle.nz_elaborate.proofs.definitions.bind_parameters.Goals as goal
 
 pub loop-place-init : goal.loop-place-init

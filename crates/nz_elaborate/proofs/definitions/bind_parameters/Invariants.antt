@@ -2,14 +2,14 @@ use Rattle.std.proofs.Common.{◌≡◌, ℕ, false, List, map, drop}
 use Rattle.std.specs.Prelude.{◌||◌, IfSome, None}
 use Rattle.std.specs.List.{list_any}
 use Rattle.nz_command.specs.Requests.{parameter_view}
-use Rattle.nz_spec.specs.Scoping.{clash}
-use Rattle.nz_spec.specs.Script.{is_unknown_sort, parameter_names, parameter_sorts, sorts_written}
+use Rattle.nz_script.specs.commands.Scoping.{clash}
+use Rattle.nz_script.specs.commands.Script.{is_unknown_sort, parameter_names, parameter_sorts, sorts_written}
 use Rattle.nz_term.specs.Constants.{sort_of}
 use Rattle.nz_elaborate.specs.Names.{IsBoundWithin, bound_in}
 use Rattle.nz_elaborate.specs.Typed.{Grows}
 use Rattle.nz_elaborate.specs.Faults.{Settles}
-use Rattle.nz_elaborate.proofs.Scoping.{BindLeads, HasNames}
-use Rattle.nz_elaborate.proofs.Defining.{HasParameters}
+use Rattle.nz_elaborate.proofs.ScopeNames.{BindLeads, HasNames}
+use Rattle.nz_elaborate.proofs.DefinitionParts.{HasParameters}
 use Rattle.nz_elaborate.proofs.definitions.bind_parameters.Given as goal
 
 abbrev pub invariant-loop-place : goal.invariant-loop-place

@@ -2,18 +2,18 @@ use Rattle.std.proofs.Common.{[], map, List}
 use Rattle.std.specs.List.{list_any}
 use Rattle.nz_command.specs.View.{view}
 use Rattle.nz_command.specs.Requests.{parameter_view, sort_view}
-use Rattle.nz_spec.specs.Request.{Parameter}
-use Rattle.nz_spec.specs.Scoping.{clash, has_unknown, has_clash}
-use Rattle.nz_spec.specs.Script.{is_unknown_sort, sort_written, parameter_names, parameter_sorts}
-use Rattle.nz_spec.specs.Elaboration.{is_declared}
+use Rattle.nz_script.specs.commands.Request.{Parameter}
+use Rattle.nz_script.specs.commands.Scoping.{clash, has_unknown, has_clash}
+use Rattle.nz_script.specs.commands.Script.{is_unknown_sort, sort_written, parameter_names, parameter_sorts}
+use Rattle.nz_script.specs.commands.Elaboration.{is_declared}
 use Rattle.nz_term.specs.Constants.{sort_of}
 use Rattle.nz_elaborate.specs.Names.{IsScope}
 use Rattle.nz_elaborate.specs.Elaborate.{IsWellNamed}
 use Rattle.nz_elaborate.specs.Definitions.{definition_unknown, definition_clash, definition_term, HasBody}
-use Rattle.nz_elaborate.proofs.Telling.{told_unknown, told_clash, ok_each}
-use Rattle.nz_elaborate.proofs.Scoping.{within_of_scope, within_kept, within_push, pushed}
-use Rattle.nz_elaborate.proofs.Answering.{no_term_answered}
-use Rattle.nz_elaborate.proofs.Defining.{definition_told, definition_is, parameters_sorted, body_answered}
+use Rattle.nz_elaborate.proofs.FaultOrder.{told_unknown, told_clash, ok_each}
+use Rattle.nz_elaborate.proofs.ScopeNames.{within_of_scope, within_kept, within_push, pushed}
+use Rattle.nz_elaborate.proofs.TermAnswers.{no_term_answered}
+use Rattle.nz_elaborate.proofs.DefinitionParts.{definition_told, definition_is, parameters_sorted, body_answered}
 use Rattle.nz_elaborate.proofs.definitions.elaborate_body.Goals as goal
 
 pub expression_term-requires : goal.expression_term-requires

@@ -3,17 +3,17 @@ use Rattle.std.proofs.lemmas.List.{drop_all}
 use Rattle.nz_command.specs.declared.expression.Expression.TheViews.{the_lemmas}
 use Rattle.nz_command.specs.declared.expression.Expression.TheFolds.{fold-roll-Expression, fold_out-Expression, fold-roll-Local, fold_out-Local}
 use Rattle.nz_command.specs.View.{view, seen, local_view, seen_locals}
-use Rattle.nz_spec.specs.Expression.{written_use, written_let, expressions, locals, local_names}
-use Rattle.nz_spec.specs.Scoping.{have_unknown, have_clash, has_unknown, has_clash, locals_have_unknown, locals_have_clash, clash, is_unknown}
-use Rattle.nz_spec.specs.Elaboration.{term_of, terms_of, bindings_of}
+use Rattle.nz_script.specs.commands.Expression.{written_use, written_let, expressions, locals, local_names}
+use Rattle.nz_script.specs.commands.Scoping.{have_unknown, have_clash, has_unknown, has_clash, locals_have_unknown, locals_have_clash, clash, is_unknown}
+use Rattle.nz_script.specs.commands.Elaboration.{term_of, terms_of, bindings_of}
 use Rattle.nz_elaborate.specs.Names.{named_by, bound_in, first_of, is_operator_entry}
 use Rattle.nz_elaborate.specs.Elaborate.{application_of, StandAs}
 use Rattle.nz_elaborate.specs.Faults.{joined, clash_fault, fault_in, term_in_found, TellsNames, Settles}
-use Rattle.nz_elaborate.proofs.Growing.{grows_none}
+use Rattle.nz_elaborate.proofs.TableGrowth.{grows_none}
 use Rattle.nz_elaborate.proofs.Sizes.{expression_size, expressions_size, locals_size, item_smaller, local_smaller}
-use Rattle.nz_elaborate.proofs.Telling.{Leads, leads_next, leads_none, settles_none, tells_both, tells_use}
-use Rattle.nz_elaborate.proofs.Scoping.{BindLeads, within_here, within_kept, within_push, names_push, pushed, has_none, has_next, leads_start, bind_next, frame_within, empty_within, found_bound_within}
-use Rattle.nz_elaborate.proofs.Elaborating.{all_within, none_within, names_here, seen_turn, terms_start, terms_next, terms_end, scope_here, locals_turn, bindings_start, bindings_next, bindings_end, fault_after, use_found, let_found, found_is}
+use Rattle.nz_elaborate.proofs.FaultOrder.{Leads, leads_next, leads_none, settles_none, tells_both, tells_use}
+use Rattle.nz_elaborate.proofs.ScopeNames.{BindLeads, within_here, within_kept, within_push, names_push, pushed, has_none, has_next, leads_start, bind_next, frame_within, empty_within, found_bound_within}
+use Rattle.nz_elaborate.proofs.ElaboratedTerms.{all_within, none_within, names_here, seen_turn, terms_start, terms_next, terms_end, scope_here, locals_turn, bindings_start, bindings_next, bindings_end, fault_after, use_found, let_found, found_is}
 use Rattle.nz_elaborate.proofs.elaboration.+elaborate.Goals as goal
 
 pub expression_terms-loop-expression-preserved : goal.expression_terms-loop-expression-preserved

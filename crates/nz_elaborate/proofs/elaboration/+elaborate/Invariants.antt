@@ -1,18 +1,18 @@
 use Rattle.std.proofs.Common.{◌≡◌, ℕ, suc, ◌+◌, ◌<◌, Bool, List, length, drop, All}
 use Rattle.nz_command.specs.View.{view, seen, seen_locals}
-use Rattle.nz_spec.specs.Expression.{local_names}
-use Rattle.nz_spec.specs.Scoping.{have_unknown, have_clash, locals_have_unknown, locals_have_clash, clash}
+use Rattle.nz_script.specs.commands.Expression.{local_names}
+use Rattle.nz_script.specs.commands.Scoping.{have_unknown, have_clash, locals_have_unknown, locals_have_clash, clash}
 use Rattle.std.specs.Prelude.{◌||◌, IfSome}
-use Rattle.nz_spec.specs.Elaboration.{Scope, terms_of, bindings_of}
+use Rattle.nz_script.specs.commands.Elaboration.{Scope, terms_of, bindings_of}
 use Rattle.nz_elaborate.specs.declared.typed.Typed.{Typed}
 use Rattle.nz_elaborate.specs.Names.{IsScope, AreNames, IsBoundWithin, bound_in}
 use Rattle.nz_elaborate.specs.Typed.{Grows}
 use Rattle.nz_elaborate.specs.Faults.{Settles}
 use Rattle.std.specs.Prelude.{None}
 use Rattle.nz_elaborate.proofs.Sizes.{expression_size, expressions_size, locals_size}
-use Rattle.nz_elaborate.proofs.Telling.{Leads}
-use Rattle.nz_elaborate.proofs.Scoping.{BindLeads, HasNames}
-use Rattle.nz_elaborate.proofs.Elaborating.{HasTerms, HasBindings}
+use Rattle.nz_elaborate.proofs.FaultOrder.{Leads}
+use Rattle.nz_elaborate.proofs.ScopeNames.{BindLeads, HasNames}
+use Rattle.nz_elaborate.proofs.ElaboratedTerms.{HasTerms, HasBindings}
 use Rattle.nz_elaborate.proofs.elaboration.+elaborate.Given as goal
 
 abbrev pub decreases-expression_term : goal.decreases-expression_term

@@ -1,14 +1,14 @@
 use Rattle.std.proofs.Common.{[], sym, subst}
 use Rattle.nz_command.specs.View.{view}
-use Rattle.nz_spec.specs.Scoping.{has_clash}
-use Rattle.nz_spec.specs.Elaboration.{is_declared, term_of}
+use Rattle.nz_script.specs.commands.Scoping.{has_clash}
+use Rattle.nz_script.specs.commands.Elaboration.{is_declared, term_of}
 use Rattle.nz_elaborate.specs.Names.{AreWithin, IsScope}
 use Rattle.nz_elaborate.specs.Elaborate.{StandsAs, IsWellNamed, is_unknown_in}
-use Rattle.nz_elaborate.proofs.Telling.{told_unknown, told_clash, ok_each}
-use Rattle.nz_elaborate.proofs.Scoping.{within_of_scope, names_of_scope}
-use Rattle.nz_elaborate.proofs.Elaborating.{names_here, scope_here}
-use Rattle.nz_elaborate.proofs.Growing.{grows_none}
-use Rattle.nz_elaborate.proofs.Answering.{term_answered, no_term_answered}
+use Rattle.nz_elaborate.proofs.FaultOrder.{told_unknown, told_clash, ok_each}
+use Rattle.nz_elaborate.proofs.ScopeNames.{within_of_scope, names_of_scope}
+use Rattle.nz_elaborate.proofs.ElaboratedTerms.{names_here, scope_here}
+use Rattle.nz_elaborate.proofs.TableGrowth.{grows_none}
+use Rattle.nz_elaborate.proofs.TermAnswers.{term_answered, no_term_answered}
 use Rattle.nz_elaborate.proofs.elaboration.elaborate.Goals as goal
 
 pub expression_term-requires : goal.expression_term-requires

@@ -2,19 +2,19 @@ use Rattle.std.proofs.Common.{[], ◌≡◌, Vec, Global, None, map, drop, ◌+�
 use Rattle.std.proofs.lemmas.Result.{IfOk-weaker}
 use Rattle.nz_command.specs.View.{expressions_from}
 use Rattle.nz_command.specs.Requests.{question_view}
-use Rattle.nz_spec.specs.Expression.{Expressions, expressions}
-use Rattle.nz_spec.specs.Scoping.{has_unknown, has_clash, have_unknown, have_clash}
-use Rattle.nz_spec.specs.Script.{asked_expressions}
-use Rattle.nz_spec.specs.Elaboration.{term_of, terms_of}
+use Rattle.nz_script.specs.commands.Expression.{Expressions, expressions}
+use Rattle.nz_script.specs.commands.Scoping.{has_unknown, has_clash, have_unknown, have_clash}
+use Rattle.nz_script.specs.commands.Script.{asked_expressions}
+use Rattle.nz_script.specs.commands.Elaboration.{term_of, terms_of}
 use Rattle.nz_elaborate.specs.declared.typed.Typed.{Typed}
 use Rattle.nz_elaborate.specs.Names.{IsScope}
 use Rattle.nz_elaborate.specs.Elaborate.{StandAs, IsWellNamed, are_unknown_in}
 use Rattle.nz_elaborate.specs.Faults.{fault_in}
-use Rattle.nz_elaborate.proofs.Growing.{grows_none}
-use Rattle.nz_elaborate.proofs.Telling.{Leads, leads_none, leads_next, settles_none, told_unknown, told_clash, told_sort, told_fine, ok_each}
-use Rattle.nz_elaborate.proofs.Scoping.{within_of_scope, within_here}
-use Rattle.nz_elaborate.proofs.Elaborating.{question_term, names_here, seen_turn, terms_start, terms_next, scope_here}
-use Rattle.nz_elaborate.proofs.Answering.{asked_told, asked_settled}
+use Rattle.nz_elaborate.proofs.TableGrowth.{grows_none}
+use Rattle.nz_elaborate.proofs.FaultOrder.{Leads, leads_none, leads_next, settles_none, told_unknown, told_clash, told_sort, told_fine, ok_each}
+use Rattle.nz_elaborate.proofs.ScopeNames.{within_of_scope, within_here}
+use Rattle.nz_elaborate.proofs.ElaboratedTerms.{question_term, names_here, seen_turn, terms_start, terms_next, scope_here}
+use Rattle.nz_elaborate.proofs.TermAnswers.{asked_told, asked_settled}
 use Rattle.nz_elaborate.proofs.elaboration.elaborate_all.Goals as goal
 
 pub loop-question-init : goal.loop-question-init

@@ -1,12 +1,12 @@
 use Rattle.std.proofs.Common.{[], ◌≡◌, ℕ, Bool, List, None, map, drop}
 use Rattle.nz_command.specs.View.{expressions_from}
-use Rattle.nz_spec.specs.Scoping.{have_unknown, have_clash}
-use Rattle.nz_spec.specs.Elaboration.{Scope, terms_of}
+use Rattle.nz_script.specs.commands.Scoping.{have_unknown, have_clash}
+use Rattle.nz_script.specs.commands.Elaboration.{Scope, terms_of}
 use Rattle.nz_elaborate.specs.Names.{IsScope, AreNames}
 use Rattle.nz_elaborate.specs.Typed.{Grows}
 use Rattle.nz_elaborate.specs.Faults.{Settles}
-use Rattle.nz_elaborate.proofs.Telling.{Leads}
-use Rattle.nz_elaborate.proofs.Elaborating.{HasTerms, question_term}
+use Rattle.nz_elaborate.proofs.FaultOrder.{Leads}
+use Rattle.nz_elaborate.proofs.ElaboratedTerms.{HasTerms, question_term}
 use Rattle.nz_elaborate.proofs.elaboration.elaborate_all.Given as goal
 
 abbrev pub invariant-loop-question : goal.invariant-loop-question

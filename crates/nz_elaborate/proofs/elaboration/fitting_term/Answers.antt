@@ -1,7 +1,7 @@
 use Rattle.std.proofs.Common.{◌≡◌, true, sym, ◌∙◌}
-use Rattle.nz_spec.specs.Term.{head_fits, apply, no_terms}
+use Rattle.nz_spec.specs.terms.Term.{head_fits, apply, no_terms}
 use Rattle.nz_term.specs.Heads.{head_of}
-use Rattle.nz_elaborate.proofs.Elaborating.{fits_is}
+use Rattle.nz_elaborate.proofs.ElaboratedTerms.{fits_is}
 use Rattle.nz_elaborate.proofs.elaboration.fitting_term.Goals as goal
 
 pub returns-clause-found : goal.returns-clause-found

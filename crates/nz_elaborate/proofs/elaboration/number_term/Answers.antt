@@ -1,6 +1,6 @@
 use Rattle.nz_command.specs.View.{number_view}
 use Rattle.nz_term.specs.Heads.{head_of}
-use Rattle.nz_elaborate.proofs.Elaborating.{number_is}
+use Rattle.nz_elaborate.proofs.ElaboratedTerms.{number_is}
 use Rattle.nz_elaborate.proofs.elaboration.number_term.Goals as goal
 
 pub returns-in-Some-clause-found : goal.returns-in-Some-clause-found

@@ -2,7 +2,7 @@ use Rattle.std.proofs.Common.{◌≡◌, Some, None, reverse, sym, ◌∙◌}
 use Rattle.std.proofs.lemmas.Iterator.Adapters.{YieldsList-from_rev_slice}
 use Rattle.std.proofs.lemmas.Iterator.Consumers.{YieldsList-turn}
 use Rattle.nz_elaborate.specs.Names.{bound_in}
-use Rattle.nz_elaborate.proofs.Naming.{bound-reverse, innermost_found, innermost_next}
+use Rattle.nz_elaborate.proofs.NameLookup.{bound-reverse, innermost_found, innermost_next}
 use Rattle.nz_elaborate.proofs.frames.bound_term.Goals as goal
 
 pub loop-frame-init : goal.loop-frame-init

@@ -1,6 +1,6 @@
 use Rattle.std.proofs.Common.{◌≡◌, drop, length, reverse}
 use Rattle.nz_elaborate.specs.Names.{bound_by}
-use Rattle.nz_elaborate.proofs.Naming.{innermost}
+use Rattle.nz_elaborate.proofs.NameLookup.{innermost}
 use Rattle.nz_elaborate.proofs.frames.bound_term.Given as goal
 
 abbrev pub invariant-loop-frame : goal.invariant-loop-frame

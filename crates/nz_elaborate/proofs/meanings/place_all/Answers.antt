@@ -1,7 +1,7 @@
 use Rattle.std.proofs.Common.{arith}
 use Rattle.std.proofs.lemmas.Result.{err_from_is_err_and}
-use Rattle.nz_elaborate.proofs.Growing.{push_within}
-use Rattle.nz_elaborate.proofs.Expanding.{placed_next, placed_none, placed_all, placed_count}
+use Rattle.nz_elaborate.proofs.TableGrowth.{push_within}
+use Rattle.nz_elaborate.proofs.DefinitionUses.{placed_next, placed_none, placed_all, placed_count}
 use Rattle.nz_elaborate.proofs.meanings.place_all.Goals as goal
 
 pub returns-then-sorts-arguments-clause-refused : goal.returns-then-sorts-arguments-clause-refused

@@ -1,8 +1,8 @@
 use Rattle.std.proofs.Common.{◌<◌, length, map, take, All}
-use Rattle.nz_spec.specs.Term.{Terms}
+use Rattle.nz_spec.specs.terms.Term.{Terms}
 use Rattle.nz_term.specs.Constants.{sort_of}
 use Rattle.nz_elaborate.specs.Typed.{Grows, AreTyped}
-use Rattle.nz_elaborate.proofs.Expanding.{EachPlaced}
+use Rattle.nz_elaborate.proofs.DefinitionUses.{EachPlaced}
 use Rattle.nz_elaborate.proofs.meanings.place_all.Given as goal
 
 abbrev pub invariant-loop-i : goal.invariant-loop-i

@@ -1,7 +1,7 @@
 use Rattle.std.proofs.Common.{◌<◌, length, get_or, ◌∙◌, arith}
 use Rattle.std.proofs.lemmas.List.Elements.{All-get_or}
-use Rattle.nz_elaborate.proofs.Growing.{push_within}
-use Rattle.nz_elaborate.proofs.Normalizing.{disequation_next}
+use Rattle.nz_elaborate.proofs.TableGrowth.{push_within}
+use Rattle.nz_elaborate.proofs.NormalTerms.{disequation_next}
 use Rattle.nz_elaborate.proofs.normal.add_disequations.Goals as goal
 
 pub loop-other-preserved : goal.loop-other-preserved

@@ -1,7 +1,7 @@
 use Rattle.std.proofs.Common.{◌≡◌, ◌<◌, length, drop, All}
-use Rattle.nz_spec.specs.Term.{Terms}
-use Rattle.nz_spec.specs.Normal.{disequations_onto}
-use Rattle.nz_spec.specs.Table.{term_in, terms_at}
+use Rattle.nz_spec.specs.terms.Term.{Terms}
+use Rattle.nz_spec.specs.terms.Normal.{disequations_onto}
+use Rattle.nz_spec.specs.terms.Table.{term_in, terms_at}
 use Rattle.nz_elaborate.specs.Typed.{Grows, terms_before}
 use Rattle.nz_elaborate.proofs.normal.add_disequations.Given as goal
 

@@ -1,12 +1,12 @@
 use Rattle.std.proofs.Common.{◌≡◌, suc, ◌<◌, ◌≤◌, length, get_or, IfOk, ap, ◌∙◌, subst, arith}
 use Rattle.std.proofs.lemmas.List.Elements.{All-get_or}
-use Rattle.nz_spec.specs.Term.{conjunction}
-use Rattle.nz_spec.specs.Normal.{neighbours_of, joined_by}
-use Rattle.nz_spec.specs.Table.{term_in, terms_at}
+use Rattle.nz_spec.specs.terms.Term.{conjunction}
+use Rattle.nz_spec.specs.terms.Normal.{neighbours_of, joined_by}
+use Rattle.nz_spec.specs.terms.Table.{term_in, terms_at}
 use Rattle.nz_elaborate.specs.Typed.{StandsFor}
 use Rattle.nz_elaborate.specs.Links.{link_pair}
-use Rattle.nz_elaborate.proofs.Growing.{push_within}
-use Rattle.nz_elaborate.proofs.Normalizing.{neighbours_next, neighbours_all}
+use Rattle.nz_elaborate.proofs.TableGrowth.{push_within}
+use Rattle.nz_elaborate.proofs.NormalTerms.{neighbours_next, neighbours_all}
 use Rattle.nz_elaborate.proofs.normal.chained.Goals as goal
 
 pub loop-i-preserved : goal.loop-i-preserved

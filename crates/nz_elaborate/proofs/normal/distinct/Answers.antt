@@ -1,10 +1,10 @@
 use Rattle.std.proofs.Common.{◌≡◌, ◌+◌, ◌-◌, ◌≤◌, length, take, drop, get_or, IfOk, ap, ◌∙◌, subst, arith}
 use Rattle.std.proofs.lemmas.List.{take_rest}
-use Rattle.nz_spec.specs.Term.{conjunction}
-use Rattle.nz_spec.specs.Normal.{disequations_onto, disequations_of, joined_by}
-use Rattle.nz_spec.specs.Table.{term_in, terms_at}
+use Rattle.nz_spec.specs.terms.Term.{conjunction}
+use Rattle.nz_spec.specs.terms.Normal.{disequations_onto, disequations_of, joined_by}
+use Rattle.nz_spec.specs.terms.Table.{term_in, terms_at}
 use Rattle.nz_elaborate.specs.Typed.{StandsFor, terms_before}
-use Rattle.nz_elaborate.proofs.Normalizing.{disequations_next, disequations_all}
+use Rattle.nz_elaborate.proofs.NormalTerms.{disequations_next, disequations_all}
 use Rattle.nz_elaborate.proofs.normal.distinct.Goals as goal
 
 pub loop-i-preserved : goal.loop-i-preserved

@@ -1,6 +1,6 @@
 use Rattle.std.proofs.Common.{◌≡◌, ◌<◌, length, drop, All}
-use Rattle.nz_spec.specs.Normal.{disequations_of}
-use Rattle.nz_spec.specs.Table.{term_in, terms_at}
+use Rattle.nz_spec.specs.terms.Normal.{disequations_of}
+use Rattle.nz_spec.specs.terms.Table.{term_in, terms_at}
 use Rattle.nz_elaborate.specs.Typed.{Grows, terms_before}
 use Rattle.nz_elaborate.proofs.normal.distinct.Given as goal
 

@@ -1,7 +1,7 @@
 use Rattle.std.proofs.Common.{◌<◌, length, get_or, ◌∙◌, arith}
 use Rattle.std.proofs.lemmas.List.Elements.{All-get_or}
 use Rattle.nz_term.specs.Heads.{operator_of}
-use Rattle.nz_elaborate.proofs.Normalizing.{grouped_next}
+use Rattle.nz_elaborate.proofs.NormalTerms.{grouped_next}
 use Rattle.nz_elaborate.proofs.normal.grouped.Goals as goal
 
 pub loop-i-preserved : goal.loop-i-preserved

@@ -1,6 +1,6 @@
 use Rattle.std.proofs.Common.{◌≡◌, ◌<◌, length, drop}
-use Rattle.nz_spec.specs.Normal.{grouped_onto, grouped_by}
-use Rattle.nz_spec.specs.Table.{term_in, terms_at}
+use Rattle.nz_spec.specs.terms.Normal.{grouped_onto, grouped_by}
+use Rattle.nz_spec.specs.terms.Table.{term_in, terms_at}
 use Rattle.nz_term.specs.Heads.{operator_of}
 use Rattle.nz_elaborate.specs.Typed.{Grows}
 use Rattle.nz_elaborate.proofs.normal.grouped.Given as goal

@@ -1,9 +1,9 @@
 use Rattle.std.proofs.Common.{◌≡◌, ℕ, suc, ◌-◌, ◌<◌, length, drop, get_or, subst, arith}
 use Rattle.std.proofs.lemmas.List.Elements.{All-get_or}
-use Rattle.nz_spec.specs.Normal.{implication_of}
-use Rattle.nz_spec.specs.Table.{term_in, terms_at}
+use Rattle.nz_spec.specs.terms.Normal.{implication_of}
+use Rattle.nz_spec.specs.terms.Table.{term_in, terms_at}
 use Rattle.nz_elaborate.specs.Typed.{StandsFor}
-use Rattle.nz_elaborate.proofs.Normalizing.{implication_next}
+use Rattle.nz_elaborate.proofs.NormalTerms.{implication_next}
 use Rattle.nz_elaborate.proofs.normal.implication.Goals as goal
 
 pub loop-i-preserved : goal.loop-i-preserved

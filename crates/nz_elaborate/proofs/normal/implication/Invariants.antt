@@ -1,6 +1,6 @@
 use Rattle.std.proofs.Common.{drop}
-use Rattle.nz_spec.specs.Normal.{implication_of}
-use Rattle.nz_spec.specs.Table.{term_in, terms_at}
+use Rattle.nz_spec.specs.terms.Normal.{implication_of}
+use Rattle.nz_spec.specs.terms.Table.{term_in, terms_at}
 use Rattle.nz_elaborate.specs.Typed.{Grows, StandsFor}
 use Rattle.nz_elaborate.proofs.normal.implication.Given as goal
 

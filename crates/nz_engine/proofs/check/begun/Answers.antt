@@ -1,4 +1,4 @@
-use Rattle.nz_engine.proofs.Answering.{prepared_over}
+use Rattle.nz_engine.proofs.KeptState.{prepared_over}
 use Rattle.nz_engine.proofs.check.begun.Goals as goal
 
 pub returns-in-Prepared : goal.returns-in-Prepared

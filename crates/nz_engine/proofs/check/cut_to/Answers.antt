@@ -1,6 +1,6 @@
 use Rattle.std.proofs.Common.{◌≡◌, ◌≤◌, ◌-◌, ◌∙◌, suc, length, arith, subst, sym}
 use Rattle.nz_engine.specs.Engines.{IsAtRest}
-use Rattle.nz_engine.proofs.Answering.{settled}
+use Rattle.nz_engine.proofs.KeptState.{settled}
 use Rattle.nz_engine.proofs.check.cut_to.Goals as goal
 
 pub returns-then-cut : goal.returns-then-cut

@@ -1,20 +1,21 @@
 -- What each way out of a check says.
 use Rattle.std.proofs.Common.{rules, ◌≡◌, ◌++◌, List, [], Option, Err, IfErr, ℕ, subst}
-use Rattle.nz_spec.specs.Decide.{asserted_numbers}
-use Rattle.nz_spec.specs.Term.{Term}
-use Rattle.nz_spec.specs.Work.{IsSpent}
-use Rattle.nz_log.specs.declared.stop.Stop.{Stop}
-use Rattle.nz_log.specs.Places.{IsSiteWithin, OnWide}
-use Rattle.nz_log.specs.TermLits.{AreNegations}
-use Rattle.nz_log.specs.Verdicts.{OnSpent, task_in}
+use Rattle.nz_spec.specs.search.Decide.{asserted_numbers}
+use Rattle.nz_spec.specs.terms.Term.{Term}
+use Rattle.nz_spec.specs.search.Work.{IsSpent}
+use Rattle.nz_search.specs.declared.stop.Stop.{Stop}
+use Rattle.nz_place.specs.Places.{IsSiteWithin}
+use Rattle.nz_search.specs.Places.{OnWide}
+use Rattle.nz_term.specs.TermLits.{AreNegations}
+use Rattle.nz_search.specs.Verdicts.{OnSpent, task_in}
 use Rattle.nz_reals.specs.Stands.{IsAt}
 use Rattle.nz_reals.specs.Starts.{MayRestart}
 use Rattle.nz_engine.specs.Checking.{IsPosed, IsStop, terms_named}
 use Rattle.nz_engine.specs.Engines.{literals_in, theory_of}
-use Rattle.nz_engine.proofs.Ending.{legal_none, model_stop, root_stop, root_unspent, solve_stop, stop_within, works_none}
-use Rattle.nz_engine.proofs.Naming.{ends_legal}
-use Rattle.nz_engine.proofs.Refuting.{dead_end}
-use Rattle.nz_engine.proofs.Resting.{begins_after, known_terms, on_wide_all, readied_after, search_at, search_some}
+use Rattle.nz_engine.proofs.CheckEnds.{legal_none, model_stop, root_stop, root_unspent, solve_stop, stop_within, works_none}
+use Rattle.nz_engine.proofs.AtomNotes.{ends_legal}
+use Rattle.nz_engine.proofs.RefutedAssumptions.{dead_end}
+use Rattle.nz_engine.proofs.KeptTheory.{begins_after, known_terms, on_wide_all, readied_after, search_at, search_some}
 use Rattle.nz_engine.proofs.check.decide.Goals as goal
 
 -- ---- What is asked isn't posed

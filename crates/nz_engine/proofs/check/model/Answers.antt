@@ -2,7 +2,7 @@ use Rattle.std.specs.Prelude.{flat_map}
 use Rattle.std.proofs.lemmas.Result.{IfOk-weaker}
 use Rattle.nz_reals.specs.Chosen.{HasWorths}
 use Rattle.nz_engine.specs.Checking.{value_at}
-use Rattle.nz_engine.proofs.Deciding.{made_true}
+use Rattle.nz_engine.proofs.ModelSoundness.{made_true}
 use Rattle.nz_engine.proofs.check.model.Goals as goal
 
 pub returns-clause-model : goal.returns-clause-model

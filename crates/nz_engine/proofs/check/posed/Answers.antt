@@ -1,15 +1,15 @@
 use Rattle.std.proofs.Common.{rules, ◌≡◌, ◌<◌, ◌++◌, Err, IfErr, length, sym, subst, ◌∙◌}
 use Rattle.std.proofs.lemmas.List.Elements.{All-from_recursion, All-map, Contains-append_left, Contains-append_right}
-use Rattle.nz_spec.specs.Decide.{asserted_numbers}
-use Rattle.nz_spec.specs.Taken.{IsTakenBoolean}
-use Rattle.nz_spec.specs.Table.{term_in}
-use Rattle.nz_log.specs.declared.term_lits.TermLit.{TermLit}
+use Rattle.nz_spec.specs.search.Decide.{asserted_numbers}
+use Rattle.nz_spec.specs.terms.Taken.{IsTakenBoolean}
+use Rattle.nz_spec.specs.terms.Table.{term_in}
+use Rattle.nz_term.specs.declared.term_lits.TermLit.{TermLit}
 use Rattle.nz_reals.specs.Stands.{IsOver}
 use Rattle.nz_reals.specs.State.{Theory}
 use Rattle.nz_engine.specs.Checking.{IsRootStop, terms_named}
 use Rattle.nz_engine.specs.Engines.{theory_of}
-use Rattle.nz_engine.proofs.Answering.{kept_rest, over_grown}
-use Rattle.nz_engine.proofs.Ending.{root_more}
+use Rattle.nz_engine.proofs.KeptState.{kept_rest, over_grown}
+use Rattle.nz_engine.proofs.CheckEnds.{root_more}
 use Rattle.nz_engine.proofs.check.posed.Goals as goal
 
 pub assume-requires-clause-within : goal.assume-requires-clause-within

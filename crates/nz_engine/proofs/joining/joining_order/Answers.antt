@@ -1,6 +1,6 @@
 use Rattle.std.proofs.Common.{rules, ◌≡◌, ◌+◌, ◌∷◌, ◌++◌, ℕ, [], length, sym, subst, arith}
 use Rattle.nz_engine.specs.Joining.{AreNumbersBelow}
-use Rattle.nz_engine.proofs.Ordering.{in_order, one_more}
+use Rattle.nz_engine.proofs.NumbersBelow.{in_order, one_more}
 use Rattle.nz_engine.proofs.joining.joining_order.Goals as goal
 
 pub loop-place-preserved : goal.loop-place-preserved

@@ -1,5 +1,5 @@
 use Rattle.std.proofs.Common.{arith, add-one}
-use Rattle.nz_engine.proofs.Leveling.{count_next}
+use Rattle.nz_engine.proofs.TermsByLevel.{count_next}
 use Rattle.nz_engine.proofs.levels.left_of.Goals as goal
 
 pub loop-terms-preserved : goal.loop-terms-preserved

@@ -3,8 +3,8 @@ use Rattle.std.specs.Prelude.{slice_get}
 use Rattle.std.proofs.lemmas.List.{length-map}
 use Rattle.std.proofs.lemmas.Option.{slice_get-get_or}
 use Rattle.nz_engine.specs.Levels.{numbers_by_level}
-use Rattle.nz_engine.proofs.Leveling.{count_next, level_at}
-use Rattle.nz_engine.proofs.Placing.{placed_here}
+use Rattle.nz_engine.proofs.TermsByLevel.{count_next, level_at}
+use Rattle.nz_engine.proofs.AssertionPlaces.{placed_here}
 use Rattle.nz_engine.proofs.levels.placed_in.Goals as goal
 
 pub returns-in-Some-clause-placed : goal.returns-in-Some-clause-placed

@@ -1,6 +1,6 @@
 -- Each so far names a formula.
 use Rattle.std.proofs.Common.{ℕ, ◌<◌, get_or}
-use Rattle.nz_log.specs.declared.term_lits.TermLit.{TermLit}
+use Rattle.nz_term.specs.declared.term_lits.TermLit.{TermLit}
 use Rattle.nz_engine_tests.specs.Benches.{IsFormula}
 use Rattle.nz_engine_tests.proofs.bench.name_formulas.Given as goal
 

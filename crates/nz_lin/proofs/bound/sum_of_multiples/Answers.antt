@@ -4,17 +4,17 @@ use Rattle.std.proofs.lemmas.List.{drop_all}
 use Rattle.std.proofs.lemmas.List.Elements.{All-from_recursion}
 use Rattle.std.proofs.lemmas.Result.{err_from_is_err_and}
 use Rattle.nz_lists.proofs.Places.{drop_read}
-use Rattle.nz_spec.specs.Computation.{at_once}
-use Rattle.nz_spec.specs.Farkas as farkas
-use Rattle.nz_spec.specs.FormOf.{number_in}
-use Rattle.nz_spec.specs.Table.{Node}
-use Rattle.nz_lin.specs.declared.bound.Multiple.{Multiple}
+use Rattle.nz_spec.specs.numbers.Computation.{at_once, IsSame}
+use Rattle.nz_spec.specs.clauses.Farkas as farkas
+use Rattle.nz_spec.specs.terms.FormOf.{number_in}
+use Rattle.nz_spec.specs.terms.Table.{Node}
+use Rattle.nz_lin.specs.declared.bound.BoundMultiple.{BoundMultiple}
 use Rattle.nz_lin.specs.Bounds.{HasUnits, IsBounded, bound_over, multiples_over}
-use Rattle.nz_lin.proofs.Bounding.{multiple_more, multiple_stop}
-use Rattle.nz_lin.proofs.Computing.{IsSame, at_once_done, same_done, same_itself}
+use Rattle.nz_lin.proofs.BoundSides.{multiple_more, multiple_stop}
+use Rattle.nz_lin.proofs.ComputationSequences.{at_once_done, same_done, same_itself}
 use Rattle.nz_lin.proofs.bound.sum_of_multiples.Goals as goal
 
-abbrev Named : List Node → Multiple → Type 0
+abbrev Named : List Node → BoundMultiple → Type 0
 Named ns m = HasUnits ns m.bound
 
 pub loop-multiple-init : goal.loop-multiple-init
@@ -41,7 +41,7 @@ returns-in_err-join_multiple c = record {
       let own : HasUnits ns m.bound = subst (Named ns) (sym c.multiple-item.is) (All-from_recursion (Named ns) ms named i m inside) in
       let error = err_from_is_err_and c.from_residual.result c.from_residual.ensures.1 in
       subst (λ r. IsBounded ns whole r) (sym (error.1 ∙ ap Err error.2))
-      (multiple_stop n ns x m rest whole (subst (λ (l : List Multiple). IsSame (farkas.multiples_onto n x (multiples_over ns l)) whole) left (c.loop-multiple.invariant.joined ns table named))
+      (multiple_stop n ns x m rest whole (subst (λ (l : List BoundMultiple). IsSame (farkas.multiples_onto n x (multiples_over ns l)) whole) left (c.loop-multiple.invariant.joined ns table named))
       c.in_err-join_multiple.field-0.0 (c.in_err-join_multiple.ensures.comes ns table (c.loop-multiple.invariant.units ns named) own));
 }
 
@@ -59,7 +59,7 @@ loop-multiple-preserved c =
           let x = bound_over ns c.loop-multiple.sum in
           let whole = farkas.sum_of_multiples n (multiples_over ns ms) in
           let own : HasUnits ns m.bound = subst (Named ns) (sym c.multiple-item.is) (All-from_recursion (Named ns) ms named i m inside) in
-          multiple_more n ns x m rest whole (subst (λ (l : List Multiple). IsSame (farkas.multiples_onto n x (multiples_over ns l)) whole) left (c.loop-multiple.invariant.joined ns table named))
+          multiple_more n ns x m rest whole (subst (λ (l : List BoundMultiple). IsSame (farkas.multiples_onto n x (multiples_over ns l)) whole) left (c.loop-multiple.invariant.joined ns table named))
           (bound_over ns c.join_multiple.new.self) (c.in_ok-join_multiple.ensures.comes ns table (c.loop-multiple.invariant.units ns named) own);
       units = λ ns named.
           let own : HasUnits ns m.bound = subst (Named ns) (sym c.multiple-item.is) (All-from_recursion (Named ns) ms named i m inside) in
@@ -74,7 +74,7 @@ returns c = record {
       let x = bound_over ns c.loop-multiple.sum in
       let whole = farkas.sum_of_multiples n (multiples_over ns ms) in (
         same_done (at_once x) whole x
-            (subst (λ (l : List Multiple). IsSame (farkas.multiples_onto n x (multiples_over ns l)) whole) (drop_all c.loop-multiple.multiple-index ms (omega arith)) (c.loop-multiple.invariant.joined ns table named))
+            (subst (λ (l : List BoundMultiple). IsSame (farkas.multiples_onto n x (multiples_over ns l)) whole) (drop_all c.loop-multiple.multiple-index ms (omega arith)) (c.loop-multiple.invariant.joined ns table named))
             (at_once_done x),
         c.loop-multiple.invariant.units ns named,
       );

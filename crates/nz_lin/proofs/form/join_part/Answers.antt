@@ -2,12 +2,12 @@
 use Rattle.std.proofs.Common.{◌≡◌, ◌<◌, List, length, get_or, take, drop, ◌++◌, ◌∷◌, sym, ap, subst, ◌∙◌, rules, arith}
 use Rattle.std.proofs.lemmas.List.Sorted.{answers_always}
 use Rattle.std.proofs.lemmas.Option.{slice_get-get_or}
-use Rattle.nz_spec.specs.FormOf.{number_in}
-use Rattle.nz_spec.specs.Form.{part_joined}
+use Rattle.nz_spec.specs.terms.FormOf.{number_in}
+use Rattle.nz_spec.specs.terms.Form.{part_joined}
 use Rattle.nz_lin.specs.declared.form.Part.{Part}
 use Rattle.nz_lin.specs.Comes.{IsDone, arithmetic_of}
 use Rattle.nz_lin.specs.Forms.{AreUnits, part_over, parts_over}
-use Rattle.nz_lin.proofs.Joining.{before_found, found, gap, insert_done, met_comes, units_inserted, units_met_on}
+use Rattle.nz_lin.proofs.PartInsertion.{before_found, found, gap, insert_done, met_comes, units_inserted, units_met_on}
 use Rattle.nz_lin.proofs.Units.{all_before}
 use Rattle.nz_lin.proofs.form.join_part.Goals as goal
 

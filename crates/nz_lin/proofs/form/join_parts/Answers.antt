@@ -4,14 +4,14 @@ use Rattle.std.proofs.lemmas.List.{drop_all}
 use Rattle.std.proofs.lemmas.List.Elements.{All-from_recursion}
 use Rattle.std.proofs.lemmas.Result.{err_from_is_err_and}
 use Rattle.nz_lists.proofs.Places.{drop_read}
-use Rattle.nz_spec.specs.Computation.{at_once}
-use Rattle.nz_spec.specs.Form.{parts_joined}
-use Rattle.nz_spec.specs.FormOf.{number_in}
+use Rattle.nz_spec.specs.numbers.Computation.{at_once, IsSame}
+use Rattle.nz_spec.specs.terms.Form.{parts_joined}
+use Rattle.nz_spec.specs.terms.FormOf.{number_in}
 use Rattle.nz_lin.specs.declared.form.Part.{Part}
 use Rattle.nz_lin.specs.Comes.{Comes, arithmetic_of}
 use Rattle.nz_lin.specs.Forms.{NamesUnit, part_over, parts_over}
-use Rattle.nz_lin.proofs.Adding.{join_more, join_stop}
-use Rattle.nz_lin.proofs.Computing.{IsSame, at_once_done, same_done}
+use Rattle.nz_lin.proofs.FormAddition.{join_more, join_stop}
+use Rattle.nz_lin.proofs.ComputationSequences.{at_once_done, same_done}
 use Rattle.nz_lin.proofs.form.join_parts.Goals as goal
 
 pub returns-in_err-join_part-clause-joined : goal.returns-in_err-join_part-clause-joined

@@ -1,10 +1,10 @@
 use Rattle.std.proofs.Common.{List, drop}
-use Rattle.nz_spec.specs.Form.{parts_joined}
-use Rattle.nz_spec.specs.FormOf.{number_in}
-use Rattle.nz_spec.specs.Table.{IsTable, Node}
+use Rattle.nz_spec.specs.terms.Form.{parts_joined}
+use Rattle.nz_spec.specs.terms.FormOf.{number_in}
+use Rattle.nz_spec.specs.terms.Table.{IsTable, Node}
 use Rattle.nz_lin.specs.Comes.{arithmetic_of}
 use Rattle.nz_lin.specs.Forms.{AreUnits, parts_over}
-use Rattle.nz_lin.proofs.Computing.{IsSame}
+use Rattle.nz_spec.specs.numbers.Computation.{IsSame}
 use Rattle.nz_lin.proofs.form.join_parts.Given as goal
 
 -- to join the rest to what is joined so far is to join the whole

@@ -3,13 +3,13 @@ use Rattle.std.proofs.Common.{◌≡◌, ◌+◌, List, ◌∷◌, ◌++◌, dro
 use Rattle.std.proofs.lemmas.List.{append-nil, drop_all}
 use Rattle.std.proofs.lemmas.Result.{err_from_is_err_and}
 use Rattle.nz_lists.proofs.Places.{drop_read}
-use Rattle.nz_spec.specs.Form.{parts_scaled}
-use Rattle.nz_lin.specs.declared.form.LinStop.TheVariants.{Wide}
+use Rattle.nz_spec.specs.terms.Form.{parts_scaled}
+use Rattle.nz_term.specs.declared.stops.ArithmeticStop.TheVariants.{Wide}
 use Rattle.nz_lin.specs.declared.form.Part.{Part}
 use Rattle.nz_lin.specs.Comes.{AreFormed, times}
 use Rattle.nz_lin.specs.Forms.{AreUnits, parts_over}
-use Rattle.nz_lin.proofs.Computing.{IsSame}
-use Rattle.nz_lin.proofs.Scaling.{all_scaled, onto, scaled_more, scaled_stop, units_more}
+use Rattle.nz_spec.specs.numbers.Computation.{IsSame}
+use Rattle.nz_lin.proofs.ScaledForms.{all_scaled, onto, scaled_more, scaled_stop, units_more}
 use Rattle.nz_lin.proofs.form.multiplied_parts.Goals as goal
 
 pub returns-in_err-coefficient-clause-scaled : goal.returns-in_err-coefficient-clause-scaled

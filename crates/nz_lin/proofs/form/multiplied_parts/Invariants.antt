@@ -1,10 +1,10 @@
 use Rattle.std.proofs.Common.{List, ◌++◌, drop}
-use Rattle.nz_spec.specs.Form.{parts_scaled}
-use Rattle.nz_spec.specs.Table.{Node}
+use Rattle.nz_spec.specs.terms.Form.{parts_scaled}
+use Rattle.nz_spec.specs.terms.Table.{Node}
 use Rattle.nz_lin.specs.Comes.{times}
 use Rattle.nz_lin.specs.Forms.{AreUnits, parts_over}
-use Rattle.nz_lin.proofs.Computing.{IsSame}
-use Rattle.nz_lin.proofs.Scaling.{onto}
+use Rattle.nz_spec.specs.numbers.Computation.{IsSame}
+use Rattle.nz_lin.proofs.ScaledForms.{onto}
 use Rattle.nz_lin.proofs.form.multiplied_parts.Given as goal
 
 -- the parts so far, and then those that are made of the rest, are the whole

@@ -3,15 +3,15 @@ use Rattle.std.proofs.Common.{◌≡◌, ℕ, ◌+◌, List, ◌∷◌, Option, 
 use Rattle.std.specs.Prelude.{IsTrue}
 use Rattle.std.proofs.lemmas.List.{drop_all, drop_more}
 use Rattle.std.proofs.lemmas.Result.{err_from_is_err_and}
-use Rattle.nz_spec.specs.Computation.{at_once}
-use Rattle.nz_spec.specs.FormOf.{divided_by_each}
+use Rattle.nz_spec.specs.numbers.Computation.{at_once, IsSame}
+use Rattle.nz_spec.specs.terms.FormOf.{divided_by_each}
 use Rattle.nz_fractions.specs.Fraction.{Fraction}
-use Rattle.nz_spec.specs.Linear.{are_divisors, constant_value}
-use Rattle.nz_spec.specs.Table.{term_in}
+use Rattle.nz_spec.specs.terms.Linear.{are_divisors, constant_value}
+use Rattle.nz_spec.specs.terms.Table.{term_in}
 use Rattle.nz_lin.specs.Comes.{IsFormed}
 use Rattle.nz_lin.specs.Forms.{form_over}
 use Rattle.nz_lin.specs.Making.{constants_at}
-use Rattle.nz_lin.proofs.Computing.{IsSame, at_once_done, same_done}
+use Rattle.nz_lin.proofs.ComputationSequences.{at_once_done, same_done}
 use Rattle.nz_lin.proofs.Operators.{divide_more, divide_stop, later_divisors, nonzero_divisor}
 use Rattle.nz_lin.proofs.linear.all_divided.Goals as goal
 

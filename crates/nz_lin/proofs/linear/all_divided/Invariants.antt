@@ -1,10 +1,10 @@
 use Rattle.std.proofs.Common.{drop}
 use Rattle.std.specs.Prelude.{IsTrue}
-use Rattle.nz_spec.specs.FormOf.{divided_by_each}
-use Rattle.nz_spec.specs.Linear.{are_divisors}
+use Rattle.nz_spec.specs.terms.FormOf.{divided_by_each}
+use Rattle.nz_spec.specs.terms.Linear.{are_divisors}
 use Rattle.nz_lin.specs.Forms.{AreUnits, form_over}
 use Rattle.nz_lin.specs.Making.{constants_at}
-use Rattle.nz_lin.proofs.Computing.{IsSame}
+use Rattle.nz_spec.specs.numbers.Computation.{IsSame}
 use Rattle.nz_lin.proofs.linear.all_divided.Given as goal
 
 -- to divide what is divided so far by the rest is to divide the whole

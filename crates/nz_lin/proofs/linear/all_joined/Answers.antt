@@ -4,15 +4,15 @@ use Rattle.std.specs.Prelude.{nat_eq}
 use Rattle.std.specs.HashMap.{get}
 use Rattle.std.proofs.lemmas.List.{drop_all, drop_more}
 use Rattle.std.proofs.lemmas.Result.{err_from_is_err_and}
-use Rattle.nz_spec.specs.Computation.{at_once}
-use Rattle.nz_spec.specs.Form.{all_joined}
-use Rattle.nz_spec.specs.FormOf.{number_in}
+use Rattle.nz_spec.specs.numbers.Computation.{at_once, IsSame}
+use Rattle.nz_spec.specs.terms.Form.{all_joined}
+use Rattle.nz_spec.specs.terms.FormOf.{number_in}
 use Rattle.nz_lin.specs.Comes.{IsFormed, arithmetic_of}
 use Rattle.nz_lin.specs.Forms.{AreUnits, Numbered, form_over}
 use Rattle.nz_lin.specs.Making.{made_forms}
-use Rattle.nz_lin.proofs.Adding.{all_more, all_stop}
-use Rattle.nz_lin.proofs.Computing.{IsSame, at_once_done, same_done}
-use Rattle.nz_lin.proofs.Making.{made_is}
+use Rattle.nz_lin.proofs.FormAddition.{all_more, all_stop}
+use Rattle.nz_lin.proofs.ComputationSequences.{at_once_done, same_done}
+use Rattle.nz_lin.proofs.TermForms.{made_is}
 use Rattle.nz_lin.proofs.linear.all_joined.Goals as goal
 
 pub returns-in_err-join : goal.returns-in_err-join

@@ -1,13 +1,13 @@
 use Rattle.std.proofs.Common.{List, drop}
 use Rattle.std.specs.Prelude.{nat_eq}
 use Rattle.std.specs.HashMap.{get}
-use Rattle.nz_spec.specs.Form as spec
-use Rattle.nz_spec.specs.FormOf.{number_in}
-use Rattle.nz_spec.specs.Table.{IsTable, Node}
+use Rattle.nz_spec.specs.terms.Form as spec
+use Rattle.nz_spec.specs.terms.FormOf.{number_in}
+use Rattle.nz_spec.specs.terms.Table.{IsTable, Node}
 use Rattle.nz_lin.specs.Comes.{arithmetic_of}
 use Rattle.nz_lin.specs.Forms.{AreUnits, form_over}
 use Rattle.nz_lin.specs.Making.{HaveUnits, made_forms}
-use Rattle.nz_lin.proofs.Computing.{IsSame}
+use Rattle.nz_spec.specs.numbers.Computation.{IsSame}
 use Rattle.nz_lin.proofs.linear.all_joined.Given as goal
 
 -- to join the forms that are left to what is joined so far is to join the whole

@@ -3,15 +3,14 @@ use Rattle.std.proofs.Common.{◌≡◌, ℕ, ◌+◌, List, ◌∷◌, Option, 
 use Rattle.std.specs.Prelude.{unwrap_or}
 use Rattle.std.proofs.lemmas.List.{drop_all, drop_more}
 use Rattle.std.proofs.lemmas.Result.{err_from_is_err_and}
-use Rattle.nz_spec.specs.Computation.{Computation}
-use Rattle.nz_spec.specs.FormOf.{constants_product}
+use Rattle.nz_spec.specs.numbers.Computation.{Computation, IsSame}
+use Rattle.nz_spec.specs.terms.FormOf.{constants_product}
 use Rattle.nz_fractions.specs.Fraction.{Fraction}
-use Rattle.nz_spec.specs.Linear.{constant_value}
-use Rattle.nz_spec.specs.Table.{term_in}
-use Rattle.nz_lin.specs.declared.form.LinStop.TheVariants.{Wide}
+use Rattle.nz_spec.specs.terms.Linear.{constant_value}
+use Rattle.nz_spec.specs.terms.Table.{term_in}
+use Rattle.nz_term.specs.declared.stops.ArithmeticStop.TheVariants.{Wide}
 use Rattle.nz_lin.specs.Comes.{IsDone, IsNumbered}
 use Rattle.nz_lin.specs.Making.{constants_at}
-use Rattle.nz_lin.proofs.Computing.{IsSame}
 use Rattle.nz_lin.proofs.Operators.{factor_more, factor_stop, factors_done, passed_over, rest_product}
 use Rattle.nz_lin.proofs.linear.constants_product.Goals as goal
 use Rattle.nz_lin.proofs.linear.constants_product.Goals.{in-Some+in_ok-with_factor, in_default}

@@ -1,7 +1,7 @@
 use Rattle.std.proofs.Common.{drop}
-use Rattle.nz_spec.specs.FormOf.{constants_product}
+use Rattle.nz_spec.specs.terms.FormOf.{constants_product}
 use Rattle.nz_lin.specs.Making.{constants_at}
-use Rattle.nz_lin.proofs.Computing.{IsSame}
+use Rattle.nz_spec.specs.numbers.Computation.{IsSame}
 use Rattle.nz_lin.proofs.Operators.{rest_product}
 use Rattle.nz_lin.proofs.linear.constants_product.Given as goal
 

@@ -2,14 +2,14 @@
 use Rattle.std.proofs.Common.{◌≡◌, ℕ, List, length, get_or, sym, subst, arith}
 use Rattle.std.specs.Prelude.{nat_eq}
 use Rattle.std.specs.HashMap.{get}
-use Rattle.nz_spec.specs.Computation.{at_once}
-use Rattle.nz_spec.specs.Form.{negated_form}
-use Rattle.nz_spec.specs.FormOf.{number_in}
+use Rattle.nz_spec.specs.numbers.Computation.{at_once}
+use Rattle.nz_spec.specs.terms.Form.{negated_form}
+use Rattle.nz_spec.specs.terms.FormOf.{number_in}
 use Rattle.nz_lin.specs.Comes.{IsDone}
 use Rattle.nz_lin.specs.Forms.{AreUnits, Numbered, form_over}
 use Rattle.nz_lin.specs.Making.{difference_of, made_forms}
-use Rattle.nz_lin.proofs.Computing.{no_operation}
-use Rattle.nz_lin.proofs.Making.{made_is, only_one}
+use Rattle.nz_fractions.proofs.FirstOperations.{no_operation}
+use Rattle.nz_lin.proofs.TermForms.{made_is, only_one}
 use Rattle.nz_lin.proofs.linear.difference.Goals as goal
 
 pub returns-in_ok-negated-in-len1 : goal.returns-in_ok-negated-in-len1

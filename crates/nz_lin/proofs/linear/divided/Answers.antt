@@ -1,7 +1,7 @@
 use Rattle.std.proofs.Common.{Err, sym, ap, subst, ◌∙◌}
 use Rattle.std.proofs.lemmas.Result.{err_from_is_err_and}
-use Rattle.nz_spec.specs.FormOf.{divided_by}
-use Rattle.nz_lin.specs.declared.form.LinStop.TheVariants.{Wide}
+use Rattle.nz_spec.specs.terms.FormOf.{divided_by}
+use Rattle.nz_term.specs.declared.stops.ArithmeticStop.TheVariants.{Wide}
 use Rattle.nz_lin.specs.Comes.{IsFormed}
 use Rattle.nz_lin.specs.Forms.{form_over}
 use Rattle.nz_lin.proofs.Operators.{divided_formed, inverse_stop}

@@ -2,7 +2,7 @@
 use Rattle.std.proofs.Common.{◌∙◌, sym}
 use Rattle.std.specs.Prelude.{nat_eq}
 use Rattle.std.specs.HashMap.{get}
-use Rattle.nz_lin.proofs.Making.{constant_formed, inside_some, open_divisors, open_formed, open_units}
+use Rattle.nz_lin.proofs.TermForms.{constant_formed, inside_some, open_divisors, open_formed, open_units}
 use Rattle.nz_lin.proofs.linear.form_over.Goals as goal
 
 pub returns-in-Some : goal.returns-in-Some

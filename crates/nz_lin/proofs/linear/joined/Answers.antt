@@ -4,12 +4,12 @@ use Rattle.std.specs.Prelude.{IsSome, nat_eq}
 use Rattle.std.specs.HashMap.{get}
 use Rattle.std.proofs.lemmas.List.{nil_from_length}
 use Rattle.std.proofs.lemmas.List.Elements.{All-head, All-rest}
-use Rattle.nz_spec.specs.FormOf.{number_in}
-use Rattle.nz_spec.specs.Form.{all_joined}
+use Rattle.nz_spec.specs.terms.FormOf.{number_in}
+use Rattle.nz_spec.specs.terms.Form.{all_joined}
 use Rattle.nz_lin.specs.Comes.{IsFormed, arithmetic_of}
 use Rattle.nz_lin.specs.Forms.{AreUnits, Numbered, form_over}
 use Rattle.nz_lin.specs.Making.{joined_forms, made_form, made_forms}
-use Rattle.nz_lin.proofs.Making.{made_is}
+use Rattle.nz_lin.proofs.TermForms.{made_is}
 use Rattle.nz_lin.proofs.Operators.{none_joined}
 use Rattle.nz_lin.proofs.linear.joined.Goals as goal
 

@@ -4,9 +4,9 @@ use Rattle.std.specs.Prelude.{nat_eq, reverse, slice_get}
 use Rattle.std.specs.HashMap.{get}
 use Rattle.nz_lin.specs.declared.linear.Step.{Step}
 use Rattle.nz_lin.specs.declared.linear.Step.TheVariants.{Enter}
-use Rattle.nz_lin.proofs.Making.{inside_some, node_by}
+use Rattle.nz_lin.proofs.TermForms.{inside_some, node_by}
 use Rattle.nz_lin.proofs.Sizes.{less_on, less_opened}
-use Rattle.nz_lin.proofs.Walking.{Ready, entered, left_now, popped}
+use Rattle.nz_lin.proofs.TermStack.{Ready, entered, left_now, popped}
 use Rattle.nz_lin.proofs.linear.lin.Goals as goal
 
 -- ---- A term is entered

@@ -2,7 +2,7 @@ use Rattle.std.specs.Prelude.{nat_eq, reverse}
 use Rattle.std.specs.HashMap.{get}
 use Rattle.nz_lin.specs.Making.{AreMade}
 use Rattle.nz_lin.proofs.Sizes.{weights}
-use Rattle.nz_lin.proofs.Walking.{Ready}
+use Rattle.nz_lin.proofs.TermStack.{Ready}
 use Rattle.nz_lin.proofs.linear.lin.Given as goal
 
 -- what is made is right, and when all steps on the stack are done the form is made

@@ -2,15 +2,15 @@
 use Rattle.std.proofs.Common.{◌≡◌, ℕ, List, length, get_or, sym, ap, subst, ◌∙◌, arith}
 use Rattle.std.specs.Prelude.{nat_eq}
 use Rattle.std.specs.HashMap.{get}
-use Rattle.nz_spec.specs.Form.{unit_form}
-use Rattle.nz_spec.specs.FormOf.{number_in}
-use Rattle.nz_spec.specs.Table.{term_in}
+use Rattle.nz_spec.specs.terms.Form.{unit_form}
+use Rattle.nz_spec.specs.terms.FormOf.{number_in}
+use Rattle.nz_spec.specs.terms.Table.{term_in}
 use Rattle.nz_lin.specs.declared.linear.Opening.{Opening}
 use Rattle.nz_lin.specs.Comes.{IsDone}
 use Rattle.nz_lin.specs.Forms.{AreUnits, Numbered, form_over}
 use Rattle.nz_lin.specs.Making.{constants_at, made_forms, opened_by, real_of}
-use Rattle.nz_lin.proofs.Computing.{no_operation}
-use Rattle.nz_lin.proofs.Making.{made_is, only_one}
+use Rattle.nz_fractions.proofs.FirstOperations.{no_operation}
+use Rattle.nz_lin.proofs.TermForms.{made_is, only_one}
 use Rattle.nz_lin.proofs.linear.opened.Goals as goal
 
 pub returns-in_ok-copied-in-len1 : goal.returns-in_ok-copied-in-len1

@@ -1,9 +1,9 @@
 use Rattle.std.proofs.Common.{◌≡◌, None, false, ◌∙◌, rules}
 use Rattle.std.specs.Prelude.{is_some}
-use Rattle.nz_spec.specs.Linear.{constant_value}
-use Rattle.nz_spec.specs.Table.{term_in}
+use Rattle.nz_spec.specs.terms.Linear.{constant_value}
+use Rattle.nz_spec.specs.terms.Table.{term_in}
 use Rattle.nz_term.specs.Heads.{head_of}
-use Rattle.nz_lin.proofs.Making.{none_from, opening_is}
+use Rattle.nz_lin.proofs.TermForms.{none_from, opening_is}
 use Rattle.nz_lin.proofs.linear.opening_in.Goals as goal
 
 pub returns : goal.returns

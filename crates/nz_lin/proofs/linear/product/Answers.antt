@@ -4,13 +4,13 @@ use Rattle.std.specs.Prelude.{is_none, nat_eq}
 use Rattle.std.specs.HashMap.{get}
 use Rattle.std.proofs.lemmas.List.{drop_all, drop_more}
 use Rattle.std.proofs.lemmas.Result.{err_from_is_err_and}
-use Rattle.nz_spec.specs.FormOf.{open_form}
-use Rattle.nz_spec.specs.Linear.{constant_value}
-use Rattle.nz_spec.specs.Table.{term_in}
+use Rattle.nz_spec.specs.terms.FormOf.{open_form}
+use Rattle.nz_spec.specs.terms.Linear.{constant_value}
+use Rattle.nz_spec.specs.terms.Table.{term_in}
 use Rattle.nz_lin.specs.Comes.{IsFormed}
 use Rattle.nz_lin.specs.Forms.{AreUnits, Numbered, form_over}
 use Rattle.nz_lin.specs.Making.{constants_at, made_form, made_forms, product_of}
-use Rattle.nz_lin.proofs.Making.{is_none_from, made_is}
+use Rattle.nz_lin.proofs.TermForms.{is_none_from, made_is}
 use Rattle.nz_lin.proofs.Operators.{one_form, open_here, product_formed, product_stop}
 use Rattle.nz_lin.proofs.linear.product.Goals as goal
 

@@ -1,7 +1,7 @@
 use Rattle.std.proofs.Common.{◌≡◌, drop}
 use Rattle.std.specs.Prelude.{nat_eq}
 use Rattle.std.specs.HashMap.{get}
-use Rattle.nz_spec.specs.FormOf.{open_form}
+use Rattle.nz_spec.specs.terms.FormOf.{open_form}
 use Rattle.nz_lin.specs.Making.{constants_at, made_forms}
 use Rattle.nz_lin.proofs.linear.product.Given as goal
 

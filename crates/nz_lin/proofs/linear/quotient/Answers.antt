@@ -4,12 +4,12 @@ use Rattle.std.specs.Prelude.{IsTrue, nat_eq}
 use Rattle.std.specs.HashMap.{get}
 use Rattle.std.proofs.lemmas.List.{nil_from_length}
 use Rattle.std.proofs.lemmas.List.Elements.{All-head, All-rest}
-use Rattle.nz_spec.specs.FormOf.{divided_by_each}
-use Rattle.nz_spec.specs.Linear.{divides_by_constants}
+use Rattle.nz_spec.specs.terms.FormOf.{divided_by_each}
+use Rattle.nz_spec.specs.terms.Linear.{divides_by_constants}
 use Rattle.nz_lin.specs.Comes.{IsFormed}
 use Rattle.nz_lin.specs.Forms.{AreUnits, Numbered, form_over}
 use Rattle.nz_lin.specs.Making.{constants_at, made_form, made_forms, quotient_of}
-use Rattle.nz_lin.proofs.Making.{made_is}
+use Rattle.nz_lin.proofs.TermForms.{made_is}
 use Rattle.nz_lin.proofs.Operators.{none_divided}
 use Rattle.nz_lin.proofs.linear.quotient.Goals as goal
 

@@ -1,7 +1,7 @@
 use Rattle.std.proofs.Common.{◌∙◌}
 use Rattle.nz_term.specs.Heads.{head_of}
-use Rattle.nz_lin.proofs.Computing.{no_operation}
-use Rattle.nz_lin.proofs.Making.{sort_is}
+use Rattle.nz_fractions.proofs.FirstOperations.{no_operation}
+use Rattle.nz_lin.proofs.TermForms.{sort_is}
 use Rattle.nz_lin.proofs.linear.unit.Goals as goal
 
 pub returns : goal.returns

@@ -1,15 +1,15 @@
 -- One form, the other, and then the difference.
 use Rattle.std.proofs.Common.{Err, sym, ap, subst, ◌∙◌}
 use Rattle.std.proofs.lemmas.Result.{err_from_is_err_and}
-use Rattle.nz_spec.specs.Computation.{and_then}
-use Rattle.nz_spec.specs.Form as spec
-use Rattle.nz_spec.specs.FormOf.{form_of, number_in}
+use Rattle.nz_spec.specs.numbers.Computation.{and_then}
+use Rattle.nz_spec.specs.terms.Form as spec
+use Rattle.nz_spec.specs.terms.FormOf.{form_of, number_in}
 use Rattle.nz_fractions.specs.Fraction.{Difference}
-use Rattle.nz_spec.specs.Links.{minus}
-use Rattle.nz_spec.specs.Table.{term_in}
+use Rattle.nz_spec.specs.clauses.Links.{minus}
+use Rattle.nz_spec.specs.terms.Table.{term_in}
 use Rattle.nz_lin.specs.Comes.{IsFormed}
 use Rattle.nz_lin.specs.Forms.{form_over}
-use Rattle.nz_lin.proofs.Computing.{done_both, stop_first, stop_second}
+use Rattle.nz_lin.proofs.ComputationSequences.{done_both, stop_first, stop_second}
 use Rattle.nz_lin.proofs.subtract.lin_difference.Goals as goal
 
 pub returns-in_err-form : goal.returns-in_err-form

@@ -4,7 +4,7 @@ use Rattle.std.proofs.lemmas.List.{drop_all}
 use Rattle.nz_ints.proofs.Divisors.{gcd-zero}
 use Rattle.nz_lists.proofs.Places.{drop_read}
 use Rattle.nz_fractions.specs.Fraction.{gcd, floor, largest}
-use Rattle.nz_spec.specs.LinearLiteral as linear
+use Rattle.nz_spec.specs.clauses.LinearLiteral as linear
 use Rattle.nz_lin.specs.declared.form.Part.{Part}
 use Rattle.nz_lin.specs.Forms.{parts_over}
 use Rattle.nz_lin.proofs.CommonDivisors.{gcd_assoc, gcd_bounded, gcd-zero_left}

@@ -1,7 +1,7 @@
 use Rattle.std.proofs.Common.{◌≡◌, ◌≤◌, List, drop}
 use Rattle.nz_fractions.specs.Fraction.{gcd, largest}
-use Rattle.nz_spec.specs.LinearLiteral as linear
-use Rattle.nz_spec.specs.Table.{Node}
+use Rattle.nz_spec.specs.clauses.LinearLiteral as linear
+use Rattle.nz_spec.specs.terms.Table.{Node}
 use Rattle.nz_lin.specs.Forms.{parts_over}
 use Rattle.nz_lin.proofs.tight.common_divisor.Given as goal
 

@@ -1,6 +1,6 @@
 -- One test, and then the other.
 use Rattle.std.proofs.Common.{Bool, not, ◌&&◌, eqb, length, sym, ap, ◌∙◌}
-use Rattle.nz_lin.proofs.Tightening.{over_integers}
+use Rattle.nz_lin.proofs.IntegerBounds.{over_integers}
 use Rattle.nz_lin.proofs.tight.is_over_integers.Goals as goal
 
 pub returns-then-are_integral : goal.returns-then-are_integral

@@ -1,5 +1,5 @@
 -- The units have the other sign.
-use Rattle.nz_log.proofs.Branching.{above_done}
+use Rattle.nz_log.proofs.IntegerBranches.{above_done}
 use Rattle.nz_log.proofs.integers.above.Goals as goal
 
 pub returns-clause-literal : goal.returns-clause-literal

@@ -1,5 +1,5 @@
 -- The law, as it is proved over plain data.
-use Rattle.nz_log.proofs.Naming as laws
+use Rattle.nz_log.proofs.NamedGates as laws
 use Rattle.nz_log.proofs.laws.gates_are_named.Goals as goal
 
 pub returns : goal.returns

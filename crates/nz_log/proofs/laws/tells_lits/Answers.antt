@@ -1,6 +1,6 @@
 -- The law, as it is proved over plain data.
-use Rattle.nz_log.proofs.Gathering.{lit_same, same_lit}
-use Rattle.nz_log.proofs.Agreeing.{literals_agree}
+use Rattle.nz_log.proofs.LiteralSets.{lit_same, same_lit}
+use Rattle.nz_log.proofs.LiteralAgreement.{literals_agree}
 use Rattle.nz_log.proofs.laws.tells_lits.Goals as goal
 
 pub returns : goal.returns

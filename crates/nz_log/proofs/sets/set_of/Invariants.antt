@@ -1,6 +1,6 @@
 use Rattle.std.proofs.Common.{◌≡◌, drop}
 use Rattle.std.specs.Prelude.{fold}
-use Rattle.nz_spec.specs.Literal.{once, with_one}
+use Rattle.nz_spec.specs.clauses.Literal.{once, with_one}
 use Rattle.nz_log.specs.Lits.{are_same_lit}
 use Rattle.nz_log.proofs.sets.set_of.Given as goal
 

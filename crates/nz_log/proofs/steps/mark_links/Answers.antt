@@ -2,7 +2,7 @@
 use Rattle.std.proofs.Common.{◌<◌, false, length, get_or, ◌∙◌, arith}
 use Rattle.std.proofs.Math.ListN.{length-set}
 use Rattle.nz_log.specs.declared.origins.Link.{Link}
-use Rattle.nz_log.proofs.Marking.{links_more, set_keeps, set_passes}
+use Rattle.nz_log.proofs.MarkUpdates.{links_more, set_keeps, set_passes}
 use Rattle.nz_log.proofs.steps.mark_links.Goals as goal
 
 pub loop-link-preserved : goal.loop-link-preserved

@@ -1,5 +1,5 @@
 -- The first clause, and then those of the links.
-use Rattle.nz_log.proofs.Marking.{set_passes}
+use Rattle.nz_log.proofs.MarkUpdates.{set_passes}
 use Rattle.nz_log.specs.Spelling.{Pass}
 use Rattle.nz_log.specs.Stored.{origin_of}
 use Rattle.std.proofs.Common.{◌≡◌, true, List, subst, sym}

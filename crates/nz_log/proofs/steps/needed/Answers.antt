@@ -1,9 +1,9 @@
 -- The clause of this number is done too.
 use Rattle.std.proofs.Common.{◌≡◌, ℕ, ◌-◌, ◌<◌, suc, true, false, length, arith, subst, sym, ◌∙◌}
-use Rattle.nz_log.proofs.Marking.{same_get}
+use Rattle.nz_log.proofs.MarkUpdates.{same_get}
 use Rattle.nz_log.specs.Spelling.{is_marked}
 use Rattle.nz_log.specs.Stored.{entry_of}
-use Rattle.nz_log.proofs.Needing.{done_step, IsDone}
+use Rattle.nz_log.proofs.ClauseDependencies.{done_step, IsDone}
 use Rattle.nz_log.proofs.steps.needed.Goals as goal
 
 pub loop-i-preserved-then-index : goal.loop-i-preserved-then-index

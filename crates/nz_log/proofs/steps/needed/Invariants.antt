@@ -1,4 +1,4 @@
-use Rattle.nz_log.proofs.Needing.{IsDone}
+use Rattle.nz_log.proofs.ClauseDependencies.{IsDone}
 use Rattle.nz_log.proofs.steps.needed.Given as goal
 
 -- the clauses from this number on are done

@@ -1,5 +1,5 @@
 use Rattle.std.proofs.Common.{◌≡◌, ◌++◌, List, drop}
-use Rattle.nz_spec.specs.Table.{Node}
+use Rattle.nz_spec.specs.terms.Table.{Node}
 use Rattle.nz_log.specs.Axioms.{multiples_in}
 use Rattle.nz_log.specs.Spelling.{multiples_read}
 use Rattle.nz_log.proofs.steps.read_multiples.Given as goal

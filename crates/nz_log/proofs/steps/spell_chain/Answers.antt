@@ -1,13 +1,13 @@
 -- The step of one link more.
 use Rattle.std.proofs.Common.{◌≡◌, List, ◌∷◌, [], ◌++◌, length, get_or, false, ◌∙◌, rules}
 use Rattle.std.specs.Prelude.{slice_index}
-use Rattle.nz_spec.specs.Steps.{resolve_step}
-use Rattle.nz_spec.specs.Table.{Node}
+use Rattle.nz_spec.specs.clauses.Steps.{resolve_step}
+use Rattle.nz_spec.specs.terms.Table.{Node}
 use Rattle.nz_log.specs.declared.origins.Link.{Link}
 use Rattle.nz_log.specs.declared.steps.Step.TheVariants.{Resolve}
 use Rattle.nz_log.specs.Atoms.{literal_in}
 use Rattle.nz_log.specs.Spelling.{step_of}
-use Rattle.nz_log.proofs.Pushing.{chain_pushed, place_pushed}
+use Rattle.nz_log.proofs.StepLists.{chain_pushed, place_pushed}
 use Rattle.nz_log.proofs.steps.spell_chain.Goals as goal
 
 pub loop-link-preserved : goal.loop-link-preserved

@@ -1,5 +1,5 @@
 use Rattle.std.proofs.Common.{◌≡◌, ◌++◌, List, length, drop}
-use Rattle.nz_spec.specs.Table.{Node}
+use Rattle.nz_spec.specs.terms.Table.{Node}
 use Rattle.nz_log.specs.Spelling.{chain_place, chain_steps, steps_of}
 use Rattle.nz_log.proofs.steps.spell_chain.Given as goal
 

@@ -1,14 +1,14 @@
 -- The clause of each number is spelled out behind those that it is made of.
 use Rattle.std.proofs.Common.{◌≡◌, ℕ, ◌<◌, ◌≤◌, ◌++◌, List, length, true, false, Option, Some, None, ap, sym, subst, ◌∙◌, add-one, arith}
 use Rattle.std.proofs.Math.ListN.{length-set}
-use Rattle.nz_spec.specs.Table.{Node, IsTable}
+use Rattle.nz_spec.specs.terms.Table.{Node, IsTable}
 use Rattle.nz_log.specs.Logs.{Entry, level_at}
 use Rattle.nz_log.specs.Sound.{IsLog}
 use Rattle.nz_log.specs.Spelling.{is_marked, AreMarked, IsClosed, origin_place, origin_steps, steps_of}
 use Rattle.nz_log.specs.Stored.{entry_of}
-use Rattle.nz_log.proofs.Marking.{marked_within, same_get}
-use Rattle.nz_log.proofs.Agreeing.{literals_agree}
-use Rattle.nz_log.proofs.Pushing.{steps_long}
+use Rattle.nz_log.proofs.MarkUpdates.{marked_within, same_get}
+use Rattle.nz_log.proofs.LiteralAgreement.{literals_agree}
+use Rattle.nz_log.proofs.StepLists.{steps_long}
 use Rattle.nz_log.proofs.Spelled.{ArePlaced, all_derive, placed_next, placed_skip}
 use Rattle.nz_log.proofs.steps.spelled.Goals as goal
 use Rattle.nz_log.proofs.steps.spelled.Goals.{then-index+in_ok-place, else-index}

@@ -1,5 +1,5 @@
 use Rattle.std.proofs.Common.{◌≡◌, ℕ, List, length}
-use Rattle.nz_spec.specs.Table.{Node, IsTable}
+use Rattle.nz_spec.specs.terms.Table.{Node, IsTable}
 use Rattle.nz_log.specs.Logs.{level_at}
 use Rattle.nz_log.specs.Sound.{IsLog}
 use Rattle.nz_log.specs.Spelling.{steps_of}

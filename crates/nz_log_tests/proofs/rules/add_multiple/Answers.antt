@@ -2,7 +2,7 @@
 use Rattle.std.proofs.Common.{◌≡◌, Some, rules}
 use Rattle.std.specs.Prelude.{slice_get}
 use Rattle.nz_log.specs.declared.atoms.Atom.TheVariants.{AtMost}
-use Rattle.nz_log_tests.proofs.Summing.{adds, said_other, said_own, units_at}
+use Rattle.nz_log_tests.proofs.MultipleSums.{adds, said_other, said_own, units_at}
 use Rattle.nz_log_tests.proofs.rules.add_multiple.Goals as goal
 
 pub returns-then-literal : goal.returns-then-literal

@@ -1,7 +1,7 @@
 -- What is tested is the sum over each table.
 use Rattle.std.proofs.Common.{sym, ap, ◌∙◌}
-use Rattle.nz_spec.specs.Farkas as farkas
-use Rattle.nz_spec.specs.LinearLiteral.{are_integral}
+use Rattle.nz_spec.specs.clauses.Farkas as farkas
+use Rattle.nz_spec.specs.clauses.LinearLiteral.{are_integral}
 use Rattle.nz_log_tests.proofs.Multiples.{from_true, on_true}
 use Rattle.nz_log_tests.proofs.rules.is_integral_sum.Goals as goal
 

@@ -3,7 +3,7 @@ use Rattle.std.proofs.Common.{sym, ap, ◌∙◌}
 use Rattle.std.specs.List.{list_all}
 use Rattle.nz_lin.specs.Bounds.{is_integral}
 use Rattle.nz_log_tests.proofs.Multiples.{on_true}
-use Rattle.nz_log_tests.proofs.Summing.{integral_each}
+use Rattle.nz_log_tests.proofs.MultipleSums.{integral_each}
 use Rattle.nz_log_tests.proofs.rules.is_of_integers.Goals as goal
 
 pub returns : goal.returns

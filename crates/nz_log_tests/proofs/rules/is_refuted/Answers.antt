@@ -1,6 +1,6 @@
 -- What is tested is the sum over each table.
 use Rattle.std.proofs.Common.{sym, ap, ◌∙◌}
-use Rattle.nz_spec.specs.Farkas.{is_contradiction}
+use Rattle.nz_spec.specs.clauses.Farkas.{is_contradiction}
 use Rattle.nz_log_tests.proofs.Multiples.{on_true}
 use Rattle.nz_log_tests.proofs.rules.is_refuted.Goals as goal
 

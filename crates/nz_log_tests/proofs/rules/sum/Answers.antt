@@ -1,15 +1,15 @@
 -- One multiple more.
 use Rattle.std.proofs.Common.{◌<◌, List, length, ap, arith}
 use Rattle.std.proofs.lemmas.List.{drop_all}
-use Rattle.nz_spec.specs.Farkas as farkas
-use Rattle.nz_spec.specs.Farkas.{multiples_onto}
-use Rattle.nz_spec.specs.FormOf.{number_in}
-use Rattle.nz_spec.specs.Table.{Node, IsTable}
-use Rattle.nz_log.specs.declared.multiples.Multiple.{Multiple}
+use Rattle.nz_spec.specs.clauses.Farkas as farkas
+use Rattle.nz_spec.specs.clauses.Farkas.{multiples_onto}
+use Rattle.nz_spec.specs.terms.FormOf.{number_in}
+use Rattle.nz_spec.specs.terms.Table.{Node, IsTable}
+use Rattle.nz_log.specs.declared.multiples.LitMultiple.{LitMultiple}
 use Rattle.nz_log.specs.Atoms.{IsLitIn}
 use Rattle.nz_log.specs.Axioms.{AreMultiplesIn, multiples_in}
 use Rattle.nz_log_tests.specs.Sums.{IsAddedOver}
-use Rattle.nz_log_tests.proofs.Summing.{each_read, sum_done, sum_next}
+use Rattle.nz_log_tests.proofs.MultipleSums.{each_read, sum_done, sum_next}
 use Rattle.nz_log_tests.proofs.rules.sum.Goals as goal
 
 pub loop-multiple-init : goal.loop-multiple-init
@@ -30,7 +30,7 @@ loop-multiple-preserved c =
     let invariant = c.loop-multiple.invariant in
     let added : (ns : List Node) → IsTable ns → AreMultiplesIn ns atoms ms → IsAddedOver ns atoms m c.loop-multiple.sum c.add_multiple.new.sum = λ ns table within.
     c.in_ok-add_multiple.ensures.added ns table (invariant.units ns table within)
-    (each_read (λ (k : Multiple). IsLitIn ns atoms k.literal) ms i m inside c.multiple-item.is within) in
+    (each_read (λ (k : LitMultiple). IsLitIn ns atoms k.literal) ms i m inside c.multiple-item.is within) in
     record {
       units = λ ns table within. (added ns table within).units;
       left = λ ns table within.

@@ -1,8 +1,8 @@
 -- The sum so far, with the multiples that are left, comes to the same as all of them.
 use Rattle.std.proofs.Common.{◌≡◌, List, drop}
-use Rattle.nz_spec.specs.Farkas.{multiples_onto}
-use Rattle.nz_spec.specs.FormOf.{number_in}
-use Rattle.nz_spec.specs.Table.{Node, IsTable}
+use Rattle.nz_spec.specs.clauses.Farkas.{multiples_onto}
+use Rattle.nz_spec.specs.terms.FormOf.{number_in}
+use Rattle.nz_spec.specs.terms.Table.{Node, IsTable}
 use Rattle.nz_lin.specs.Bounds.{HasUnits, bound_over}
 use Rattle.nz_log.specs.Axioms.{AreMultiplesIn, multiples_in, sum_in}
 use Rattle.nz_log_tests.proofs.rules.sum.Given as goal

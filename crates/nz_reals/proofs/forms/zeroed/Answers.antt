@@ -1,6 +1,6 @@
 use Rattle.std.proofs.Common.{◌≡◌, ap, sym, ◌∙◌, subst, Bool, true, false, map, if◌then◌else◌, rules}
 use Rattle.nz_fractions.specs.Fraction.{Fraction}
-use Rattle.nz_spec.specs.Literal.{is_at_most}
+use Rattle.nz_spec.specs.clauses.Literal.{is_at_most}
 use Rattle.nz_lin.specs.declared.bound.Bound.{Bound}
 use Rattle.nz_lin.specs.Bounds.{HasUnits}
 use Rattle.nz_lin.specs.Forms.{negated, parts_over}

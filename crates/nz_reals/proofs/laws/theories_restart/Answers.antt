@@ -1,4 +1,4 @@
-use Rattle.nz_reals.proofs.Restarting.{empty_restarts, over_grown, restarts_after, restarts_grown, restarts_more}
+use Rattle.nz_reals.proofs.SearchStarts.{empty_restarts, over_grown, restarts_after, restarts_grown, restarts_more}
 use Rattle.nz_reals.proofs.laws.theories_restart.Goals as goal
 
 pub returns : goal.returns

@@ -1,9 +1,9 @@
 use Rattle.std.proofs.Common.{◌≡◌}
 use Rattle.std.proofs.lemmas.Result.{IfOk-weaker}
 use Rattle.nz_fractions.specs.Fraction.{Fraction, Sum, outcome, ◌=ℚ◌}
-use Rattle.nz_spec.specs.Infinitesimal as infinitesimal
+use Rattle.nz_spec.specs.numbers.Infinitesimal as infinitesimal
 use Rattle.nz_delta.specs.DeltaSpace.{infinitesimal_of}
-use Rattle.nz_reals.proofs.Limiting.{value_is}
+use Rattle.nz_reals.proofs.InfinitesimalLimits.{value_is}
 use Rattle.nz_reals.proofs.model.at.Goals as goal
 
 pub returns-clause-value : goal.returns-clause-value

@@ -1,6 +1,6 @@
 use Rattle.std.proofs.Common.{◌∙◌, ap, subst}
 use Rattle.nz_fractions.specs.Fraction.{IsNumber, fraction_eq}
-use Rattle.nz_reals.proofs.Joining.{one_test}
+use Rattle.nz_reals.proofs.JoinedForms.{one_test}
 use Rattle.nz_reals.proofs.model.is_one.Goals as goal
 
 pub returns : goal.returns

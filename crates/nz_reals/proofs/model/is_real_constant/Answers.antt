@@ -1,7 +1,7 @@
 use Rattle.std.proofs.Common.{ap}
 use Rattle.nz_term.specs.Constants.{sort_of}
 use Rattle.nz_term.specs.Heads.{head_of}
-use Rattle.nz_reals.proofs.Choosing.{real_constant}
+use Rattle.nz_reals.proofs.ConstantValues.{real_constant}
 use Rattle.nz_reals.proofs.model.is_real_constant.Goals as goal
 
 pub returns-in-Real-clause-constant : goal.returns-in-Real-clause-constant

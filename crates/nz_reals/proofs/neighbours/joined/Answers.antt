@@ -3,7 +3,7 @@ use Rattle.std.proofs.lemmas.List.{length-set}
 use Rattle.std.proofs.lemmas.List.Elements.{Contains-get_or}
 use Rattle.nz_log.specs.Logs.{literals_at}
 use Rattle.nz_reals.specs.Exclusions.{AreJoined, Joins}
-use Rattle.nz_reals.proofs.Excluding.{joined_too}
+use Rattle.nz_reals.proofs.ExclusionClauses.{joined_too}
 use Rattle.nz_reals.proofs.neighbours.joined.Goals as goal
 use Rattle.nz_reals.proofs.neighbours.joined.Goals.{in-Some, in_default}
 

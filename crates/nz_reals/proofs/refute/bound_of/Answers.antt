@@ -1,5 +1,5 @@
 use Rattle.std.proofs.Common.{rules}
-use Rattle.nz_reals.proofs.Refuting.{units_handed}
+use Rattle.nz_reals.proofs.RefutationClauses.{units_handed}
 use Rattle.nz_reals.proofs.refute.bound_of.Goals as goal
 
 pub returns-clause-units : goal.returns-clause-units

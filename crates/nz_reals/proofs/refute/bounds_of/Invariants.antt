@@ -1,5 +1,5 @@
 use Rattle.std.proofs.Common.{List, take}
-use Rattle.nz_spec.specs.Table.{Node}
+use Rattle.nz_spec.specs.terms.Table.{Node}
 use Rattle.nz_log.specs.Axioms.{AreMultiplesIn}
 use Rattle.nz_reals.specs.Tells.{AreBoundsOf}
 use Rattle.nz_reals.proofs.refute.bounds_of.Given as goal

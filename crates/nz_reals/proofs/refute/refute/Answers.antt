@@ -1,16 +1,16 @@
 use Rattle.std.proofs.Common.{◌≡◌, List, sym, subst, Some}
 use Rattle.std.specs.Prelude.{All, slice_get}
 use Rattle.std.proofs.lemmas.List.Elements.{All-from_recursion}
-use Rattle.nz_spec.specs.Steps.{farkas_step}
-use Rattle.nz_lin.specs.Stops.{IsStopAt}
+use Rattle.nz_spec.specs.clauses.Steps.{farkas_step}
+use Rattle.nz_term.specs.Stops.{IsStopAt}
 use Rattle.nz_lin.specs.declared.bound.Bound.{Bound}
 use Rattle.nz_log.specs.declared.atoms.Atom.{Atom}
 use Rattle.nz_log.specs.declared.atoms.Atom.TheVariants.{AtMost}
-use Rattle.nz_log.specs.declared.multiples.Multiple.{Multiple}
+use Rattle.nz_log.specs.declared.multiples.LitMultiple.{LitMultiple}
 use Rattle.nz_log.specs.Axioms.{AreMultiplesIn, first_wide_in_step, multiples_in}
 use Rattle.nz_reals.specs.Tells.{AreBoundsOf}
-use Rattle.nz_reals.proofs.Contradicting.{contradict_in}
-use Rattle.nz_reals.proofs.Refuting.{all_bounds, all_in, clash_is, sum_stops, told_then}
+use Rattle.nz_reals.proofs.Contradictions.{contradict_in}
+use Rattle.nz_reals.proofs.RefutationClauses.{all_bounds, all_in, clash_is, sum_stops, told_then}
 use Rattle.nz_reals.proofs.refute.refute.Goals as goal
 
 pub farkas-requires-clause-multiples : goal.farkas-requires-clause-multiples
@@ -24,8 +24,8 @@ farkas-requires-clause-contradiction c = λ ns table among. (contradict_in c.arg
 pub bounds_of-requires : goal.bounds_of-requires
 bounds_of-requires c = record {
   bounds =
-      subst (λ (atoms : List Atom). All (λ (m : Multiple). (b : Bound) × (slice_get atoms m.literal.atom ≡ Some (AtMost b))) c.args.multiples.now) (sym c.farkas.ensures.atoms)
-      (All-from_recursion (λ (m : Multiple). (b : Bound) × (slice_get c.args.log.now.atoms m.literal.atom ≡ Some (AtMost b))) c.args.multiples.now
+      subst (λ (atoms : List Atom). All (λ (m : LitMultiple). (b : Bound) × (slice_get atoms m.literal.atom ≡ Some (AtMost b))) c.args.multiples.now) (sym c.farkas.ensures.atoms)
+      (All-from_recursion (λ (m : LitMultiple). (b : Bound) × (slice_get c.args.log.now.atoms m.literal.atom ≡ Some (AtMost b))) c.args.multiples.now
       (all_bounds c.args.theory.now c.args.log.now.atoms c.requires.of.0 c.requires.of.1 c.args.multiples.now c.requires.known));
 }
 

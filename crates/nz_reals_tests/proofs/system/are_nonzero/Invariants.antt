@@ -1,7 +1,7 @@
 -- None so far is 0.
 use Rattle.std.proofs.Common.{◌≡◌, ℕ, ◌<◌, get_or}
 use Rattle.std.specs.Prelude.{false}
-use Rattle.nz_spec.specs.Term.{is_zero}
+use Rattle.nz_spec.specs.terms.Term.{is_zero}
 use Rattle.nz_lin.specs.declared.form.Part.{Part}
 use Rattle.nz_reals_tests.proofs.system.are_nonzero.Given as goal
 

@@ -1,5 +1,5 @@
 use Rattle.std.proofs.Common.{[], refl}
-use Rattle.nz_reals_tests.proofs.Ordering.{may_arrange, order_restarted, over_empty}
+use Rattle.nz_reals_tests.proofs.TheoryOverLog.{may_arrange, order_restarted, over_empty}
 use Rattle.nz_reals_tests.proofs.system.arrange.Goals as goal
 
 pub arrange-requires : goal.arrange-requires

@@ -1,6 +1,6 @@
 use Rattle.std.proofs.Common.{rules, ◌≡◌, ◌++◌, ◌∷◌, [], refl, sym, ◌∙◌}
 use Rattle.nz_reals.specs.State.{told_lits}
-use Rattle.nz_reals_tests.proofs.Ordering.{learnable, order_joined, untold}
+use Rattle.nz_reals_tests.proofs.TheoryOverLog.{learnable, order_joined, untold}
 use Rattle.nz_reals_tests.proofs.system.learn.Goals as goal
 
 pub add_atom-requires-clause-atom : goal.add_atom-requires-clause-atom

@@ -1,5 +1,5 @@
 use Rattle.std.proofs.Common.{◌∙◌}
-use Rattle.nz_reals_tests.proofs.Ordering.{placed_more}
+use Rattle.nz_reals_tests.proofs.TheoryOverLog.{placed_more}
 use Rattle.nz_reals_tests.proofs.system.place_all.Goals as goal
 
 pub loop-term-preserved : goal.loop-term-preserved

@@ -1,6 +1,6 @@
 use Rattle.std.proofs.Common.{refl}
 use Rattle.nz_reals.specs.State.{told_lits}
-use Rattle.nz_reals_tests.proofs.Ordering.{are_told, clash_live, order_told}
+use Rattle.nz_reals_tests.proofs.TheoryOverLog.{are_told, clash_live, order_told}
 use Rattle.nz_reals_tests.proofs.system.settle.Goals as goal
 
 pub returns-clause-order : goal.returns-clause-order

@@ -1,8 +1,8 @@
 use Rattle.std.proofs.Common.{rules, refl}
 use Rattle.std.specs.Prelude.{Contains}
-use Rattle.nz_log.specs.Theories.{told_after}
+use Rattle.nz_search.specs.Theories.{told_after}
 use Rattle.nz_reals.specs.State.{told_lits}
-use Rattle.nz_reals_tests.proofs.Ordering.{are_told_with, clash_live, order_told, told_among}
+use Rattle.nz_reals_tests.proofs.TheoryOverLog.{are_told_with, clash_live, order_told, told_among}
 use Rattle.nz_reals_tests.proofs.system.tell.Goals as goal
 
 pub returns-clause-order : goal.returns-clause-order

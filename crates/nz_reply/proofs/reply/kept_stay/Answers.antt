@@ -1,5 +1,5 @@
 -- The law, as it is proved over plain data.
-use Rattle.nz_reply.proofs.Keeping.{kept_stays}
+use Rattle.nz_reply.proofs.JournalPreservation.{kept_stays}
 use Rattle.nz_reply.proofs.reply.kept_stay.Goals as goal
 
 pub returns : goal.returns

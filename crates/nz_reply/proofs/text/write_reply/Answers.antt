@@ -1,10 +1,10 @@
-use Rattle.std.proofs.Common.{◌++◌, List, ℕ, codes, flat_map, ap, sym, ◌∙◌}
-use Rattle.nz_spec.specs.Reply.{binding_text, reply_text}
+use Rattle.std.proofs.Common.{◌++◌, codes, flat_map, ap, sym, ◌∙◌}
+use Rattle.nz_script.specs.replies.Reply.{binding_text, reply_text}
 use Rattle.nz_sexpr.specs.View.{what_view}
 use Rattle.nz_reply.specs.Replies.{reply_of}
 use Rattle.nz_reply.specs.declared.reply.Reply.{Reply}
 use Rattle.nz_reply.proofs.Models.{bindings_text}
-use Rattle.nz_reply.proofs.Writing.{written_as}
+use Rattle.nz_reply.proofs.TextPieces.{written_as}
 use Rattle.nz_reply.proofs.text.write_reply.Goals as goal
 
 -- The texts are long for a search.

@@ -1,5 +1,5 @@
 use Rattle.std.proofs.Common.{sym, ◌∙◌}
-use Rattle.nz_spec.specs.Run.{is_error}
+use Rattle.nz_script.specs.run.Run.{is_error}
 use Rattle.nz_run.proofs.Statuses.{any_at, none_next}
 use Rattle.nz_run.proofs.program.has_error.Goals as goal
 

@@ -1,6 +1,6 @@
 use Rattle.std.proofs.Common.{inl, inr, arith}
 use Rattle.std.proofs.lemmas.List.{length-take}
-use Rattle.nz_run.proofs.Turning.{ended_broken, ended_cut, ended_run, fed_broken, fed_cut, fed_run, interrupted_run, reads_more}
+use Rattle.nz_run.proofs.ReadOutcomes.{ended_broken, ended_cut, ended_run, fed_broken, fed_cut, fed_run, interrupted_run, reads_more}
 use Rattle.nz_run.proofs.program.read_once.Goals as goal
 
 pub returns-in-Err-clause-ended : goal.returns-in-Err-clause-ended

@@ -1,11 +1,11 @@
 use Rattle.std.proofs.Common.{◌≡◌, ◌==◌, sym, ap, ◌∙◌}
-use Rattle.nz_spec.specs.Outside.{counted}
-use Rattle.nz_spec.specs.Run.{status_of}
+use Rattle.nz_spec.specs.outside.Outside.{counted}
+use Rattle.nz_script.specs.run.Run.{status_of}
 use Rattle.nz_reply.specs.Journals.{journal_of}
 use Rattle.nz_session.specs.Serve.{kept_by}
 use Rattle.nz_run.specs.Ending.{is_cut, status_by}
 use Rattle.nz_run.proofs.Endings.{answered, broken_off, interrupted, read_status, reads_told, write_status}
-use Rattle.nz_run.proofs.Turning.{reading_begins}
+use Rattle.nz_run.proofs.ReadOutcomes.{reading_begins}
 use Rattle.nz_run.proofs.program.run.Goals as goal
 
 pub returns-clause-answered : goal.returns-clause-answered

@@ -1,6 +1,6 @@
 use Rattle.std.proofs.Common.{arith, ◌^◌}
 use Rattle.std.proofs.KnownBytes.{Keeps-refl}
-use Rattle.nz_run.proofs.Turning.{interrupted_run, took_many}
+use Rattle.nz_run.proofs.ReadOutcomes.{interrupted_run, took_many}
 use Rattle.nz_run.proofs.program.serve.Goals as goal
 
 pub returns-clause-reads : goal.returns-clause-reads

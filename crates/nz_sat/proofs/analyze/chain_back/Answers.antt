@@ -8,7 +8,7 @@ use Rattle.nz_log.specs.Logs.{literals_at}
 use Rattle.nz_sat.specs.declared.trail.Assigned.{Assigned}
 use Rattle.nz_sat.specs.Conflicts.{IsOnWayBack, is_marked}
 use Rattle.nz_sat.specs.Trails.{depth}
-use Rattle.nz_sat.proofs.Resolving.{counted_over, link_of, way_on, way_past, way_ends, way_over, way_starts}
+use Rattle.nz_sat.proofs.ConflictChains.{counted_over, link_of, way_on, way_past, way_ends, way_over, way_starts}
 use Rattle.nz_sat.proofs.analyze.chain_back.Goals as goal
 use Rattle.nz_sat.proofs.analyze.chain_back.Goals.{in_default-via-in-Some+else-left-gt1, in_default-via-in_default}
 

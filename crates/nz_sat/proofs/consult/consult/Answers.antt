@@ -1,7 +1,7 @@
 -- The pivots of the check lead on from where the theory was told the trail.
 use Rattle.std.proofs.Common.{◌≡◌, ℕ, None, Ok, Option, subst, rules}
 use Rattle.nz_sat.specs.Theories.{Consults, TheoryState, state_of}
-use Rattle.nz_sat.proofs.Telling.{consults_checked}
+use Rattle.nz_sat.proofs.ToldTrails.{consults_checked}
 use Rattle.nz_sat.proofs.consult.consult.Goals as goal
 
 -- Of the atoms it knows still, with those that joined since.

@@ -1,6 +1,6 @@
 -- The atom has a number.
 use Rattle.std.proofs.Common.{sym, ◌∙◌}
-use Rattle.nz_sat.proofs.Numbering.{unnamed}
+use Rattle.nz_sat.proofs.AtomNumbers.{unnamed}
 use Rattle.nz_sat.proofs.consult.note_told.Goals as goal
 
 pub unreachable-requires : goal.unreachable-requires

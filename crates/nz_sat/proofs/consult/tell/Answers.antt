@@ -1,13 +1,13 @@
 -- One entry more.
 use Rattle.std.proofs.Common.{◌≡◌, ℕ, ◌+◌, true, false, None, Option, Err, Ok, sym, subst, arith, rules}
 use Rattle.std.specs.Prelude.{is_some}
-use Rattle.nz_spec.specs.Work.{WorkList}
-use Rattle.nz_log.specs.declared.note.Note.{Note}
+use Rattle.nz_spec.specs.search.Work.{WorkList}
+use Rattle.nz_search.specs.declared.note.Note.{Note}
 use Rattle.nz_log.specs.Logs.{LogState}
 use Rattle.nz_sat.specs.Conflicts.{is_marked}
 use Rattle.nz_sat.specs.Theories.{Consults, TellsOne, TheoryState, state_of}
-use Rattle.nz_sat.proofs.Telling.{consults_clash, consults_err, consults_more, consults_none, consults_same, consults_skip, next_atom}
-use Rattle.nz_sat.proofs.Tracking.{marked_bound}
+use Rattle.nz_sat.proofs.ToldTrails.{consults_clash, consults_err, consults_more, consults_none, consults_same, consults_skip, next_atom}
+use Rattle.nz_sat.proofs.AtomTrails.{marked_bound}
 use Rattle.nz_sat.proofs.consult.tell.Goals.{then-has+in_ok-clash+else-is_some, else-has}
 use Rattle.nz_sat.proofs.consult.tell.Goals as goal
 

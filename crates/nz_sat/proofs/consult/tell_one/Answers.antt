@@ -1,18 +1,18 @@
 -- The note moves the forms as the theory did.
 use Rattle.std.proofs.Common.{◌≡◌, ℕ, ◌++◌, ◌∷◌, [], Err, None, Option, rules, sym, subst}
 use Rattle.std.specs.Prelude.{⊤}
-use Rattle.nz_spec.specs.Legal.{told_literals}
-use Rattle.nz_spec.specs.Work.{WorkList}
-use Rattle.nz_log.specs.declared.note.Note.{Note}
+use Rattle.nz_spec.specs.search.Legal.{told_literals}
+use Rattle.nz_spec.specs.search.Work.{WorkList}
+use Rattle.nz_search.specs.declared.note.Note.{Note}
 use Rattle.nz_log.specs.Atoms.{literal_in}
-use Rattle.nz_log.specs.Places.{IsPlaceIn}
-use Rattle.nz_log.specs.Standing.{Ends, IsStoppedAt, Stands, search_after}
-use Rattle.nz_spec.specs.LiteralBounds.{moved_by}
-use Rattle.nz_spec.specs.Work.{with_line}
-use Rattle.nz_log.specs.Theories.{MovesOn, told_after}
+use Rattle.nz_place.specs.Places.{IsPlaceIn}
+use Rattle.nz_search.specs.Standing.{Ends, IsStoppedAt, Stands, search_after}
+use Rattle.nz_spec.specs.simplex.LiteralBounds.{moved_by}
+use Rattle.nz_spec.specs.search.Work.{with_line}
+use Rattle.nz_search.specs.Theories.{MovesOn, told_after}
 use Rattle.nz_sat.specs.Theories.{AddsLines, IsOfTheory, told_line}
-use Rattle.nz_sat.proofs.Listing.{adds_line}
-use Rattle.nz_sat.proofs.Taking.{ends_stopped, told_stands, told_stopped, wide_weaker}
+use Rattle.nz_sat.proofs.SearchLines.{adds_line}
+use Rattle.nz_sat.proofs.TheoryLines.{ends_stopped, told_stands, told_stopped, wide_weaker}
 use Rattle.nz_sat.proofs.consult.tell_one.Goals as goal
 
 pub returns-in_ok-note_told-in-Ok-None-clause-comes : goal.returns-in_ok-note_told-in-Ok-None-clause-comes

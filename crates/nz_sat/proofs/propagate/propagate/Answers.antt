@@ -6,7 +6,7 @@ use Rattle.std.proofs.lemmas.Option.{IfSome_then}
 use Rattle.nz_log.specs.Lits.{negated_lit}
 use Rattle.nz_log.specs.Logs.{literals_at}
 use Rattle.nz_sat.specs.Clauses.{Waits, ids_of}
-use Rattle.nz_sat.proofs.Visiting.{goes_far, goes_longer, looked_at, usable_all, waits_no_more}
+use Rattle.nz_sat.proofs.VisitedClauses.{goes_far, goes_longer, looked_at, usable_all, waits_no_more}
 use Rattle.nz_sat.proofs.propagate.propagate.Goals as goal
 
 pub visit_all-falsified-requires : goal.visit_all-falsified-requires

@@ -7,7 +7,7 @@ use Rattle.nz_log.specs.Logs.{literals_at}
 use Rattle.nz_sat.specs.Clauses.{HasReasonOf, IsImplied, IsOpen, IsUnit}
 use Rattle.nz_sat.specs.Trails.{EachBehind, GoesOn, TrailState, implied}
 use Rattle.nz_sat.proofs.Clausal.{free_missing}
-use Rattle.nz_sat.proofs.Visiting.{goes_one, goes_same, unit_implied, unit_open}
+use Rattle.nz_sat.proofs.VisitedClauses.{goes_one, goes_same, unit_implied, unit_open}
 use Rattle.nz_sat.proofs.propagate.visit.Goals as goal
 
 unit_left : (c : goal.After-imply-arg-1) → IsUnit c.args.trail.now.entries (literals_at c.args.log.now c.args.id) c.in-Unit.literal

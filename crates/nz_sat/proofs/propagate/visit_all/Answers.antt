@@ -1,6 +1,6 @@
 -- One clause more was visited.
 use Rattle.std.proofs.Common.{◌≡◌, ◌<◌, true, length, ◌∙◌, arith, rules}
-use Rattle.nz_sat.proofs.Visiting.{goes_far, goes_longer, visited_more}
+use Rattle.nz_sat.proofs.VisitedClauses.{goes_far, goes_longer, visited_more}
 use Rattle.nz_sat.proofs.propagate.visit_all.Goals as goal
 
 pub loop-id-preserved : goal.loop-id-preserved

@@ -1,7 +1,7 @@
 -- One clause more was visited.
 use Rattle.std.proofs.Common.{◌≡◌, ◌<◌, true, length, ◌∙◌, arith, rules}
 use Rattle.nz_sat.specs.declared.clauses.Held.{Held}
-use Rattle.nz_sat.proofs.Visiting.{goes_far, goes_longer, visited_held}
+use Rattle.nz_sat.proofs.VisitedClauses.{goes_far, goes_longer, visited_held}
 use Rattle.nz_sat.proofs.propagate.visit_held.Goals as goal
 
 abbrev blank : Held

@@ -1,7 +1,7 @@
 -- Each term is an atom.
 use Rattle.std.proofs.Common.{◌<◌, false, length, get_or, sym, arith}
 use Rattle.nz_log.specs.declared.lits.Lit.{Lit}
-use Rattle.nz_sat.proofs.Numbering.{unnamed}
+use Rattle.nz_sat.proofs.AtomNumbers.{unnamed}
 use Rattle.nz_sat.proofs.search.by_numbers.Goals as goal
 
 abbrev blank : Lit

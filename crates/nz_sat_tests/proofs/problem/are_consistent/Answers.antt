@@ -1,5 +1,5 @@
 use Rattle.std.proofs.Common.{rules}
-use Rattle.nz_sat_tests.proofs.Assuming.{one_consistent}
+use Rattle.nz_sat_tests.proofs.ConsistentLiterals.{one_consistent}
 use Rattle.nz_sat_tests.proofs.problem.are_consistent.Goals as goal
 
 pub loop-i-preserved : goal.loop-i-preserved

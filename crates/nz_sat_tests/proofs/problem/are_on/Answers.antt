@@ -1,4 +1,4 @@
-use Rattle.nz_sat_tests.proofs.Assuming.{one_on}
+use Rattle.nz_sat_tests.proofs.ConsistentLiterals.{one_on}
 use Rattle.nz_sat_tests.proofs.problem.are_on.Goals as goal
 
 pub loop-i-preserved : goal.loop-i-preserved

@@ -1,10 +1,10 @@
 use Rattle.std.proofs.Common.{◌≡◌, ◌+◌, ◌∷◌, ◌++◌, [], take, sym, ap, ◌∙◌, subst}
 use Rattle.std.proofs.lemmas.List.{take_more}
 use Rattle.std.specs.Prelude.{Some}
-use Rattle.nz_spec.specs.Work.{WorkList}
-use Rattle.nz_log.specs.declared.note.Note.{Note}
+use Rattle.nz_spec.specs.search.Work.{WorkList}
+use Rattle.nz_search.specs.declared.note.Note.{Note}
 use Rattle.nz_sat.specs.Numbers.{AreBeginnings, AreNotedIn}
-use Rattle.nz_sat_tests.proofs.Noting.{beginnings_push, noted_one, term_note}
+use Rattle.nz_sat_tests.proofs.NotedAtoms.{beginnings_push, noted_one, term_note}
 use Rattle.nz_sat_tests.proofs.problem.note_atoms.Goals as goal
 
 pub loop-atom-preserved : goal.loop-atom-preserved

@@ -1,8 +1,8 @@
 use Rattle.std.proofs.Common.{false, get_or, refl, sym, ◌∙◌}
 use Rattle.std.specs.Prelude.{nat_eq}
 use Rattle.std.specs.HashMap.{get}
-use Rattle.nz_log.specs.declared.term_lits.TermLit.{TermLit}
-use Rattle.nz_session.proofs.Denying.{denies_one, signs_more}
+use Rattle.nz_term.specs.declared.term_lits.TermLit.{TermLit}
+use Rattle.nz_session.proofs.OppositeLiterals.{denies_one, signs_more}
 use Rattle.nz_session.proofs.assumed.are_consistent.Goals as goal
 
 -- what stands where no literal does

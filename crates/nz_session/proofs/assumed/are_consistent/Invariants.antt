@@ -2,7 +2,7 @@
 use Rattle.std.proofs.Common.{take}
 use Rattle.std.specs.Prelude.{nat_eq}
 use Rattle.std.specs.HashMap.{get}
-use Rattle.nz_session.proofs.Denying.{HasSigns}
+use Rattle.nz_session.proofs.OppositeLiterals.{HasSigns}
 use Rattle.nz_session.proofs.assumed.are_consistent.Given as goal
 
 abbrev pub invariant-loop-literal : goal.invariant-loop-literal

@@ -1,12 +1,12 @@
 use Rattle.std.proofs.Common.{◌≡◌, Some, option_map, sym, ap, ◌∙◌, arith}
 use Rattle.std.specs.Prelude.{slice_get}
 use Rattle.std.proofs.lemmas.Result.{on_ok_weaker}
-use Rattle.nz_spec.specs.Term.{constant}
-use Rattle.nz_spec.specs.Table.{Node}
+use Rattle.nz_spec.specs.terms.Term.{constant}
+use Rattle.nz_spec.specs.terms.Table.{Node}
 use Rattle.nz_term.specs.Constants.{constant_of}
 use Rattle.nz_term.specs.Heads.{head_of}
 use Rattle.nz_term.specs.Values.{value_of}
-use Rattle.nz_session.proofs.Assigning.{bound_past, given_binding, given_pair, valued_past}
+use Rattle.nz_session.proofs.LiveModels.{bound_past, given_binding, given_pair, valued_past}
 use Rattle.nz_session.proofs.models.bind.Goals as goal
 
 pub returns-then-id-len : goal.returns-then-id-len

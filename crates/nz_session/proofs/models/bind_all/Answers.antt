@@ -1,4 +1,4 @@
-use Rattle.nz_session.proofs.Assigning.{completed_more, valued_more}
+use Rattle.nz_session.proofs.LiveModels.{completed_more, valued_more}
 use Rattle.nz_session.proofs.models.bind_all.Goals as goal
 
 pub loop-accepted-preserved : goal.loop-accepted-preserved

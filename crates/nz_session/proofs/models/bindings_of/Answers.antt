@@ -1,6 +1,6 @@
 use Rattle.std.specs.Prelude.{slice_get}
 use Rattle.nz_session.specs.Completed.{bound_at, valued_at}
-use Rattle.nz_session.proofs.Assigning.{level_more}
+use Rattle.nz_session.proofs.LiveModels.{level_more}
 use Rattle.nz_session.proofs.models.bindings_of.Goals as goal
 
 pub loop-level-preserved : goal.loop-level-preserved

@@ -4,7 +4,7 @@ use Rattle.nz_reply.specs.declared.reply.Kept as code
 use Rattle.nz_sexpr.specs.View.{heard_view}
 use Rattle.nz_session.specs.Desk.{table_of}
 use Rattle.nz_session.specs.Serve.{AnswersInPart, kept_at}
-use Rattle.nz_session.proofs.Serving.{answered, answered_in_part, cut_in_part, exits_on, going_on, right_on}
+use Rattle.nz_session.proofs.SessionSteps.{answered, answered_in_part, cut_in_part, exits_on, going_on, right_on}
 use Rattle.nz_session.proofs.session.serve.Goals as goal
 
 pub returns-in-Ok-clause-exited : goal.returns-in-Ok-clause-exited

@@ -1,8 +1,8 @@
 -- Where the flush failed, the whole text was written before.
 use Rattle.std.proofs.Common.{rules}
-use Rattle.nz_spec.specs.Reply.{reply_text}
+use Rattle.nz_script.specs.replies.Reply.{reply_text}
 use Rattle.nz_reply.specs.Replies.{reply_of}
-use Rattle.nz_session.proofs.Feeding.{front_whole}
+use Rattle.nz_session.proofs.InputPieces.{front_whole}
 use Rattle.nz_sexpr.specs.View.{what_view}
 use Rattle.nz_session.proofs.session.show.Goals as goal
 

@@ -1,5 +1,5 @@
 use Rattle.std.proofs.Common.{arith}
-use Rattle.nz_session.proofs.Telling.{told_begin}
+use Rattle.nz_session.proofs.ToldAssertions.{told_begin}
 use Rattle.nz_session.proofs.told.begin_first.Goals as goal
 
 pub returns-clause-told : goal.returns-clause-told

@@ -1,7 +1,7 @@
 use Rattle.std.proofs.Common.{◌+◌, ◌∙◌, length, ap, refl, arith}
 use Rattle.nz_sort.specs.Live.{asserted_by}
 use Rattle.nz_sort.specs.Layers.{Layer}
-use Rattle.nz_session.proofs.Telling.{asserted_count, told_count, told_cut, told_popped}
+use Rattle.nz_session.proofs.ToldAssertions.{asserted_count, told_count, told_cut, told_popped}
 use Rattle.nz_session.proofs.told.pop_told.Goals as goal
 
 pub returns-then-told-count-clause-told : goal.returns-then-told-count-clause-told

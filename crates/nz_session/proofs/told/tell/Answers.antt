@@ -5,9 +5,9 @@ use Rattle.nz_sort.specs.declared.levels.Level.{Level}
 use Rattle.nz_sort.specs.Items.{table_numbers}
 use Rattle.nz_sort.specs.Layers.{Layer, layer_of}
 use Rattle.nz_sort.specs.Live.{Standing, asserted_by}
-use Rattle.nz_session.specs.declared.told.Told.{Told}
+use Rattle.nz_session.specs.declared.told.ToldExtent.{ToldExtent}
 use Rattle.nz_session.specs.Told.{IsTold}
-use Rattle.nz_session.proofs.Telling.{asserted_count, below_count, told_few, level_at, top_at, tells_from, tells_more, tells_next}
+use Rattle.nz_session.proofs.ToldAssertions.{asserted_count, below_count, told_few, level_at, top_at, tells_from, tells_more, tells_next}
 use Rattle.nz_session.proofs.told.tell.Goals as goal
 
 -- the level at the place of a turn
@@ -60,7 +60,7 @@ returns-in_err-begin_level-clause-told g c =
     let same = c.in_err-begin_level.ensures.unchanged in
     let mid = tells_more (g.E.Decide.levels c.loop-place.engine) c.loop-place.told (asserted_by live) place items c.loop-place.invariant.count at c.loop-place.invariant.told
     (g.E.Decide.levels c.tell_last.new.engine) c.tell_last.new.told c.tell_last.ensures.told c.tell_last.ensures.within c.tell_last.ensures.count in
-    subst (λ ls. IsTold ls c.begin_level.new.told (asserted_by live)) (sym same.0) (subst (λ (t : Told). IsTold (g.E.Decide.levels c.tell_last.new.engine) t (asserted_by live)) (sym same.1) mid)
+    subst (λ ls. IsTold ls c.begin_level.new.told (asserted_by live)) (sym same.0) (subst (λ (t : ToldExtent). IsTold (g.E.Decide.levels c.tell_last.new.engine) t (asserted_by live)) (sym same.1) mid)
 
 pub returns-clause-told : goal.returns-clause-told
 returns-clause-told g c =

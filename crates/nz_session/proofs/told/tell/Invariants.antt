@@ -1,6 +1,6 @@
 -- The level at the place is the last that the engine knows.
 use Rattle.std.proofs.Common.{◌≡◌, ◌+◌, List}
-use Rattle.nz_spec.specs.Term.{Term}
+use Rattle.nz_spec.specs.terms.Term.{Term}
 use Rattle.nz_sort.specs.Live.{asserted_by}
 use Rattle.nz_session.specs.Told.{IsTold}
 use Rattle.nz_session.proofs.told.tell.Given as goal

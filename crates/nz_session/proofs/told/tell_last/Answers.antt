@@ -1,7 +1,7 @@
 use Rattle.std.proofs.Common.{◌∙◌, [], ◌∷◌, ◌++◌, length, take, get_or, ap, arith, length-append}
-use Rattle.nz_spec.specs.Decide.{with_number}
+use Rattle.nz_spec.specs.search.Decide.{with_number}
 use Rattle.nz_sort.specs.Items.{table_numbers}
-use Rattle.nz_session.proofs.Telling.{number_last, numbers_more}
+use Rattle.nz_session.proofs.ToldAssertions.{number_last, numbers_more}
 use Rattle.nz_session.proofs.told.tell_last.Goals as goal
 
 pub add-requires : goal.add-requires

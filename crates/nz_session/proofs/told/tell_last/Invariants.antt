@@ -1,6 +1,6 @@
 -- So many assertions of the last level were told, and all else stays.
 use Rattle.std.proofs.Common.{◌≡◌, ◌≤◌, ◌-◌, ℕ, List, [], ◌∷◌, ◌++◌, length, take}
-use Rattle.nz_spec.specs.Term.{Term}
+use Rattle.nz_spec.specs.terms.Term.{Term}
 use Rattle.nz_sort.specs.Items.{table_numbers}
 use Rattle.nz_session.proofs.told.tell_last.Given as goal
 

@@ -2,7 +2,7 @@ use Rattle.std.proofs.lemmas.Slice.Zip.{either_empty_from_Zip}
 use Rattle.std.specs.Iterator.Adapters.{zip_first, zip_second}
 use Rattle.std.specs.Slice.Iter.{iter_rest}
 use Rattle.nz_session.specs.Valued.{outcomes_shown}
-use Rattle.nz_session.proofs.Valuing.{told_end}
+use Rattle.nz_session.proofs.TermValues.{told_end}
 use Rattle.nz_session.proofs.values.shows_of.Goals as goal
 
 pub returns : goal.returns

@@ -2,11 +2,11 @@ use Rattle.std.proofs.Common.{ℕ, ◌≡◌, ◌<◌, List, length, sym, ap, �
 use Rattle.std.specs.Prelude.{All}
 use Rattle.std.proofs.lemmas.List.Elements.{All-from_recursion}
 use Rattle.std.proofs.lemmas.Result.{IfOk-weaker}
-use Rattle.nz_spec.specs.Table.{assignment_by}
-use Rattle.nz_spec.specs.Reply.{Shown}
+use Rattle.nz_spec.specs.terms.Table.{assignment_by}
+use Rattle.nz_script.specs.replies.Reply.{Shown}
 use Rattle.nz_truth.specs.Outcomes.{AreOutcomes}
 use Rattle.nz_session.specs.Valued.{AreShown, numbers_typed, outcomes_shown}
-use Rattle.nz_session.proofs.Valuing.{typed_within, told_all}
+use Rattle.nz_session.proofs.TermValues.{typed_within, told_all}
 use Rattle.nz_session.proofs.values.values_shown.Goals as goal
 
 pub outcomes-requires : goal.outcomes-requires

@@ -1,4 +1,4 @@
-use Rattle.nz_sexpr.proofs.Packing.{packed-next, piece_more}
+use Rattle.nz_sexpr.proofs.PackedTrees.{packed-next, piece_more}
 use Rattle.nz_sexpr.proofs.packed.+tree.Goals as goal
 
 pub pack_trees-loop-tree-preserved : goal.pack_trees-loop-tree-preserved

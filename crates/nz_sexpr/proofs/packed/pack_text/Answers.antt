@@ -1,4 +1,4 @@
-use Rattle.nz_sexpr.proofs.Packing.{escaped-next, piece_more}
+use Rattle.nz_sexpr.proofs.PackedTrees.{escaped-next, piece_more}
 use Rattle.nz_sexpr.proofs.packed.pack_text.Goals as goal
 
 pub loop-byte-preserved : goal.loop-byte-preserved

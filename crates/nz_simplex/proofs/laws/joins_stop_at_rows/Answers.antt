@@ -1,5 +1,5 @@
 -- The law.
-use Rattle.nz_simplex.proofs.JoiningRows as rows
+use Rattle.nz_simplex.proofs.WideJoinRows as rows
 use Rattle.nz_simplex.proofs.laws.joins_stop_at_rows.Goals as goal
 
 pub returns : goal.returns

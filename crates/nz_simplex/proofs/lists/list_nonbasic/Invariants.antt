@@ -1,7 +1,7 @@
 -- The forms so far.
 use Rattle.std.proofs.Common.{◌≡◌, ◌≤◌, false, get_or}
 use Rattle.std.specs.Prelude.{vec_len, vec_capacity}
-use Rattle.nz_spec.specs.BasisMoves.{numbers}
+use Rattle.nz_spec.specs.simplex.BasisMoves.{numbers}
 use Rattle.nz_simplex.specs.Tabled.{marks_in}
 use Rattle.nz_simplex.proofs.lists.list_nonbasic.Given as goal
 

@@ -4,7 +4,7 @@ use Rattle.std.specs.Prelude.{◌≢◌}
 use Rattle.std.proofs.lemmas.List.{get_or_read, get_or-set_other}
 use Rattle.nz_simplex.specs.Choices.{IsAfter, IsFollowed}
 use Rattle.nz_simplex.specs.Tabled.{marks_in, rows_in}
-use Rattle.nz_simplex.proofs.Following.{IsDistance, followed_after}
+use Rattle.nz_simplex.proofs.ValueUpdates.{IsDistance, followed_after}
 use Rattle.nz_simplex.proofs.Places.{taken_more, rest_more}
 use Rattle.nz_simplex.proofs.values.move_to.Goals as goal
 

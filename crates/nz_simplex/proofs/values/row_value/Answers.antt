@@ -3,14 +3,15 @@ use Rattle.std.proofs.Common.{rules, ◌≡◌, ℕ, ◌+◌, ◌<◌, List, [],
 use Rattle.std.specs.Prelude.{slice_index_or, option_map, unwrap_or}
 use Rattle.std.proofs.lemmas.List.{drop_all, drop_more, get_or_read}
 use Rattle.nz_fractions.specs.Fraction.{first_wide}
-use Rattle.nz_spec.specs.Infinitesimal.{Infinitesimal}
-use Rattle.nz_spec.specs.Bland.{value_onto, zero_infinitesimal}
+use Rattle.nz_spec.specs.numbers.Infinitesimal.{Infinitesimal}
+use Rattle.nz_spec.specs.simplex.Bland.{value_onto, zero_infinitesimal}
 use Rattle.nz_frac.specs.Operations.{operation_of}
 use Rattle.nz_frac.specs.declared.frac.Wide.{Wide}
 use Rattle.nz_delta.specs.Refused.{refused}
 use Rattle.nz_simplex.specs.Choices.{multiple_onto, numbers_in}
 use Rattle.nz_simplex.specs.Tabled.{coefficients_in}
-use Rattle.nz_simplex.proofs.RowValues.{no_operation, onto_more, onto_stop}
+use Rattle.nz_fractions.proofs.FirstOperations.{no_operation}
+use Rattle.nz_simplex.proofs.RowValues.{onto_more, onto_stop}
 use Rattle.nz_simplex.proofs.values.row_value.Goals as goal
 
 -- the number that is read stands at its place
@@ -41,7 +42,7 @@ returns-in_err-sum-clause-stops g c =
     ∙ ap (λ q. first_wide (multiple_onto t (stands v) q).operations) (sym c.at.ensures.coefficient)
     ∙ sym c.in_err-sum.ensures.stops in
     ap (λ (r : Result g.row.S.Denot Wide). refused r) error
-    ∙ sym (onto_stop row x t k rest c.first_of_two.ensures.first (operation_of w) stop)
+    ∙ sym (onto_stop row x t k rest (operation_of w) stop)
     ∙ sym (ap (λ (l : List ℕ). first_wide (value_onto row x t l).operations) left)
     ∙ c.loop-var.invariant.stops
 
@@ -74,7 +75,7 @@ loop-var-preserved g c =
           ∙ c.loop-var.invariant.value;
       stops =
           ap (λ (u : Infinitesimal). first_wide (value_onto row x u rest).operations) sum
-          ∙ sym (onto_more row x t k rest c.first_of_two.ensures.first fits)
+          ∙ sym (onto_more row x t k rest fits)
           ∙ sym (ap (λ (l : List ℕ). first_wide (value_onto row x t l).operations) left)
           ∙ c.loop-var.invariant.stops;
     }

@@ -1,6 +1,6 @@
 -- What is left comes to the same, and stops at the same, as the whole.
 use Rattle.std.proofs.Common.{◌≡◌, drop}
-use Rattle.nz_spec.specs.Bland.{value_onto, zero_infinitesimal}
+use Rattle.nz_spec.specs.simplex.Bland.{value_onto, zero_infinitesimal}
 use Rattle.nz_fractions.specs.Fraction.{first_wide}
 use Rattle.nz_simplex.specs.Choices.{numbers_in}
 use Rattle.nz_simplex.specs.Tabled.{coefficients_in}

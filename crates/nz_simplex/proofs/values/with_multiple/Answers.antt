@@ -1,8 +1,9 @@
 -- The product stops first, and then the sum.
 use Rattle.std.proofs.Common.{rules, ◌≡◌, None, Some, Result, Err, sym, ap, ◌∙◌}
+use Rattle.nz_fractions.proofs.FirstOperations.{first_wide-none, first_wide-some}
 use Rattle.nz_fractions.specs.Fraction.{first_wide}
-use Rattle.nz_spec.specs.Infinitesimal.{Infinitesimal}
-use Rattle.nz_spec.specs.Bland.{times, plus}
+use Rattle.nz_spec.specs.numbers.Infinitesimal.{Infinitesimal}
+use Rattle.nz_spec.specs.simplex.Bland.{times, plus}
 use Rattle.nz_frac.specs.Operations.{operation_of}
 use Rattle.nz_frac.specs.declared.frac.Wide.{Wide}
 use Rattle.nz_delta.specs.Refused.{refused}
@@ -18,7 +19,7 @@ returns-in_err-product-clause-stops g c =
     let error : c.from_residual.result ≡ Err w = search rules in
     let stop : first_wide (times x q).operations ≡ Some (operation_of w) = sym (faithful.product_stops c.args.value q) ∙ sym c.in_err-product.ensures.wide in
     ap (λ (r : Result g.row.S.Denot Wide). refused r) error
-    ∙ sym (c.first_of_two.ensures.first.some (times x q).operations (plus t (times x q).result).operations (operation_of w) stop)
+    ∙ sym (first_wide-some (times x q).operations (plus t (times x q).result).operations (operation_of w) stop)
 
 pub returns-clause-stops : goal.returns-clause-stops
 returns-clause-stops g c =
@@ -32,4 +33,4 @@ returns-clause-stops g c =
     c.add.ensures.wide
     ∙ faithful.sum_stops c.args.sum c.in_ok-product.product
     ∙ ap (λ (y : Infinitesimal). first_wide (plus t y).operations) product
-    ∙ sym (c.first_of_two.ensures.first.none (times x q).operations (plus t (times x q).result).operations fits)
+    ∙ sym (first_wide-none (times x q).operations (plus t (times x q).result).operations fits)

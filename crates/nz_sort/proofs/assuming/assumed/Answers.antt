@@ -1,11 +1,11 @@
 use Rattle.std.proofs.Common.{List, map, take, sym, subst}
 use Rattle.nz_command.specs.Requests.{assumption_view}
-use Rattle.nz_spec.specs.Request.{Assumption}
-use Rattle.nz_spec.specs.Script.{scope_of}
+use Rattle.nz_script.specs.commands.Request.{Assumption}
+use Rattle.nz_script.specs.commands.Script.{scope_of}
 use Rattle.nz_sort.specs.Found.{HasFound}
 use Rattle.nz_sort.proofs.FoundLiterals.{found_with}
 use Rattle.nz_sort.proofs.Lists.{map_more}
-use Rattle.nz_sort.proofs.Naming.{scope_stays}
+use Rattle.nz_sort.proofs.LiveNames.{scope_stays}
 use Rattle.nz_sort.proofs.assuming.assumed.Goals as goal
 
 pub assumed_term-requires : goal.assumed_term-requires

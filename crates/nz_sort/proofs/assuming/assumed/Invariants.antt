@@ -1,6 +1,6 @@
 use Rattle.std.proofs.Common.{[], map, take}
-use Rattle.nz_spec.specs.Live.{State}
-use Rattle.nz_spec.specs.Script.{scope_of}
+use Rattle.nz_script.specs.live.Live.{State}
+use Rattle.nz_script.specs.commands.Script.{scope_of}
 use Rattle.nz_command.specs.Requests.{assumption_view}
 use Rattle.nz_elaborate.specs.Names.{IsScope}
 use Rattle.nz_elaborate.specs.Typed.{Grows}

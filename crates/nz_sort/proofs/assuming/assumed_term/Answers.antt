@@ -1,9 +1,9 @@
 use Rattle.std.proofs.Common.{◌≡◌, ◌∙◌, ℕ, List, Bor, true, false, Option, None, Err, ap, sym, subst, refl, rules}
-use Rattle.nz_spec.specs.Expression.{Expression, written_name}
-use Rattle.nz_spec.specs.Term.{bool_sort, are_same_sort, holds_integer}
-use Rattle.nz_spec.specs.Elaboration.{term_of}
-use Rattle.nz_spec.specs.Scoping.{has_clash}
-use Rattle.nz_spec.specs.Script.{scope_of}
+use Rattle.nz_script.specs.commands.Expression.{Expression, written_name}
+use Rattle.nz_spec.specs.terms.Term.{bool_sort, are_same_sort, holds_integer}
+use Rattle.nz_script.specs.commands.Elaboration.{term_of}
+use Rattle.nz_script.specs.commands.Scoping.{has_clash}
+use Rattle.nz_script.specs.commands.Script.{scope_of}
 use Rattle.nz_term.specs.Constants.{sort_of}
 use Rattle.nz_command.specs.declared.expression.Expression.TheVariants.{Name}
 use Rattle.nz_command.specs.declared.expression.Expression.TheViews.{the_lemmas}
@@ -12,7 +12,7 @@ use Rattle.nz_command.specs.View.{view}
 use Rattle.nz_command.specs.Requests.{assumption_view}
 use Rattle.nz_elaborate.specs.declared.faults.ElaborateError.TheVariants.{Unknown, Clash, Sort}
 use Rattle.nz_elaborate.specs.Elaborate.{StandsAs, is_unknown_in, IsWellNamed}
-use Rattle.nz_sort.specs.declared.acts.Assumed.{Assumed}
+use Rattle.nz_term.specs.declared.term_lits.TermLit.{TermLit}
 use Rattle.nz_sort.specs.declared.assuming.FoundAssumption.{FoundAssumption}
 use Rattle.nz_sort.specs.Found.{IsFoundAs}
 use Rattle.nz_sort.proofs.FoundLiterals.{found_none, found_term, unknown_none}
@@ -55,5 +55,5 @@ returns-clause-found c = λ s scope.
     let made = c.in-Ok.made in
     let named = subst (λ (e : Expression). IsWellNamed (is_unknown_in (scope_of s) e) (has_clash e) (StandsAs (term_of (scope_of s) e) ns made)) (name_view c.args.assumption.now.name)
     (c.in-Ok.ensures.found (scope_of s) scope) in
-    subst (λ (o : Option Assumed). IsFoundAs s x ns (record { literal = o; is_unknown = false; holds_integer = c.holds_integer.result })) (sym c.literal_of.ensures.literal)
+    subst (λ (o : Option TermLit). IsFoundAs s x ns (record { literal = o; is_unknown = false; holds_integer = c.holds_integer.result })) (sym c.literal_of.ensures.literal)
     (found_term s x ns made (are_same_sort bool_sort (sort_of made.sort)) c.holds_integer.result named.known named.holds refl (c.holds_integer.ensures.holds ∙ ap holds_integer named.holds.typed.normal))

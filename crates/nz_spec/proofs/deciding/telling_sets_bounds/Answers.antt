@@ -1,5 +1,5 @@
 -- The law, as it is proved over plain data.
-use Rattle.nz_spec.proofs.TellingBounds as laws
+use Rattle.nz_spec.proofs.BoundChanges as laws
 use Rattle.nz_spec.proofs.deciding.telling_sets_bounds.Goals as goal
 
 pub returns : goal.returns

@@ -1,5 +1,5 @@
 -- The laws, as they are proved over plain data.
-use Rattle.nz_spec.proofs.GateSettling as laws
+use Rattle.nz_spec.proofs.GateDecisions as laws
 use Rattle.nz_spec.proofs.derivation.gates_decide.Goals as goal
 
 pub returns : goal.returns

@@ -1,5 +1,5 @@
 -- The law, as it is proved over plain data.
-use Rattle.nz_spec.proofs.OverConstants as laws
+use Rattle.nz_spec.proofs.ConstantValues as laws
 use Rattle.nz_spec.proofs.term.constants_tell_values.Goals as goal
 
 pub returns : goal.returns

@@ -1,7 +1,7 @@
 -- One column more.
 use Rattle.std.proofs.Common.{◌≡◌, ℕ, List, get_or, Err, refl, rules, sym, subst, ◌∙◌, arith}
 use Rattle.nz_fractions.specs.Fraction.{Fraction}
-use Rattle.nz_spec.specs.Computation.{Computation}
+use Rattle.nz_spec.specs.numbers.Computation.{Computation}
 use Rattle.nz_frac.specs.Operations.{operation_of}
 use Rattle.nz_tab.specs.Comes.{Comes, IsDone}
 use Rattle.nz_tab.specs.Each.{alone, behind}

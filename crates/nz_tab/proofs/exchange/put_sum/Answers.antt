@@ -1,7 +1,7 @@
 -- One column more.
 use Rattle.std.proofs.Common.{◌≡◌, ℕ, List, get_or, Some, Err, refl, rules, sym, subst, ◌∙◌, arith}
 use Rattle.nz_fractions.specs.Fraction.{Fraction, first_wide}
-use Rattle.nz_spec.specs.Computation.{Computation}
+use Rattle.nz_spec.specs.numbers.Computation.{Computation}
 use Rattle.nz_frac.specs.Operations.{operation_of}
 use Rattle.nz_frac.specs.declared.frac.Wide.{Wide}
 use Rattle.nz_tab.specs.Comes.{Comes, IsDone}
@@ -9,7 +9,7 @@ use Rattle.nz_tab.specs.Each.{alone, behind, with_multiple}
 use Rattle.nz_tab.specs.Exchanges.{sum_row}
 use Rattle.nz_tab.specs.Rows.{coefficient}
 use Rattle.nz_tab.proofs.Each.{each_none, one_done, turn, turn_stop, turned_all}
-use Rattle.nz_tab.proofs.Solving.{multiple_read}
+use Rattle.nz_tab.proofs.SolvedRows.{multiple_read}
 use Rattle.nz_tab.proofs.exchange.put_sum.Goals as goal
 
 pub loop-place-init : goal.loop-place-init

@@ -1,6 +1,6 @@
 use Rattle.std.proofs.Common.{◌≡◌, ◌+◌, map, take}
 use Rattle.std.specs.Prelude.{vec_len, vec_capacity}
-use Rattle.nz_spec.specs.Basis.{Coefficients}
+use Rattle.nz_spec.specs.simplex.Basis.{Coefficients}
 use Rattle.nz_tab.specs.Comes.{IsDone}
 use Rattle.nz_tab.specs.Each.{behind}
 use Rattle.nz_tab.specs.Exchanges.{sum_row}

@@ -7,7 +7,7 @@ use Rattle.nz_tab.specs.Comes.{Comes}
 use Rattle.nz_tab.specs.Each.{behind}
 use Rattle.nz_tab.specs.Exchanges.{solved_parts, solved_row}
 use Rattle.nz_tab.specs.Rows.{coefficient}
-use Rattle.nz_tab.proofs.Solving.{solved_comes, solved_stops}
+use Rattle.nz_tab.proofs.SolvedRows.{solved_comes, solved_stops}
 use Rattle.nz_tab.proofs.exchange.solve.Goals as goal
 
 pub returns-in_err-inverse-clause-solved : goal.returns-in_err-inverse-clause-solved

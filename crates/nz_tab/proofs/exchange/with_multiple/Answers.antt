@@ -2,7 +2,7 @@
 use Rattle.std.proofs.Common.{◌≡◌, Bool, Option, Some, None, pos, sym, ap, subst, ◌∙◌}
 use Rattle.std.specs.Prelude.{if◌then◌else◌}
 use Rattle.nz_fractions.specs.Fraction.{Fraction, IsNumber, Operation, Product, Sum, ZerosAreNeverWide, first_wide, is_wide, outcome, whole}
-use Rattle.nz_spec.specs.Computation.{and_then, operated}
+use Rattle.nz_spec.specs.numbers.Computation.{and_then, operated}
 use Rattle.nz_tab.specs.Comes.{IsDone}
 use Rattle.nz_tab.proofs.exchange.with_multiple.Goals as goal
 

@@ -3,7 +3,7 @@ use Rattle.std.proofs.Common.{◌≡◌, get_or, Some, Err, pos, rules, sym, ap,
 use Rattle.std.specs.Prelude.{set}
 use Rattle.std.proofs.lemmas.List.{get_or_read}
 use Rattle.nz_fractions.specs.Fraction.{Fraction, Sum, first_wide, outcome, whole}
-use Rattle.nz_spec.specs.Computation.{operated, turned_into}
+use Rattle.nz_spec.specs.numbers.Computation.{operated, turned_into}
 use Rattle.nz_frac.specs.Operations.{operation_of}
 use Rattle.nz_frac.specs.declared.frac.Wide.{Wide}
 use Rattle.nz_tab.specs.Comes.{Comes}

@@ -2,16 +2,16 @@
 use Rattle.std.proofs.Common.{◌≡◌, ◌<◌, length, map, get_or, Some, Err, pos, refl, rules, sym, subst, ◌∙◌, arith}
 use Rattle.std.proofs.lemmas.List.{get_or_default}
 use Rattle.nz_fractions.specs.Fraction.{Fraction, first_wide, whole}
-use Rattle.nz_spec.specs.Basis.{Coefficients}
-use Rattle.nz_spec.specs.BasisMoves.{plus_multiple}
-use Rattle.nz_spec.specs.Computation.{Computation, turned_into}
+use Rattle.nz_spec.specs.simplex.Basis.{Coefficients}
+use Rattle.nz_spec.specs.simplex.BasisMoves.{plus_multiple}
+use Rattle.nz_spec.specs.numbers.Computation.{Computation, turned_into}
 use Rattle.nz_frac.specs.Operations.{operation_of}
 use Rattle.nz_frac.specs.declared.frac.Wide.{Wide}
 use Rattle.nz_tab.specs.Comes.{Comes, IsDone}
 use Rattle.nz_tab.specs.Each.{with_multiple}
 use Rattle.nz_tab.specs.Rows.{AreSlotted, coefficient, coefficients_at, slot_at}
-use Rattle.nz_tab.proofs.Firsts.{no_operation}
-use Rattle.nz_tab.proofs.Adding.{halfway_end, halfway_more, halfway_read, sum_read, sums_more, sums_stop}
+use Rattle.nz_fractions.proofs.FirstOperations.{no_operation}
+use Rattle.nz_tab.proofs.RowSums.{halfway_end, halfway_more, halfway_read, sum_read, sums_more, sums_stop}
 use Rattle.nz_tab.proofs.Slots.{read_slot, set_slot}
 use Rattle.nz_tab.proofs.joining.add_multiple.Goals as goal
 use Rattle.nz_tab.proofs.joining.add_multiple.Goals.{After-at}

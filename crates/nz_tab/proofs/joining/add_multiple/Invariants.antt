@@ -1,10 +1,10 @@
 use Rattle.std.proofs.Common.{◌≡◌, None, map, take}
 use Rattle.std.specs.Prelude.{vec_len, vec_capacity}
-use Rattle.nz_spec.specs.Basis.{Coefficients}
-use Rattle.nz_spec.specs.BasisMoves.{plus_multiple}
+use Rattle.nz_spec.specs.simplex.Basis.{Coefficients}
+use Rattle.nz_spec.specs.simplex.BasisMoves.{plus_multiple}
 use Rattle.nz_fractions.specs.Fraction.{first_wide}
 use Rattle.nz_tab.specs.Rows.{coefficient, coefficients_at}
-use Rattle.nz_tab.proofs.Adding.{halfway}
+use Rattle.nz_tab.proofs.RowSums.{halfway}
 use Rattle.nz_tab.proofs.joining.add_multiple.Given as goal
 
 -- the columns so far

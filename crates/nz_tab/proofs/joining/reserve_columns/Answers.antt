@@ -4,7 +4,7 @@ use Rattle.std.specs.Prelude.{set, slice_index_or, vec_capacity, vec_len}
 use Rattle.std.proofs.lemmas.List.{get_or-set_other, get_or-set_same}
 use Rattle.nz_lists.proofs.Numbers.{same_or_below}
 use Rattle.nz_fractions.specs.Fraction.{Fraction}
-use Rattle.nz_tab.proofs.Stretching.{rows_kept}
+use Rattle.nz_tab.proofs.RowLengths.{rows_kept}
 use Rattle.nz_tab.proofs.joining.reserve_columns.Goals as goal
 
 pub returns-in_err-reserve-clause-rows : goal.returns-in_err-reserve-clause-rows

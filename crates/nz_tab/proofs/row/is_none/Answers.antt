@@ -3,7 +3,7 @@ use Rattle.std.proofs.Common.{◌≡◌, true, pos, sym, subst, ◌∙◌}
 use Rattle.nz_fractions.specs.Fraction.{Fraction, IsNumber, whole}
 use Rattle.nz_fractions.proofs.Laws.{lowest-same}
 use Rattle.nz_fractions.proofs.Order.{same-fraction_eq}
-use Rattle.nz_spec.specs.Term.{is_zero}
+use Rattle.nz_spec.specs.terms.Term.{is_zero}
 use Rattle.nz_tab.proofs.row.is_none.Goals as goal
 
 none_zero : (q : Fraction) → IsNumber q → IsNumber (whole (pos 0)) → is_zero q ≡ true → q ≡ whole (pos 0)

@@ -6,7 +6,7 @@ use Rattle.nz_fractions.specs.Fraction.{Fraction}
 use Rattle.nz_lists.proofs.Places.{drop_read}
 use Rattle.nz_lin.specs.declared.form.Part.{Part}
 use Rattle.nz_tab.specs.Units.{addends, unit_number}
-use Rattle.nz_tab.proofs.Numbering.{addends_step}
+use Rattle.nz_tab.proofs.UnitNumbers.{addends_step}
 use Rattle.nz_tab.proofs.tab.addends.Goals as goal
 
 pub loop-part-preserved : goal.loop-part-preserved

@@ -1,7 +1,7 @@
 use Rattle.std.proofs.Common.{arith, rules}
-use Rattle.nz_spec.specs.Table.{term_in}
+use Rattle.nz_spec.specs.terms.Table.{term_in}
 use Rattle.nz_term.specs.Constants.{sort_of}
-use Rattle.nz_taken_samples.proofs.Taking.{alike}
+use Rattle.nz_taken_samples.proofs.TakenTerms.{alike}
 use Rattle.nz_taken_samples.proofs.taken.need_alike.Goals as goal
 
 pub returns : goal.returns

@@ -1,7 +1,7 @@
 -- Each so far is of the sort.
 use Rattle.std.proofs.Common.{◌≡◌, ℕ, ◌<◌, true, get_or}
-use Rattle.nz_spec.specs.Elaboration.{has_sort}
-use Rattle.nz_spec.specs.Table.{term_in}
+use Rattle.nz_spec.specs.terms.Operators.{has_sort}
+use Rattle.nz_spec.specs.terms.Table.{term_in}
 use Rattle.nz_term.specs.Constants.{sort_of}
 use Rattle.nz_taken_samples.proofs.taken.need_alike.Given as goal
 

@@ -1,10 +1,10 @@
 -- The term is its head over its arguments.
 use Rattle.std.proofs.Common.{rules}
 use Rattle.std.specs.Prelude.{IsTrue}
-use Rattle.nz_spec.specs.Linear.{is_linear}
-use Rattle.nz_spec.specs.Table.{term_in}
+use Rattle.nz_spec.specs.terms.Linear.{is_linear}
+use Rattle.nz_spec.specs.terms.Table.{term_in}
 use Rattle.nz_term.specs.Heads.{head_of}
-use Rattle.nz_taken_samples.proofs.Taking.{next_taken}
+use Rattle.nz_taken_samples.proofs.TakenTerms.{next_taken}
 use Rattle.nz_taken_samples.proofs.taken.need_next.Goals as goal
 
 pub returns : goal.returns

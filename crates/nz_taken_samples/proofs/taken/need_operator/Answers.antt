@@ -1,12 +1,12 @@
 -- Each operator has its head.
 use Rattle.std.proofs.Common.{◌≡◌, ap, rules}
-use Rattle.nz_spec.specs.Table.{term_in, terms_at}
-use Rattle.nz_spec.specs.Term.{bool_sort, real_sort, over_real, verum, falsum, negation, conjunction, disjunction, exclusion, equality, choice, less, at_most, sum}
+use Rattle.nz_spec.specs.terms.Table.{term_in, terms_at}
+use Rattle.nz_spec.specs.terms.Term.{bool_sort, real_sort, over_real, verum, falsum, negation, conjunction, disjunction, exclusion, equality, choice, less, at_most, sum}
 use Rattle.nz_term.specs.declared.heads.NumberSort.TheVariants as number_sorts
 use Rattle.nz_term.specs.declared.heads.Sort.TheVariants as sorts
 use Rattle.nz_term.specs.declared.heads.Operator.TheVariants.{Ite, Sum}
 use Rattle.nz_term.specs.Heads.{operator_of}
-use Rattle.nz_taken_samples.proofs.Taking.{at_most_row, choice_row, conjunction_row, disjunction_row, equality_row, exclusion_row, falsum_row, less_row, negation_row, operator_row, sum_row, verum_row}
+use Rattle.nz_taken_samples.proofs.TakenTerms.{at_most_row, choice_row, conjunction_row, disjunction_row, equality_row, exclusion_row, falsum_row, less_row, negation_row, operator_row, sum_row, verum_row}
 use Rattle.nz_taken_samples.proofs.taken.need_operator.Goals as goal
 
 pub returns-in-True : goal.returns-in-True

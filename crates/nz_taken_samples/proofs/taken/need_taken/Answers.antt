@@ -1,4 +1,4 @@
-use Rattle.nz_taken_samples.proofs.Taking.{one_more}
+use Rattle.nz_taken_samples.proofs.TakenTerms.{one_more}
 use Rattle.nz_taken_samples.proofs.taken.need_taken.Goals as goal
 
 pub loop-id-preserved : goal.loop-id-preserved

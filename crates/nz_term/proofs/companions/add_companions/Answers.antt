@@ -1,6 +1,6 @@
 -- One term after another, and then all have their companions.
 use Rattle.std.proofs.Common.{◌<◌, ◌≤◌, length, arith}
-use Rattle.nz_term.proofs.Adding.{finish, start, step}
+use Rattle.nz_term.proofs.AddedCompanions.{finish, start, step}
 use Rattle.nz_term.proofs.companions.add_companions.Goals as goal
 
 pub loop-id-init : goal.loop-id-init

@@ -1,4 +1,4 @@
-use Rattle.nz_term.proofs.Adding.{AreAdded}
+use Rattle.nz_term.proofs.AddedCompanions.{AreAdded}
 use Rattle.nz_term.proofs.companions.add_companions.Given as goal
 
 abbrev pub invariant-loop-id : goal.invariant-loop-id

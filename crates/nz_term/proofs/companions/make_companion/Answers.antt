@@ -2,12 +2,12 @@
 use Rattle.std.proofs.Common.{◌≡◌, inl, inr, ◌++◌, ◌∷◌, [], length, Some, slice_get, sym, ap, subst, ◌∙◌, arith, length-append}
 use Rattle.std.specs.List.{AllByRecursion}
 use Rattle.std.proofs.lemmas.Option.{slice_get_within}
-use Rattle.nz_spec.specs.Order.{companions_of, IsInTable}
-use Rattle.nz_spec.specs.Term.{apply}
-use Rattle.nz_spec.specs.Table.{term_in, terms_at}
+use Rattle.nz_spec.specs.terms.Order.{companions_of, IsInTable}
+use Rattle.nz_spec.specs.terms.Term.{apply}
+use Rattle.nz_spec.specs.terms.Table.{term_in, terms_at}
 use Rattle.nz_term.specs.Heads.{head_of}
 use Rattle.nz_term.specs.Nodes.{node_with}
-use Rattle.nz_term.proofs.Adding.{companion_of, last_node, no_further}
+use Rattle.nz_term.proofs.AddedCompanions.{companion_of, last_node, no_further}
 use Rattle.nz_term.proofs.companions.make_companion.Goals as goal
 
 pub returns-clause-made : goal.returns-clause-made

@@ -1,6 +1,6 @@
 -- What is folded so far, and then over what is left, is what comes of all.
 use Rattle.std.proofs.Common.{◌≡◌, drop}
-use Rattle.nz_spec.specs.Linear.{folded}
+use Rattle.nz_spec.specs.terms.Linear.{folded}
 use Rattle.nz_term.specs.Facts.{constants_at}
 use Rattle.nz_frac.specs.Operations.{operator_of}
 use Rattle.nz_term.proofs.facts.folded_on.Given as goal

@@ -1,5 +1,5 @@
 use Rattle.std.proofs.Common.{◌≡◌, ◌+◌, ◌≤◌, drop}
-use Rattle.nz_spec.specs.Linear.{variable_count}
+use Rattle.nz_spec.specs.terms.Linear.{variable_count}
 use Rattle.nz_term.specs.Facts.{constants_at}
 use Rattle.nz_term.proofs.facts.variables.Given as goal
 

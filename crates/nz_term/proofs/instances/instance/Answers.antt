@@ -5,11 +5,11 @@ use Rattle.std.specs.HashMap.{get}
 use Rattle.std.proofs.lemmas.Bool.{eqb-true}
 use Rattle.std.proofs.lemmas.List.{nil_from_length}
 use Rattle.std.proofs.lemmas.Option.{slice_get-get_or}
-use Rattle.nz_spec.specs.Elaboration.{instance_of}
-use Rattle.nz_spec.specs.Order.{ComeBehindArguments}
-use Rattle.nz_spec.specs.Table.{Node, term_in, terms_at}
+use Rattle.nz_spec.specs.terms.Definitions.{instance_of}
+use Rattle.nz_spec.specs.terms.Order.{ComeBehindArguments}
+use Rattle.nz_spec.specs.terms.Table.{Node, term_in, terms_at}
 use Rattle.nz_term.specs.Instances.{instance_in}
-use Rattle.nz_term.proofs.Instancing.{AreOnWay, arguments_done, finish, one_written, own, start, step}
+use Rattle.nz_term.proofs.InstanceTerms.{AreOnWay, arguments_done, finish, one_written, own, start, step}
 use Rattle.nz_term.proofs.instances.instance.Goals as goal
 
 -- the list that the loop goes over is the order

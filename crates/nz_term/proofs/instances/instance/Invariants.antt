@@ -1,5 +1,5 @@
 use Rattle.nz_term.specs.Instances.{instance_in}
-use Rattle.nz_term.proofs.Instancing.{AreOnWay}
+use Rattle.nz_term.proofs.InstanceTerms.{AreOnWay}
 use Rattle.nz_term.proofs.instances.instance.Given as goal
 
 abbrev pub invariant-loop-id : goal.invariant-loop-id

@@ -4,13 +4,13 @@ use Rattle.std.specs.Prelude.{◌⊎◌, bytes_eq}
 use Rattle.std.proofs.lemmas.Option.{slice_get_within}
 use Rattle.std.specs.Cmp.Lexicographic.{bytes_decides}
 use Rattle.nz_lists.proofs.Results.{both_ok}
-use Rattle.nz_spec.specs.Term.{Head, apply}
-use Rattle.nz_spec.specs.Table.{HasItsArguments, term_in, terms_at}
+use Rattle.nz_spec.specs.terms.Term.{Head, apply}
+use Rattle.nz_spec.specs.terms.Table.{HasItsArguments, term_in, terms_at}
 use Rattle.nz_term.specs.Growth.{IsOperator}
 use Rattle.nz_term.specs.Heads.{head_of}
 use Rattle.nz_term.specs.Instances.{IsInstance, instance_in}
 use Rattle.nz_term.specs.Nodes.{node_of, node_with}
-use Rattle.nz_term.proofs.Instancing.{argument_instance, free, grows_by, instances_within, made_instance, operator, own_instance}
+use Rattle.nz_term.proofs.InstanceTerms.{argument_instance, free, grows_by, instances_within, made_instance, operator, own_instance}
 use Rattle.nz_term.proofs.instances.node_instance.Goals as goal
 use Rattle.nz_term.proofs.instances.node_instance.Goals.{After-detached}
 

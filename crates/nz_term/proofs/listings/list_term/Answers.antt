@@ -1,8 +1,8 @@
 -- A term is listed behind its companion, or alone.
 use Rattle.std.proofs.Common.{◌++◌, [], ◌∷◌, subst}
 use Rattle.std.proofs.lemmas.Result.{on_ok_weaker}
-use Rattle.nz_spec.specs.Order.{companions_of}
-use Rattle.nz_spec.specs.Table.{term_in}
+use Rattle.nz_spec.specs.terms.Order.{companions_of}
+use Rattle.nz_spec.specs.terms.Table.{term_in}
 use Rattle.nz_term.specs.Listings.{AreCompanions, IsListing}
 use Rattle.nz_term.proofs.ListedTerms.{listed_alone, listed_both}
 use Rattle.nz_term.proofs.listings.list_term.Goals as goal

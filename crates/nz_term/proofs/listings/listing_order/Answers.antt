@@ -1,8 +1,8 @@
 -- One term after another, in post-order.
 use Rattle.std.proofs.Common.{◌<◌, ◌≤◌, [], length, map, sym, subst, arith}
 use Rattle.std.specs.Prelude.{flat_map}
-use Rattle.nz_spec.specs.Table.{term_in}
-use Rattle.nz_spec.specs.Order.{post_order, AreFirst}
+use Rattle.nz_spec.specs.terms.Table.{term_in}
+use Rattle.nz_spec.specs.terms.Order.{post_order, AreFirst}
 use Rattle.nz_term.proofs.ListedTerms.{finish, step}
 use Rattle.nz_term.proofs.listings.listing_order.Goals as goal
 

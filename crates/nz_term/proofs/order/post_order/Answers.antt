@@ -4,7 +4,7 @@ use Rattle.std.specs.Prelude.{nat_eq}
 use Rattle.std.specs.HashSet.{contains}
 use Rattle.std.specs.List.{list_any}
 use Rattle.std.proofs.lemmas.List.{nil_from_length}
-use Rattle.nz_spec.specs.Table.{term_in}
+use Rattle.nz_spec.specs.terms.Table.{term_in}
 use Rattle.nz_term.specs.declared.order.Step.{Step}
 use Rattle.nz_term.specs.Steps.{entries, EntersArguments}
 use Rattle.nz_term.proofs.Places.{come_behind, roots_listed}

@@ -1,7 +1,7 @@
 use Rattle.std.proofs.Common.{reverse}
 use Rattle.std.specs.Prelude.{nat_eq}
 use Rattle.std.specs.HashSet.{contains}
-use Rattle.nz_spec.specs.Table.{term_in}
+use Rattle.nz_spec.specs.terms.Table.{term_in}
 use Rattle.nz_term.proofs.Traversal.{effort}
 use Rattle.nz_term.proofs.Walks.{IsWalk}
 use Rattle.nz_term.proofs.order.post_order.Given as goal

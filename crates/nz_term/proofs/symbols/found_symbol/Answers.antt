@@ -3,7 +3,7 @@ use Rattle.std.proofs.Common.{sym, subst}
 use Rattle.std.specs.Prelude.{option_map, None}
 use Rattle.nz_term.specs.Leaves.{key_head, leaf_head}
 use Rattle.nz_term.specs.Symbols.{IsFoundSymbol, IsSymbolOf, leaf_at}
-use Rattle.nz_term.proofs.Leafing.{symbol_found}
+use Rattle.nz_term.proofs.LeafTables.{symbol_found}
 use Rattle.nz_term.proofs.symbols.found_symbol.Goals as goal
 
 pub returns-in_ok-symbol-in-Some : goal.returns-in_ok-symbol-in-Some

@@ -1,5 +1,5 @@
 -- What is new of both times is new.
-use Rattle.nz_term.proofs.Instancing.{grows_on}
+use Rattle.nz_term.proofs.InstanceTerms.{grows_on}
 use Rattle.nz_term.proofs.terms.grows_twice.Goals as goal
 
 pub returns : goal.returns

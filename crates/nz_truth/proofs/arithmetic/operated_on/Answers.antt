@@ -2,12 +2,12 @@
 use Rattle.std.proofs.Common.{◌≡◌, ◌+◌, List, ◌∷◌, drop, map, sym, ap, subst, ◌∙◌, arith}
 use Rattle.nz_lists.proofs.Places.{drop_read}
 use Rattle.nz_fractions.specs.Fraction.{Fraction, first_wide}
-use Rattle.nz_spec.specs.Operations.{operations_by}
-use Rattle.nz_spec.specs.Term.{carried_out, combined, number_of}
+use Rattle.nz_spec.specs.terms.Operations.{operations_by}
+use Rattle.nz_spec.specs.terms.Term.{carried_out, combined, number_of}
 use Rattle.nz_frac.specs.Operations.{IsCarriedOut, IsStopped, operator_of}
 use Rattle.nz_term.specs.declared.assign.Value.{Value}
 use Rattle.nz_term.specs.Values.{value_of}
-use Rattle.nz_truth.proofs.Carrying.{same_stop, same_value, stop_here}
+use Rattle.nz_truth.proofs.OperationSequences.{same_stop, same_value, stop_here}
 use Rattle.nz_truth.proofs.arithmetic.operated_on.Goals as goal
 
 pub returns-in-Err : goal.returns-in-Err

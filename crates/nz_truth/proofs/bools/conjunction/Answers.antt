@@ -1,6 +1,6 @@
 -- Two arguments or more are all true, or not.
 use Rattle.std.proofs.Common.{◌≢◌, length, arith}
-use Rattle.nz_truth.proofs.Gathering.{all_are}
+use Rattle.nz_truth.proofs.CombinedValues.{all_are}
 use Rattle.nz_truth.proofs.bools.conjunction.Goals as goal
 
 pub returns-in-len2-up : goal.returns-in-len2-up

@@ -1,6 +1,6 @@
 -- One of two arguments or more is true, or none.
 use Rattle.std.proofs.Common.{◌≢◌, length, arith}
-use Rattle.nz_truth.proofs.Gathering.{one_is}
+use Rattle.nz_truth.proofs.CombinedValues.{one_is}
 use Rattle.nz_truth.proofs.bools.disjunction.Goals as goal
 
 pub returns-in-len2-up : goal.returns-in-len2-up

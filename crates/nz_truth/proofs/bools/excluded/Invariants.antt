@@ -1,6 +1,6 @@
 -- The answer so far, with the arguments that are left, gives the whole.
 use Rattle.std.proofs.Common.{◌≡◌, drop, map}
-use Rattle.nz_spec.specs.Term.{combined, excluded}
+use Rattle.nz_spec.specs.terms.Term.{combined, excluded}
 use Rattle.nz_term.specs.Values.{value_of}
 use Rattle.nz_truth.proofs.bools.excluded.Given as goal
 

@@ -1,7 +1,7 @@
 -- Behind the last pair nothing is left to compare.
 use Rattle.std.proofs.Common.{sym, ◌∙◌, arith}
 use Rattle.nz_truth.specs.Relations.{relation_of}
-use Rattle.nz_truth.proofs.Comparing.{end_of_chain}
+use Rattle.nz_truth.proofs.Comparisons.{end_of_chain}
 use Rattle.nz_truth.proofs.chains.are_chained.Goals as goal
 
 pub returns : goal.returns

@@ -1,6 +1,6 @@
 -- The arguments so far are chained, so those that are left decide.
 use Rattle.std.proofs.Common.{◌≡◌, drop, map}
-use Rattle.nz_spec.specs.Term.{are_chained}
+use Rattle.nz_spec.specs.terms.Term.{are_chained}
 use Rattle.nz_term.specs.Values.{value_of}
 use Rattle.nz_truth.specs.Relations.{relation_of}
 use Rattle.nz_truth.proofs.chains.are_chained.Given as goal

@@ -1,6 +1,6 @@
 use Rattle.std.proofs.Common.{ap, ◌∙◌}
 use Rattle.nz_fractions.specs.Fraction.{fraction_le}
-use Rattle.nz_truth.proofs.Comparing.{at_most_is}
+use Rattle.nz_truth.proofs.Comparisons.{at_most_is}
 use Rattle.nz_truth.proofs.chains.is_at_most.Goals as goal
 
 pub returns : goal.returns

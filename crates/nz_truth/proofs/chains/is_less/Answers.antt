@@ -1,6 +1,6 @@
 use Rattle.std.proofs.Common.{ap, ◌∙◌}
 use Rattle.nz_fractions.specs.Fraction.{fraction_lt}
-use Rattle.nz_truth.proofs.Comparing.{less_is}
+use Rattle.nz_truth.proofs.Comparisons.{less_is}
 use Rattle.nz_truth.proofs.chains.is_less.Goals as goal
 
 pub returns : goal.returns

@@ -1,10 +1,10 @@
 -- Each operator that takes no operation by the clause of its function.
 use Rattle.std.proofs.Common.{map, refl, ap}
-use Rattle.nz_spec.specs.Term.{difference}
+use Rattle.nz_spec.specs.terms.Term.{difference}
 use Rattle.nz_term.specs.Constants.{number_sort_of, sort_of}
 use Rattle.nz_term.specs.Heads.{operator_of}
 use Rattle.nz_term.specs.Values.{value_of}
-use Rattle.nz_truth.proofs.Carrying.{of_head, plain}
+use Rattle.nz_truth.proofs.OperationSequences.{of_head, plain}
 use Rattle.nz_truth.proofs.heads.outcome_of.Goals as goal
 
 pub returns-in-Difference : goal.returns-in-Difference

@@ -2,7 +2,7 @@
 use Rattle.std.proofs.Common.{map, ap}
 use Rattle.nz_term.specs.Heads.{head_of}
 use Rattle.nz_term.specs.Values.{value_of}
-use Rattle.nz_truth.proofs.Carrying.{of_head}
+use Rattle.nz_truth.proofs.OperationSequences.{of_head}
 use Rattle.nz_truth.proofs.heads.outcome_over.Goals as goal
 
 pub returns-in-Operator : goal.returns-in-Operator

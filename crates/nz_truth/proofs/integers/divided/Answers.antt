@@ -3,7 +3,7 @@ use Rattle.std.proofs.Common.{◌≡◌, ◌≤◌, ℤ, pos, int_lt, unsigned_a
 use Rattle.std.specs.Int.{int_div_euclid, w128}
 use Rattle.nz_fractions.specs.Fraction.{largest}
 use Rattle.nz_ints.proofs.Sizes.{cast-back}
-use Rattle.nz_truth.proofs.Dividing.{quotient_above, quotient_below, quotient_fits, quotient_is, read, zero_read}
+use Rattle.nz_truth.proofs.IntegerDivision.{quotient_above, quotient_below, quotient_fits, quotient_is, read, zero_read}
 use Rattle.nz_truth.proofs.integers.divided.Goals as goal
 
 pub returns-then-m-lt0-clause-quotient : goal.returns-then-m-lt0-clause-quotient

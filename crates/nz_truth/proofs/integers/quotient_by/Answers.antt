@@ -2,8 +2,8 @@
 use Rattle.std.proofs.Common.{◌≡◌, ◌+◌, ℤ, List, ◌∷◌, drop, map, to_z, of_z, sym, ap, ◌∙◌, arith}
 use Rattle.std.specs.Int.{w128}
 use Rattle.nz_lists.proofs.Places.{drop_read}
-use Rattle.nz_spec.specs.Term as spec
-use Rattle.nz_spec.specs.Term.{combined, div_of, divided, integer_of, whole_number}
+use Rattle.nz_spec.specs.terms.Term as spec
+use Rattle.nz_spec.specs.terms.Term.{combined, div_of, divided, integer_of, whole_number}
 use Rattle.nz_term.specs.declared.assign.Value.{Value}
 use Rattle.nz_term.specs.Values.{value_of}
 use Rattle.nz_ints.proofs.Sizes.{cast-back}

@@ -1,6 +1,6 @@
 -- The quotient so far, by the arguments that are left, is the whole.
 use Rattle.std.proofs.Common.{◌≡◌, drop, map}
-use Rattle.nz_spec.specs.Term.{combined, divided}
+use Rattle.nz_spec.specs.terms.Term.{combined, divided}
 use Rattle.nz_term.specs.Values.{value_of}
 use Rattle.nz_truth.proofs.integers.quotient_by.Given as goal
 

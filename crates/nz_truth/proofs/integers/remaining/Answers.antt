@@ -3,7 +3,7 @@ use Rattle.std.proofs.Common.{◌≡◌, ◌≢◌, ◌≤◌, ◌<◌, ℤ, pos
 use Rattle.std.specs.Int.{int_rem_euclid, w128}
 use Rattle.nz_fractions.specs.Fraction.{largest}
 use Rattle.nz_ints.proofs.Sizes.{cast-back}
-use Rattle.nz_truth.proofs.Dividing.{remainder_is, remainder_zero, read, zero_read}
+use Rattle.nz_truth.proofs.IntegerDivision.{remainder_is, remainder_zero, read, zero_read}
 use Rattle.nz_truth.proofs.integers.remaining.Goals as goal
 
 pub returns-then-n-eq0-clause-remainder : goal.returns-then-n-eq0-clause-remainder

@@ -1,10 +1,10 @@
 -- The roots have values, or one of their operations is the first to leave the numbers.
 use Rattle.std.proofs.Common.{map, option_map, sym, ap, ◌∙◌}
-use Rattle.nz_spec.specs.Table.{assignment_by}
+use Rattle.nz_spec.specs.terms.Table.{assignment_by}
 use Rattle.nz_frac.specs.Operations.{operation_of}
 use Rattle.nz_term.specs.Values.{value_of}
 use Rattle.nz_truth.specs.Outcomes.{outcome_in}
-use Rattle.nz_truth.proofs.Walking.{roots_stop, roots_values}
+use Rattle.nz_truth.proofs.TermOutcomes.{roots_stop, roots_values}
 use Rattle.nz_truth.proofs.value.eval.Goals as goal
 
 pub returns-in-Some-clause-wide : goal.returns-in-Some-clause-wide

@@ -4,12 +4,12 @@ use Rattle.std.specs.Prelude.{All, Contains, nat_eq}
 use Rattle.std.specs.HashMap.{get}
 use Rattle.std.proofs.lemmas.List.{take_all, take_more}
 use Rattle.std.proofs.lemmas.Option.{slice_get-get_or}
-use Rattle.nz_spec.specs.Table.{assignment_by}
-use Rattle.nz_spec.specs.Order.{ComeBehindArguments}
+use Rattle.nz_spec.specs.terms.Table.{assignment_by}
+use Rattle.nz_spec.specs.terms.Order.{ComeBehindArguments}
 use Rattle.nz_term.specs.declared.assign.Value.TheVariants as value
 use Rattle.nz_truth.specs.declared.walk.Outcome.TheVariants as outcome
 use Rattle.nz_truth.specs.Outcomes.{AreEvaluated, outcome_in}
-use Rattle.nz_truth.proofs.Walking.{given, kids_known, one_more}
+use Rattle.nz_truth.proofs.TermOutcomes.{given, kids_known, one_more}
 use Rattle.nz_truth.proofs.walk.evaluated.Goals as goal
 
 pub loop-id-preserved : goal.loop-id-preserved

@@ -1,6 +1,6 @@
 -- The terms so far have come to what they come to.
 use Rattle.std.proofs.Common.{take}
-use Rattle.nz_spec.specs.Table.{assignment_by}
+use Rattle.nz_spec.specs.terms.Table.{assignment_by}
 use Rattle.nz_truth.specs.Outcomes.{AreEvaluated, outcome_in}
 use Rattle.nz_truth.proofs.walk.evaluated.Given as goal
 

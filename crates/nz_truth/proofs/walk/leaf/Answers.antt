@@ -2,9 +2,9 @@
 use Rattle.std.proofs.Common.{◌≡◌, Option, Some, None, option_map, refl, sym, ap, ◌∙◌}
 use Rattle.std.specs.Prelude.{unwrap_or}
 use Rattle.std.proofs.lemmas.Option.{same_Some}
-use Rattle.nz_spec.specs.Linear.{constant_value}
-use Rattle.nz_spec.specs.Term.{Assignment, Constant, Head, constant, integer, decimal_number, Terms, apply, default_value, head_sort}
-use Rattle.nz_spec.specs.Table.{Node, listed_value}
+use Rattle.nz_spec.specs.terms.Linear.{constant_value}
+use Rattle.nz_spec.specs.terms.Term.{Assignment, Constant, Head, constant, integer, decimal_number, Terms, apply, default_value, head_sort}
+use Rattle.nz_spec.specs.terms.Table.{Node, listed_value}
 use Rattle.nz_term.specs.Heads.{head_of}
 use Rattle.nz_term.specs.Values.{value_of}
 use Rattle.nz_term.specs.declared.assign.Value as own

@@ -1,13 +1,13 @@
 -- A node with an argument that has no value, and one without.
-use Rattle.std.proofs.Common.{◌≡◌, List, Some, map, sym, ap, subst, ◌∙◌}
-use Rattle.nz_spec.specs.Operations.{head_operations}
-use Rattle.nz_spec.specs.Term.{head_value}
-use Rattle.nz_spec.specs.Table.{term_in, terms_at}
+use Rattle.std.proofs.Common.{◌≡◌, List, Some, map, sym, subst, ◌∙◌}
+use Rattle.nz_spec.specs.terms.Operations.{head_operations}
+use Rattle.nz_spec.specs.terms.Term.{head_value}
+use Rattle.nz_spec.specs.terms.Table.{term_in, terms_at}
 use Rattle.nz_term.specs.Nodes.{node_of}
 use Rattle.nz_term.specs.declared.assign.Value.{Value}
 use Rattle.nz_term.specs.Values.{value_of}
 use Rattle.nz_truth.specs.Outcomes.{IsOutcomeOf, first_stop, outcome_in, values_in}
-use Rattle.nz_truth.proofs.Walking.{stopped_node, valued_node}
+use Rattle.nz_truth.proofs.TermOutcomes.{stopped_node, valued_node}
 use Rattle.nz_truth.proofs.walk.node_outcome.Goals as goal
 
 pub returns-in-Some : goal.returns-in-Some

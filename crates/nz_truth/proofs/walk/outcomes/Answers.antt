@@ -1,8 +1,8 @@
 -- The roots are among the terms that were evaluated.
 use Rattle.std.proofs.Common.{sym, subst}
-use Rattle.nz_spec.specs.Table.{assignment_by}
+use Rattle.nz_spec.specs.terms.Table.{assignment_by}
 use Rattle.nz_truth.specs.Outcomes.{AreOutcomes, outcome_in}
-use Rattle.nz_truth.proofs.Walking.{are_outcomes, known_roots}
+use Rattle.nz_truth.proofs.TermOutcomes.{are_outcomes, known_roots}
 use Rattle.nz_truth.proofs.walk.outcomes.Goals as goal
 
 pub returns : goal.returns

@@ -1,6 +1,6 @@
 use Rattle.std.proofs.Common.{◌∙◌, ap, sym, arith}
 use Rattle.std.proofs.lemmas.List.{length-take-le}
-use Rattle.nz_spec.specs.Outside.{MemoryInput}
+use Rattle.nz_spec.specs.outside.Outside.{MemoryInput}
 use Rattle.nz_base.proofs.Bytes.{given_and_left}
 use Rattle.nz_base.proofs.in_memory.PlainSourceSource.read.Goals as goal
 

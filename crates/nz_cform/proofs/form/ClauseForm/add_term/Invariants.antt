@@ -1,4 +1,4 @@
-use Rattle.nz_spec.specs.Table.{term_in}
+use Rattle.nz_spec.specs.terms.Table.{term_in}
 use Rattle.nz_cform.proofs.Sizes.{total}
 use Rattle.nz_cform.proofs.Underway.{IsUnderway}
 use Rattle.nz_cform.proofs.form.ClauseForm.add_term.Given as goal

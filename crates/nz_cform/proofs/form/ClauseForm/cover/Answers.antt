@@ -8,7 +8,7 @@ use Rattle.nz_cform.specs.Listings.{Takes}
 use Rattle.nz_cform.specs.Forms.{FormState, Grows}
 use Rattle.nz_cform.specs.Covering.{AddsRows, AreBoundsListed, AreBoundsOf, GoesOn, HasRows, IsOnAtoms, IsRowAt}
 use Rattle.nz_cform.proofs.Added.{adds_from_same, adds_twice, goes_twice, rest_is}
-use Rattle.nz_cform.proofs.Covering.{bounds_listed, rows_covered}
+use Rattle.nz_cform.proofs.CoveredTerms.{bounds_listed, rows_covered}
 use Rattle.nz_cform.proofs.Listed.{grows_itself, takes_grow}
 use Rattle.nz_cform.proofs.form.ClauseForm.cover.Goals as goal
 use Rattle.nz_cform.proofs.form.ClauseForm.cover.Goals.{In_ok-put, In_ok-add_units, In_ok-list_bounds, After-deref}

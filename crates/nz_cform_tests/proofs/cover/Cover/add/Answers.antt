@@ -1,7 +1,7 @@
 -- It is known what is covered.
 use Rattle.std.proofs.Common.{◌≡◌, true, rules}
 use Rattle.nz_cform.specs.Covering.{Covers}
-use Rattle.nz_cform_tests.proofs.Cutting.{known}
+use Rattle.nz_cform_tests.proofs.CutLogs.{known}
 use Rattle.nz_cform_tests.proofs.cover.Cover.add.Goals as goal
 
 pub add_term-requires-clause-covers : goal.add_term-requires-clause-covers

@@ -1,4 +1,4 @@
-use Rattle.nz_cform_tests.proofs.Cutting.{cover_cut}
+use Rattle.nz_cform_tests.proofs.CutLogs.{cover_cut}
 use Rattle.nz_cform_tests.proofs.cover.Cover.cut.Goals as goal
 
 pub invariant_of-self : goal.invariant_of-self

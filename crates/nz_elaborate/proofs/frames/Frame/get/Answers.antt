@@ -1,6 +1,6 @@
 use Rattle.std.proofs.Common.{◌∙◌, ap}
-use Rattle.nz_spec.specs.Elaboration.{listed}
-use Rattle.nz_elaborate.proofs.Naming.{lookup-frame}
+use Rattle.nz_script.specs.commands.Elaboration.{listed}
+use Rattle.nz_elaborate.proofs.NameLookup.{lookup-frame}
 use Rattle.nz_elaborate.proofs.frames.Frame.get.Goals as goal
 
 pub returns : goal.returns

@@ -1,7 +1,7 @@
 use Rattle.std.proofs.Common.{[], ◌≡◌, ◌++◌, ◌∷◌, None, map, option_copied, ◌∙◌, ap}
-use Rattle.nz_spec.specs.Elaboration.{listed}
+use Rattle.nz_script.specs.commands.Elaboration.{listed}
 use Rattle.nz_elaborate.specs.Names.{bound_in, frame_entry}
-use Rattle.nz_elaborate.proofs.Naming.{lookup-frame, insert_entry-frame, bound_there, bound_added, not_there}
+use Rattle.nz_elaborate.proofs.NameLookup.{lookup-frame, insert_entry-frame, bound_there, bound_added, not_there}
 use Rattle.nz_elaborate.proofs.frames.Frame.insert.Goals as goal
 
 pub returns-then-is_some : goal.returns-then-is_some

@@ -1,6 +1,6 @@
 use Rattle.std.proofs.Common.{◌≡◌, ◌∙◌, ap, option_copied}
-use Rattle.nz_spec.specs.Elaboration.{listed}
-use Rattle.nz_elaborate.proofs.Naming.{lookup-listed, found_listed, none_listed}
+use Rattle.nz_script.specs.commands.Elaboration.{listed}
+use Rattle.nz_elaborate.proofs.NameLookup.{lookup-listed, found_listed, none_listed}
 use Rattle.nz_elaborate.proofs.names.Names.get.Goals as goal
 
 pub returns : goal.returns

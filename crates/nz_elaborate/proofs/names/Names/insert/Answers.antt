@@ -1,6 +1,6 @@
 use Rattle.std.proofs.Common.{[], ◌++◌, ◌∷◌, ◌∙◌, ap}
-use Rattle.nz_spec.specs.Elaboration.{listed}
-use Rattle.nz_elaborate.proofs.Naming.{insert_entry-listed}
+use Rattle.nz_script.specs.commands.Elaboration.{listed}
+use Rattle.nz_elaborate.proofs.NameLookup.{insert_entry-listed}
 use Rattle.nz_elaborate.proofs.names.Names.insert.Goals as goal
 
 pub returns-clause-added : goal.returns-clause-added

@@ -1,5 +1,5 @@
 use Rattle.std.proofs.Common.{refl}
-use Rattle.nz_elaborate.proofs.Operating.{fresh_here, fresh_next, added_next, operators_scope}
+use Rattle.nz_elaborate.proofs.OperatorNames.{fresh_here, fresh_next, added_next, operators_scope}
 use Rattle.nz_elaborate.proofs.names.Names.new.Goals as goal
 
 pub insert-requires : goal.insert-requires

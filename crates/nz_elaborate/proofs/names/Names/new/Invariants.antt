@@ -1,8 +1,8 @@
 use Rattle.std.proofs.Common.{◌≡◌, true, map, take, drop}
-use Rattle.nz_spec.specs.Elaboration.{operator_table}
+use Rattle.nz_script.specs.commands.Elaboration.{operator_table}
 use Rattle.nz_elaborate.specs.Operators.{entry_meaning}
 use Rattle.nz_elaborate.specs.Names.{operator_entry}
-use Rattle.nz_elaborate.proofs.Operating.{word, all_fresh}
+use Rattle.nz_elaborate.proofs.OperatorNames.{word, all_fresh}
 use Rattle.nz_elaborate.proofs.names.Names.new.Given as goal
 
 -- the operators so far are there, and none of those that are left

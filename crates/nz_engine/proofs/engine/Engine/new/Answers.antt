@@ -1,6 +1,6 @@
 use Rattle.std.proofs.Common.{[], subst, sym}
 use Rattle.nz_engine.specs.Engines.{IsAtRest}
-use Rattle.nz_engine.proofs.Answering.{empty_rest}
+use Rattle.nz_engine.proofs.KeptState.{empty_rest}
 use Rattle.nz_engine.proofs.engine.Engine.new.Goals as goal
 
 pub invariant_of-result : goal.invariant_of-result

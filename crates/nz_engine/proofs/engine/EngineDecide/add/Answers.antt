@@ -2,8 +2,8 @@ use Rattle.std.proofs.Common.{◌<◌, ◌∙◌, length, ap, sym, subst}
 use Rattle.nz_reals.specs.Starts.{MayRestart}
 use Rattle.nz_reals.specs.State.{Theory}
 use Rattle.nz_engine.specs.Engines.{Begins, EngineState, IsKept, table_of, theory_of}
-use Rattle.nz_engine.proofs.Answering.{kept_either}
-use Rattle.nz_engine.proofs.Placing.{number_goes_on}
+use Rattle.nz_engine.proofs.KeptState.{kept_either}
+use Rattle.nz_engine.proofs.AssertionPlaces.{number_goes_on}
 use Rattle.nz_engine.proofs.engine.EngineDecide.add.Goals as goal
 
 pub invariant_of-self : goal.invariant_of-self

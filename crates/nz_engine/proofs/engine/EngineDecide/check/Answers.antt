@@ -1,19 +1,20 @@
 use Rattle.std.proofs.Common.{rules, ◌≡◌, List, [], Err, IfErr, sym, subst}
-use Rattle.nz_spec.specs.Decide.{AreInTable, AreModelValues, IsFrontOfTable, asserted_numbers, asserted_terms}
-use Rattle.nz_spec.specs.Legal.{AreLegal, IsDeadEnd, at_first, terms_known}
-use Rattle.nz_spec.specs.Places.{IsStoppedLegally}
-use Rattle.nz_spec.specs.Table.{Node, term_in}
-use Rattle.nz_spec.specs.Term.{Term}
-use Rattle.nz_spec.specs.Taken.{IsTakenBoolean}
+use Rattle.nz_spec.specs.search.Decide.{AreInTable, AreModelValues, IsFrontOfTable, asserted_numbers, asserted_terms}
+use Rattle.nz_spec.specs.search.Legal.{AreLegal, IsDeadEnd, at_first, terms_known}
+use Rattle.nz_spec.specs.search.Places.{IsStoppedLegally}
+use Rattle.nz_spec.specs.terms.Table.{Node, term_in}
+use Rattle.nz_spec.specs.terms.Term.{Term}
+use Rattle.nz_spec.specs.terms.Taken.{IsTakenBoolean}
 use Rattle.std.specs.Prelude.{All, Contains}
-use Rattle.nz_log.specs.declared.stop.Stop.{Stop}
-use Rattle.nz_log.specs.Notes.{noted_list}
-use Rattle.nz_log.specs.Places.{OnWide, place_of}
-use Rattle.nz_log.specs.Verdicts.{IfSat, OnUnsat, task_in}
+use Rattle.nz_search.specs.declared.stop.Stop.{Stop}
+use Rattle.nz_search.specs.Notes.{noted_list}
+use Rattle.nz_place.specs.Places.{place_of}
+use Rattle.nz_search.specs.Places.{OnWide}
+use Rattle.nz_search.specs.Verdicts.{IfSat, OnUnsat, task_in}
 use Rattle.nz_reals.specs.Starts.{MayRestart}
 use Rattle.nz_engine.specs.Engines.{Begins, EngineState, table_of, theory_of}
-use Rattle.nz_engine.proofs.Refuting.{assumed_of, negations_told, sat_of, unsat_of}
-use Rattle.nz_engine.proofs.Resting.{rests_here, stop_legal_all}
+use Rattle.nz_engine.proofs.RefutedAssumptions.{assumed_of, negations_told, sat_of, unsat_of}
+use Rattle.nz_engine.proofs.KeptTheory.{rests_here, stop_legal_all}
 use Rattle.nz_engine.proofs.engine.EngineDecide.check.Goals as goal
 
 pub returns-clause-unsat : goal.returns-clause-unsat

@@ -2,7 +2,7 @@ use Rattle.std.proofs.Common.{◌≡◌, ◌-◌, ◌∙◌, length, take, ap, s
 use Rattle.nz_reals.specs.Starts.{MayRestart}
 use Rattle.nz_reals.specs.State.{Theory}
 use Rattle.nz_engine.specs.Engines.{Begins, EngineState, IsKept, table_of, theory_of}
-use Rattle.nz_engine.proofs.Answering.{kept_low, take_again}
+use Rattle.nz_engine.proofs.KeptState.{kept_low, take_again}
 use Rattle.nz_engine.proofs.engine.EngineDecide.pop.Goals as goal
 
 pub invariant_of-self : goal.invariant_of-self

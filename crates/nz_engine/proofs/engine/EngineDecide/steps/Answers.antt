@@ -1,12 +1,12 @@
 use Rattle.std.proofs.Common.{◌≡◌, List, Some, IfOk, rules, sym, ap, ◌∙◌, subst}
-use Rattle.nz_spec.specs.Decide.{asserted_terms}
-use Rattle.nz_spec.specs.Steps.{Derives}
-use Rattle.nz_log.specs.declared.term_lits.TermLit.{TermLit}
+use Rattle.nz_spec.specs.search.Decide.{asserted_terms}
+use Rattle.nz_spec.specs.clauses.Steps.{Derives}
+use Rattle.nz_term.specs.declared.term_lits.TermLit.{TermLit}
 use Rattle.nz_log.specs.Spelling.{steps_of}
-use Rattle.nz_log.specs.TermLits.{clause_of_terms}
-use Rattle.nz_engine.specs.declared.check.Kept.TheVariants as kept
+use Rattle.nz_term.specs.TermLits.{clause_of_terms}
+use Rattle.nz_engine.specs.declared.check.Retained.TheVariants as kept
 use Rattle.nz_engine.specs.Engines.{EngineState, IsKept, IsReadied, clause_at, log_of, table_of, theory_of}
-use Rattle.nz_engine.proofs.Refuting.{derived}
+use Rattle.nz_engine.proofs.RefutedAssumptions.{derived}
 use Rattle.nz_engine.proofs.engine.EngineDecide.steps.Goals as goal
 
 pub returns : goal.returns

@@ -1,9 +1,9 @@
 use Rattle.std.proofs.Common.{◌≡◌, ◌<◌, ◌-◌, ℕ, suc, length, sym, ap, ◌∙◌, arith, Vec, Global}
 use Rattle.std.proofs.lemmas.List.{length-map}
 use Rattle.std.proofs.lemmas.Result.{err_from_is_err_and}
-use Rattle.nz_spec.specs.Decide.{with_number}
+use Rattle.nz_spec.specs.search.Decide.{with_number}
 use Rattle.nz_engine.specs.Levels.{numbers_by_level}
-use Rattle.nz_engine.proofs.Leveling.{number_added, numbers_kept}
+use Rattle.nz_engine.proofs.TermsByLevel.{number_added, numbers_kept}
 use Rattle.nz_engine.proofs.levels.Levels.add.Goals as goal
 
 pub returns-in_err-push-clause-err : goal.returns-in_err-push-clause-err

@@ -1,10 +1,11 @@
 -- The term is covered, and then its clause is put and held.
 use Rattle.std.proofs.Common.{◌≡◌, ◌+◌, refl, sym, ap, ◌∙◌, subst, arith}
+use Rattle.nz_lists.proofs.Members.{has_found}
 use Rattle.nz_log.specs.Sound.{live_at}
 use Rattle.nz_engine.specs.Levels.{IsPlaced}
 use Rattle.nz_engine.specs.Preparing.{PreparedState, CoversAlso, IsPrepared}
-use Rattle.nz_engine.proofs.Placing.{placed_below, stands_there}
-use Rattle.nz_engine.proofs.Putting.{assertion_given, covered}
+use Rattle.nz_engine.proofs.AssertionPlaces.{placed_below}
+use Rattle.nz_engine.proofs.ClausePreservation.{assertion_given, covered}
 use Rattle.nz_engine.proofs.prepared.Prepared.add_assertion.Goals as goal
 
 pub returns-clause-stands : goal.returns-clause-stands
@@ -18,7 +19,7 @@ returns-clause-stands c = λ levels placed h.
     let also : CoversAlso ns old t n mid = subst (CoversAlso ns old t n) (sym c.self-2.view_is) c.in_ok-cover.ensures.covered in
     let before : IsPrepared ns levels levels mid =
     covered ns levels levels old mid t n also h c.atoms_of_terms.ensures.atoms c.rows_name_covered.ensures.named c.taken_terms_are_in_order.ensures.order (record { sums = c.forms_are_sums.ensures.sums; operands = c.operands_are_sorted.ensures.sorted }) c.known_table.ensures.table c.requires.within c.requires.taken.taken
-    (stands_there (live_at levels n) old.given t placed.live) (placed_below levels old.given t n placed) placed.behind in
+    (has_found (live_at levels n) old.given t placed.live) (placed_below levels old.given t n placed) placed.behind in
     let same : mid.given ≡ c.self.inside.given = also.given ∙ sym (ap (λ (s : PreparedState). s.given) c.self.view_is) in
     let next : c.in-Some.given ≡ c.self.inside.given + 1 = c.in-Some.ensures.1 in
     let there : IsPlaced levels mid.given t n = subst (λ k. IsPlaced levels k t n) (sym also.given) placed in

@@ -3,15 +3,16 @@ use Rattle.std.proofs.Common.{rules, Err, IfErr, ◌≡◌, ◌∙◌, suc, ◌-
 use Rattle.std.specs.Prelude.{Contains}
 use Rattle.std.proofs.lemmas.List.Elements.{All-contains}
 use Rattle.std.proofs.lemmas.Option.{slice_get_within}
-use Rattle.nz_spec.specs.Decide.{asserted_numbers}
-use Rattle.nz_spec.specs.Taken.{IsTakenBoolean}
-use Rattle.nz_spec.specs.Table.{term_in}
+use Rattle.nz_lists.proofs.Members.{has_found}
+use Rattle.nz_spec.specs.search.Decide.{asserted_numbers}
+use Rattle.nz_spec.specs.terms.Taken.{IsTakenBoolean}
+use Rattle.nz_spec.specs.terms.Table.{term_in}
 use Rattle.nz_engine.specs.Levels.{IsPlaced, count_of}
 use Rattle.nz_engine.specs.Preparing.{PreparedState}
 use Rattle.nz_engine.specs.Checking.{IsRootStop}
-use Rattle.nz_engine.proofs.Assuming.{told_before}
-use Rattle.nz_engine.proofs.Ending.{root_of}
-use Rattle.nz_engine.proofs.Placing.{placed_in_all, stands_there}
+use Rattle.nz_engine.proofs.AssumptionLevels.{told_before}
+use Rattle.nz_engine.proofs.CheckEnds.{root_of}
+use Rattle.nz_engine.proofs.AssertionPlaces.{placed_in_all}
 use Rattle.nz_engine.proofs.prepared.Prepared.add_assertions.Goals as goal
 
 pub add_assertion-requires-clause-within : goal.add_assertion-requires-clause-within
@@ -20,7 +21,7 @@ add_assertion-requires-clause-within c =
     let t = c.in-Some.next.term in
     let k = c.self.inside.given in
     let all = asserted_numbers levels in
-    let has : Contains all t = stands_there all k t (placed_in_all levels k t c.in-Some.next.level c.in-Some.ensures.placed) in
+    let has : Contains all t = has_found all k t (placed_in_all levels k t c.in-Some.next.level c.in-Some.ensures.placed) in
     All-contains (λ i. i < length c.args.terms.now) all t c.requires.within has
 
 pub add_assertion-requires-clause-taken : goal.add_assertion-requires-clause-taken
@@ -29,7 +30,7 @@ add_assertion-requires-clause-taken c =
     let t = c.in-Some.next.term in
     let k = c.self.inside.given in
     let all = asserted_numbers levels in
-    let has : Contains all t = stands_there all k t (placed_in_all levels k t c.in-Some.next.level c.in-Some.ensures.placed) in
+    let has : Contains all t = has_found all k t (placed_in_all levels k t c.in-Some.next.level c.in-Some.ensures.placed) in
     All-contains (λ i. IsTakenBoolean (term_in c.args.terms.now i)) all t c.requires.taken has
 
 pub add_assertion-requires-clause-told : goal.add_assertion-requires-clause-told
@@ -68,5 +69,5 @@ returns-in_err-add_assertion-clause-stop c =
     let levels = c.args.levels.now in
     let t = c.in-Some.next.term in
     let all = asserted_numbers levels in
-    let has : Contains all t = stands_there all c.self.inside.given t (placed_in_all levels c.self.inside.given t c.in-Some.next.level c.in-Some.ensures.placed) in
+    let has : Contains all t = has_found all c.self.inside.given t (placed_in_all levels c.self.inside.given t c.in-Some.next.level c.in-Some.ensures.placed) in
     subst (λ r. IfErr r (IsRootStop ns all)) same (root_of ns all t c.in_err-add_assertion.field-0.0 has c.in_err-add_assertion.ensures.stop)

@@ -2,15 +2,15 @@ use Rattle.std.proofs.Common.{rules, Err, IfErr, ◌≡◌, ◌<◌, ◌≤◌, 
 use Rattle.std.specs.Prelude.{All, Contains, IsSome}
 use Rattle.std.proofs.lemmas.List.{take_all, take_more}
 use Rattle.std.proofs.lemmas.List.Elements.{All-push, All-weaker, Contains-get_or}
-use Rattle.nz_spec.specs.Taken.{IsTakenBoolean}
-use Rattle.nz_spec.specs.Table.{term_in}
-use Rattle.nz_log.specs.declared.term_lits.TermLit.{TermLit}
+use Rattle.nz_lists.proofs.Members.{map_has}
+use Rattle.nz_spec.specs.terms.Taken.{IsTakenBoolean}
+use Rattle.nz_spec.specs.terms.Table.{term_in}
+use Rattle.nz_term.specs.declared.term_lits.TermLit.{TermLit}
 use Rattle.nz_cform.specs.Forms.{covered_at}
 use Rattle.nz_engine.specs.Checking.{AreCovered, IsRootStop, terms_named}
-use Rattle.nz_engine.proofs.Going.{standing}
-use Rattle.nz_engine.proofs.Posing.{all_named}
-use Rattle.nz_engine.proofs.Ending.{root_of}
-use Rattle.nz_engine.proofs.RowFacts.{contains_map}
+use Rattle.nz_engine.proofs.LevelPreservation.{standing}
+use Rattle.nz_engine.proofs.NamedTerms.{all_named}
+use Rattle.nz_engine.proofs.CheckEnds.{root_of}
 use Rattle.nz_engine.proofs.prepared.Prepared.assume.Goals as goal
 
 pub loop-literal-init : goal.loop-literal-init
@@ -45,7 +45,7 @@ loop-literal-preserved c =
       standing = did.stands c.args.levels.now (terms_named assumed)
           (record {
             last = sym c.len-level.ensures.count;
-            named = contains_map (λ (m : TermLit). m.term) assumed l (Contains-get_or assumed k (record { term = 0; sign = false }) c.loop-literal-test.true);
+            named = map_has (λ (m : TermLit). m.term) assumed l (Contains-get_or assumed k (record { term = 0; sign = false }) c.loop-literal-test.true);
             taken = taken.taken;
             all_given = c.requires.all_given ∙ sym before.given;
             standing = before.standing;
@@ -70,5 +70,5 @@ returns-in_err-assume_term-clause-stop c =
     let assumed = c.args.assumed.now in
     let k = c.loop-literal.literal-index in
     let l : TermLit = get_or assumed k (record { term = 0; sign = false }) in
-    let has : Contains (terms_named assumed) l.term = contains_map (λ (m : TermLit). m.term) assumed l (Contains-get_or assumed k (record { term = 0; sign = false }) c.loop-literal-test.true) in
+    let has : Contains (terms_named assumed) l.term = map_has (λ (m : TermLit). m.term) assumed l (Contains-get_or assumed k (record { term = 0; sign = false }) c.loop-literal-test.true) in
     subst (λ r. IfErr r (IsRootStop ns (terms_named assumed))) same (root_of ns (terms_named assumed) l.term c.in_err-assume_term.field-0.0 has c.in_err-assume_term.ensures.stop)

@@ -1,7 +1,7 @@
 use Rattle.std.proofs.Common.{ℕ, true, List, OnOk, subst}
 use Rattle.std.proofs.lemmas.Result.{on_ok_weaker}
 use Rattle.nz_engine.specs.Preparing.{PreparedState, IsAssumable, IsStanding}
-use Rattle.nz_engine.proofs.Assuming.{also_from, term_assumed}
+use Rattle.nz_engine.proofs.AssumptionLevels.{also_from, term_assumed}
 use Rattle.nz_engine.proofs.prepared.Prepared.assume_term.Goals as goal
 
 pub returns-clause-stands : goal.returns-clause-stands

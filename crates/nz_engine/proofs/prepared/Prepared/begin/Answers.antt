@@ -1,15 +1,15 @@
 -- The atoms are named and noted, the theory begins anew and learns of them, and neighbouring bounds get their clauses.
 use Rattle.std.proofs.Common.{rules, ◌≡◌, ℕ, List, Ok, Err, IfErr, refl, sym, ap, subst, ◌∙◌}
-use Rattle.nz_spec.specs.Term.{Term}
-use Rattle.nz_log.specs.declared.stop.Stop.{Stop}
-use Rattle.nz_log.specs.declared.stop.Stop.TheVariants.{Memory}
-use Rattle.nz_log.specs.Verdicts.{task_in}
+use Rattle.nz_spec.specs.terms.Term.{Term}
+use Rattle.nz_search.specs.declared.stop.Stop.{Stop}
+use Rattle.nz_search.specs.declared.stop.Stop.TheVariants.{Memory}
+use Rattle.nz_search.specs.Verdicts.{task_in}
 use Rattle.nz_engine.specs.Checking.{AreLearnable, BeginsAnew, EndsWith, MaySearch}
 use Rattle.nz_engine.specs.Preparing.{Excludes, PreparedState}
-use Rattle.nz_engine.proofs.Ending.{legal_none}
-use Rattle.nz_engine.proofs.Entering.{begun_search, learnable, legal_anew, stops_anew, works_anew}
-use Rattle.nz_engine.proofs.Excluding.{prepared_in}
-use Rattle.nz_engine.proofs.Solving.{ready_as}
+use Rattle.nz_engine.proofs.CheckEnds.{legal_none}
+use Rattle.nz_engine.proofs.SearchEntry.{begun_search, learnable, legal_anew, stops_anew, works_anew}
+use Rattle.nz_engine.proofs.ExclusionClauses.{prepared_in}
+use Rattle.nz_engine.proofs.SearchAtoms.{ready_as}
 use Rattle.nz_engine.proofs.prepared.Prepared.begin.Goals as goal
 
 pub returns-in_err-named-clause-stopped : goal.returns-in_err-named-clause-stopped

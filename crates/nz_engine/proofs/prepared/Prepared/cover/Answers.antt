@@ -1,5 +1,5 @@
 use Rattle.std.proofs.Common.{◌++◌, map, refl, ap, ◌∙◌, subst}
-use Rattle.nz_spec.specs.Table.{term_in}
+use Rattle.nz_spec.specs.terms.Table.{term_in}
 use Rattle.nz_sat.specs.Sats.{held_of}
 use Rattle.nz_engine.specs.Preparing.{PreparedState, CoversAlso}
 use Rattle.nz_engine.proofs.prepared.Prepared.cover.Goals as goal

@@ -3,7 +3,7 @@ use Rattle.std.specs.Prelude.{Contains, IsSome}
 use Rattle.nz_cform.specs.Listings.{listed_at}
 use Rattle.nz_engine.specs.Levels.{count_of}
 use Rattle.nz_engine.specs.Preparing.{PreparedState, CutsTo, KeepsBounds}
-use Rattle.nz_engine.proofs.Going.{all_kept}
+use Rattle.nz_engine.proofs.LevelPreservation.{all_kept}
 use Rattle.nz_engine.proofs.prepared.Prepared.cut.Goals as goal
 
 pub returns-clause-cuts : goal.returns-clause-cuts

@@ -7,8 +7,8 @@ use Rattle.nz_log.specs.Atoms.{HasTerm, term_place}
 use Rattle.nz_cform.specs.Forms.{covered_at}
 use Rattle.nz_cform.specs.Listings.{listed_at}
 use Rattle.nz_engine.specs.Preparing.{PreparedState, boolean_terms}
-use Rattle.nz_engine.proofs.Going.{some_of}
-use Rattle.nz_engine.proofs.Solving.{places_stay, terms_stay}
+use Rattle.nz_engine.proofs.LevelPreservation.{some_of}
+use Rattle.nz_engine.proofs.SearchAtoms.{places_stay, terms_stay}
 use Rattle.nz_engine.proofs.prepared.Prepared.named.Goals as goal
 
 pub returns-clause-handed : goal.returns-clause-handed

@@ -1,10 +1,10 @@
 -- Where the atoms are named, a search may begin.
 use Rattle.std.proofs.Common.{ap}
 use Rattle.std.proofs.lemmas.Result.{IfOk-weaker}
-use Rattle.nz_engine.specs.declared.prepared.Named.{Named}
+use Rattle.nz_engine.specs.declared.prepared.search.Named.{Named}
 use Rattle.nz_engine.specs.Checking.{AreHanded, IsReady}
 use Rattle.nz_engine.specs.Preparing.{PreparedState}
-use Rattle.nz_engine.proofs.Solving.{ready_named}
+use Rattle.nz_engine.proofs.SearchAtoms.{ready_named}
 use Rattle.nz_engine.proofs.prepared.Prepared.ready.Goals as goal
 
 pub named-requires : goal.named-requires

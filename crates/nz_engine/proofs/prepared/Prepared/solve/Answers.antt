@@ -1,9 +1,9 @@
 -- All is done that comes before a search, and then it runs.
 use Rattle.std.proofs.Common.{rules, ◌≡◌, ℕ, Option, Err}
-use Rattle.nz_log.specs.Verdicts.{task_in}
-use Rattle.nz_engine.proofs.Ending.{works_solved}
-use Rattle.nz_engine.proofs.Naming.{err_ends}
-use Rattle.nz_engine.proofs.Searching.{begun_as, search_consistent, search_ends, search_excluded, search_found, search_named, search_posed, search_refuted, search_told}
+use Rattle.nz_search.specs.Verdicts.{task_in}
+use Rattle.nz_engine.proofs.CheckEnds.{works_solved}
+use Rattle.nz_engine.proofs.AtomNotes.{err_ends}
+use Rattle.nz_engine.proofs.SearchRuns.{begun_as, search_consistent, search_ends, search_excluded, search_found, search_named, search_posed, search_refuted, search_told}
 use Rattle.nz_engine.proofs.prepared.Prepared.solve.Goals as goal
 
 pub begin-requires-clause-posed : goal.begin-requires-clause-posed

@@ -3,7 +3,7 @@ use Rattle.std.specs.Prelude.{Contains}
 use Rattle.std.proofs.lemmas.List.Elements.{All-contains_itself, All-weaker}
 use Rattle.nz_cform.specs.Forms.{covered_at}
 use Rattle.nz_engine.specs.Preparing.{PreparedState}
-use Rattle.nz_engine.proofs.Going.{some_of}
+use Rattle.nz_engine.proofs.LevelPreservation.{some_of}
 use Rattle.nz_engine.proofs.prepared.Prepared.values.Goals as goal
 
 pub values_of-requires-clause-within : goal.values_of-requires-clause-within

@@ -1,6 +1,6 @@
 use Rattle.std.proofs.Common.{rules}
 use Rattle.nz_engine_tests.specs.Benches.{IsFormula}
-use Rattle.nz_engine_tests.proofs.Telling.{added}
+use Rattle.nz_engine_tests.proofs.ToldLevels.{added}
 use Rattle.nz_engine_tests.proofs.bench.Bench.assert.Goals as goal
 
 -- the term is a formula of the table, and is asserted

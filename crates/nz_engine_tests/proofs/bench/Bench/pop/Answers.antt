@@ -1,4 +1,4 @@
-use Rattle.nz_engine_tests.proofs.Telling.{popped}
+use Rattle.nz_engine_tests.proofs.ToldLevels.{popped}
 use Rattle.nz_engine_tests.proofs.bench.Bench.pop.Goals as goal
 
 pub invariant_of-self : goal.invariant_of-self

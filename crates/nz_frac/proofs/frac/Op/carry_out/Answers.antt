@@ -1,7 +1,7 @@
 -- Each operation by its own clauses.
 use Rattle.std.proofs.Common.{refl, sym, ◌∙◌}
 use Rattle.nz_frac.specs.declared.frac.Op.TheVariants as op
-use Rattle.nz_frac.proofs.Carrying.{by_zero, carried, stopped}
+use Rattle.nz_frac.proofs.OperationOutcomes.{by_zero, carried, stopped}
 use Rattle.nz_frac.proofs.frac.Op.carry_out.Goals as goal
 
 pub returns-then-is_zero-clause-carried : goal.returns-then-is_zero-clause-carried

@@ -1,6 +1,6 @@
 -- One test, and then the other.
 use Rattle.std.proofs.Common.{refl, sym, ◌∙◌}
-use Rattle.nz_lin.proofs.Bounding.{excluded}
+use Rattle.nz_lin.proofs.BoundSides.{excluded}
 use Rattle.nz_lin.proofs.bound.Bound.excludes_zero.Goals as goal
 
 pub returns-then-lt : goal.returns-then-lt

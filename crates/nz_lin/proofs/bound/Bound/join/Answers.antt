@@ -1,12 +1,12 @@
 -- Both sides, and the signs.
 use Rattle.std.proofs.Common.{rules, ◌≡◌, ◌||◌, Bool, Err, sym, ap, subst, ◌∙◌}
 use Rattle.std.proofs.lemmas.Result.{err_from_is_err_and}
-use Rattle.nz_spec.specs.Farkas.{bounds_joined}
-use Rattle.nz_spec.specs.FormOf.{number_in}
+use Rattle.nz_spec.specs.clauses.Farkas.{bounds_joined}
+use Rattle.nz_spec.specs.terms.FormOf.{number_in}
 use Rattle.nz_lin.specs.Bounds.{bound_over}
 use Rattle.nz_lin.specs.Comes.{Comes, IsDone}
 use Rattle.nz_lin.specs.Forms.{form_over}
-use Rattle.nz_lin.proofs.Bounding.{sides_done, sides_stop, with_sign}
+use Rattle.nz_lin.proofs.BoundSides.{sides_done, sides_stop, with_sign}
 use Rattle.nz_lin.proofs.bound.Bound.join.Goals as goal
 
 pub returns-in_err-join-clause-comes : goal.returns-in_err-join-clause-comes

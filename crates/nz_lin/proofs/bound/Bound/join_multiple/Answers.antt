@@ -1,15 +1,15 @@
 -- A multiple, and then the sum.
 use Rattle.std.proofs.Common.{List, Err, sym, ap, subst, ◌∙◌}
 use Rattle.std.proofs.lemmas.Result.{err_from_is_err_and}
-use Rattle.nz_spec.specs.Computation.{and_then}
-use Rattle.nz_spec.specs.Farkas as farkas
-use Rattle.nz_spec.specs.Farkas.{bound_scaled, bounds_joined}
-use Rattle.nz_spec.specs.FormOf.{number_in}
-use Rattle.nz_spec.specs.Table.{Node}
+use Rattle.nz_spec.specs.numbers.Computation.{and_then}
+use Rattle.nz_spec.specs.clauses.Farkas as farkas
+use Rattle.nz_spec.specs.clauses.Farkas.{bound_scaled, bounds_joined}
+use Rattle.nz_spec.specs.terms.FormOf.{number_in}
+use Rattle.nz_spec.specs.terms.Table.{Node}
 use Rattle.nz_lin.specs.Bounds.{HasUnits, bound_over}
 use Rattle.nz_lin.specs.Comes.{Comes}
-use Rattle.nz_lin.proofs.Bounding.{comes_after, done_implies}
-use Rattle.nz_lin.proofs.Computing.{stop_first}
+use Rattle.nz_lin.proofs.BoundSides.{comes_after, done_implies}
+use Rattle.nz_lin.proofs.ComputationSequences.{stop_first}
 use Rattle.nz_lin.proofs.bound.Bound.join_multiple.Goals as goal
 
 pub returns-in_err-scaled-clause-comes : goal.returns-in_err-scaled-clause-comes

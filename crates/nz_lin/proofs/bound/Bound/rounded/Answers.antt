@@ -1,16 +1,16 @@
 -- A multiple, and then its limit.
 use Rattle.std.proofs.Common.{false, Ok, Err, sym, ap, subst, ◌∙◌}
 use Rattle.std.proofs.lemmas.Result.{err_from_is_err_and}
-use Rattle.nz_spec.specs.Cuts.{rounded_limit}
-use Rattle.nz_spec.specs.Farkas.{bound_scaled}
+use Rattle.nz_spec.specs.clauses.Cuts.{rounded_limit}
+use Rattle.nz_spec.specs.clauses.Farkas.{bound_scaled}
 use Rattle.nz_fractions.specs.Fraction.{Fraction}
-use Rattle.nz_spec.specs.Literal.{is_at_most}
-use Rattle.nz_lin.specs.declared.form.LinStop.{LinStop}
-use Rattle.nz_lin.specs.declared.form.LinStop.TheVariants.{Wide}
+use Rattle.nz_spec.specs.clauses.Literal.{is_at_most}
+use Rattle.nz_term.specs.declared.stops.ArithmeticStop.{ArithmeticStop}
+use Rattle.nz_term.specs.declared.stops.ArithmeticStop.TheVariants.{Wide}
 use Rattle.nz_lin.specs.Bounds.{IsLiteral, bound_over, rounded_bound}
 use Rattle.nz_lin.specs.Forms.{Numbered}
-use Rattle.nz_lin.proofs.Computing.{done_both, stop_first, stop_second, turned_done}
-use Rattle.nz_lin.proofs.Tightening.{rounded_literal}
+use Rattle.nz_lin.proofs.ComputationSequences.{done_both, stop_first, stop_second, turned_done}
+use Rattle.nz_lin.proofs.IntegerBounds.{rounded_literal}
 use Rattle.nz_lin.proofs.bound.Bound.rounded.Goals as goal
 
 pub returns-in_err-scaled : goal.returns-in_err-scaled
@@ -19,7 +19,7 @@ returns-in_err-scaled c = record {
       let m = c.args.multiplier in
       let x = bound_over ns c.args.self.now in
       let error = err_from_is_err_and c.from_residual.result c.from_residual.ensures.1 in
-      let s : LinStop = c.in_err-scaled.field-0.0 in
+      let s : ArithmeticStop = c.in_err-scaled.field-0.0 in
       subst (λ r. IsLiteral ns (rounded_bound m x) r) (sym (error.1 ∙ ap Err error.2))
       (stop_first (bound_scaled m x) rounded_literal s (c.in_err-scaled.ensures.bounded ns units));
 }
@@ -31,7 +31,7 @@ returns-in_err-limit c = record {
       let x = bound_over ns c.args.self.now in
       let h = c.in_ok-scaled.ensures.bounded ns units in
       let error = err_from_is_err_and c.from_residual-in_err-limit.result c.from_residual-in_err-limit.ensures.1 in
-      let s : LinStop = Wide c.in_err-limit.field-0.0 in
+      let s : ArithmeticStop = Wide c.in_err-limit.field-0.0 in
       subst (λ r. IsLiteral ns (rounded_bound m x) r) (sym (error.1 ∙ ap Err error.2))
       (stop_second (bound_scaled m x) rounded_literal (bound_over ns c.in_ok-scaled.scaled) s h.0 (c.in_err-limit.ensures.rounded ns));
 }

@@ -1,10 +1,10 @@
 -- Both sides, and the sign.
 use Rattle.std.proofs.Common.{Err, sym, ap, subst, ◌∙◌}
 use Rattle.std.proofs.lemmas.Result.{err_from_is_err_and}
-use Rattle.nz_spec.specs.Farkas.{bound_scaled}
+use Rattle.nz_spec.specs.clauses.Farkas.{bound_scaled}
 use Rattle.nz_lin.specs.Bounds.{IsBounded, bound_over}
 use Rattle.nz_lin.specs.Forms.{form_over}
-use Rattle.nz_lin.proofs.Bounding.{scaled_done, scaled_stop}
+use Rattle.nz_lin.proofs.BoundSides.{scaled_done, scaled_stop}
 use Rattle.nz_lin.proofs.bound.Bound.scaled.Goals as goal
 
 pub returns-in_err-sides : goal.returns-in_err-sides

@@ -1,16 +1,16 @@
 -- A bound over integers is rounded, and another one stays.
 use Rattle.std.proofs.Common.{◌≡◌, true, false, List, Ok, sym, subst, ◌∙◌}
-use Rattle.nz_spec.specs.Computation.{Computation}
+use Rattle.nz_spec.specs.numbers.Computation.{Computation}
 use Rattle.nz_fractions.specs.Fraction.{Fraction}
-use Rattle.nz_spec.specs.LinearLiteral.{tight_form, tight_multiplier}
-use Rattle.nz_spec.specs.Literal.{Literal}
+use Rattle.nz_spec.specs.clauses.LinearLiteral.{tight_form, tight_multiplier}
+use Rattle.nz_spec.specs.clauses.Literal.{Literal}
 use Rattle.nz_lin.specs.declared.bound.Bound.{Bound}
 use Rattle.nz_lin.specs.declared.form.Part.{Part}
 use Rattle.nz_lin.specs.Bounds.{IsLiteral, bound_over, literal_over, rounded_bound}
 use Rattle.nz_lin.specs.Comes.{IsDone}
 use Rattle.nz_lin.specs.Forms.{AreUnits, parts_over}
-use Rattle.nz_lin.proofs.Computing.{at_once_done}
-use Rattle.nz_lin.proofs.Tightening.{are_over_integers, same_literal, stays, tight_same}
+use Rattle.nz_lin.proofs.ComputationSequences.{at_once_done}
+use Rattle.nz_lin.proofs.IntegerBounds.{are_over_integers, same_literal, stays, tight_same}
 use Rattle.nz_lin.proofs.bound.Bound.tight.Goals as goal
 
 pub returns-then-is_over_integers : goal.returns-then-is_over_integers

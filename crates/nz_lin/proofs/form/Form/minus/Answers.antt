@@ -1,8 +1,8 @@
 -- The other form joins.
 use Rattle.std.proofs.Common.{Err, sym, ap, subst, ◌∙◌}
 use Rattle.std.proofs.lemmas.Result.{err_from_is_err_and}
-use Rattle.nz_spec.specs.Form.{joined}
-use Rattle.nz_spec.specs.FormOf.{number_in}
+use Rattle.nz_spec.specs.terms.Form.{joined}
+use Rattle.nz_spec.specs.terms.FormOf.{number_in}
 use Rattle.nz_fractions.specs.Fraction.{Difference}
 use Rattle.nz_lin.specs.Comes.{IsFormed}
 use Rattle.nz_lin.specs.Forms.{form_over}

@@ -1,5 +1,5 @@
 use Rattle.std.proofs.Common.{◌≡◌, map, sym, ap, subst, ◌∙◌}
-use Rattle.nz_spec.specs.Form.{negated_form}
+use Rattle.nz_spec.specs.terms.Form.{negated_form}
 use Rattle.nz_lin.specs.Forms.{AreUnits, Numbered, form_over, negated}
 use Rattle.nz_lin.proofs.Units.{negated_is, units_negated}
 use Rattle.nz_lin.proofs.form.Form.negated.Goals as goal

@@ -1,13 +1,13 @@
 -- What is added is what the literal says of a sum.
 use Rattle.std.proofs.Common.{◌≡◌, List, Some, sym, ◌∙◌, rules}
 use Rattle.std.specs.Prelude.{slice_get}
-use Rattle.nz_spec.specs.Farkas.{bound_of}
-use Rattle.nz_spec.specs.FormOf.{number_in}
-use Rattle.nz_spec.specs.Table.{Node}
+use Rattle.nz_spec.specs.clauses.Farkas.{bound_of}
+use Rattle.nz_spec.specs.terms.FormOf.{number_in}
+use Rattle.nz_spec.specs.terms.Table.{Node}
 use Rattle.nz_lin.specs.Bounds.{HasUnits, bound_over}
 use Rattle.nz_log.specs.declared.atoms.Atom.TheVariants.{AtMost, Term}
 use Rattle.nz_log.specs.Atoms.{IsLitIn, literal_in}
-use Rattle.nz_log.proofs.Summing.{multiple_added, no_bound, other_bound, units_added, units_at}
+use Rattle.nz_log.proofs.MultipleSums.{multiple_added, no_bound, other_bound, units_added, units_at}
 use Rattle.nz_log.proofs.log.Log.add_multiple.Goals as goal
 
 pub returns-then-multiple-clause-units : goal.returns-then-multiple-clause-units

@@ -3,7 +3,7 @@ use Rattle.std.proofs.Common.{subst}
 use Rattle.nz_log.specs.Logs.{JoinsAtoms, LogState}
 use Rattle.nz_log.specs.Stored.{log_of}
 use Rattle.nz_log.proofs.AtomLiterals.{log_joins}
-use Rattle.nz_log.proofs.Ordering.{told_ordered}
+use Rattle.nz_log.proofs.PremiseOrder.{told_ordered}
 use Rattle.nz_log.proofs.log.Log.bound_atom.Goals as goal
 
 pub invariant_of-self : goal.invariant_of-self

@@ -2,12 +2,12 @@
 use Rattle.std.proofs.Common.{◌≡◌, ℕ, List, ◌++◌, Result, Err, sym, ap, subst, ◌∙◌}
 use Rattle.std.specs.Prelude.{IfErr}
 use Rattle.std.proofs.lemmas.Result.{err_from_is_err_and}
-use Rattle.nz_spec.specs.Steps.{IsSortedStep, branch_step}
-use Rattle.nz_spec.specs.Table.{Node, IsTable}
-use Rattle.nz_lin.specs.declared.form.LinStop.{LinStop}
+use Rattle.nz_spec.specs.clauses.Steps.{IsSortedStep, branch_step}
+use Rattle.nz_spec.specs.terms.Table.{Node, IsTable}
+use Rattle.nz_term.specs.declared.stops.ArithmeticStop.{ArithmeticStop}
 use Rattle.nz_lin.specs.Bounds.{HasUnits, literal_over}
 use Rattle.nz_lin.specs.Forms.{parts_over}
-use Rattle.nz_lin.specs.Stops.{IsStopAt}
+use Rattle.nz_term.specs.Stops.{IsStopAt}
 use Rattle.nz_log.specs.declared.atoms.Atom.{Atom}
 use Rattle.nz_log.specs.declared.atoms.Atom.TheVariants.{AtMost}
 use Rattle.nz_log.specs.declared.lits.Lit.{Lit}
@@ -15,12 +15,12 @@ use Rattle.nz_log.specs.Atoms.{AreAtoms, AreWithin, IsLitIn, literal_in}
 use Rattle.nz_log.specs.Axioms.{IsClauseOf, axiom_step, branch_of, first_wide_in_step}
 use Rattle.nz_log.specs.Logs.{JoinsAtoms, LogState, Puts, axiom_entry}
 use Rattle.nz_log.specs.Sound.{IsLog}
-use Rattle.nz_log.proofs.Agreeing.{literals_agree}
-use Rattle.nz_log.proofs.Branching.{both_in, branch_over, branch_sorted, branch_stops, first_in, first_says, two_lits}
-use Rattle.nz_log.proofs.Dropping.{joined_in_order}
-use Rattle.nz_log.proofs.Extending.{atom_wider}
-use Rattle.nz_log.proofs.Joining.{joins_twice, puts_after}
-use Rattle.nz_log.proofs.Ruling.{put_over_all}
+use Rattle.nz_log.proofs.LiteralAgreement.{literals_agree}
+use Rattle.nz_log.proofs.IntegerBranches.{both_in, branch_over, branch_sorted, branch_stops, first_in, first_says, two_lits}
+use Rattle.nz_log.proofs.DroppedLevels.{joined_in_order}
+use Rattle.nz_log.proofs.LiteralPreservation.{atom_wider}
+use Rattle.nz_log.proofs.JoinedAtoms.{joins_twice, puts_after}
+use Rattle.nz_log.proofs.ArithmeticRules.{put_over_all}
 use Rattle.nz_log.proofs.log.Log.branch.Goals as goal
 use Rattle.nz_log.proofs.log.Log.branch.Goals.{In_ok-put_axiom}
 
@@ -64,7 +64,7 @@ returns-in_err-other-clause-stop c =
     let error = err_from_is_err_and c.from_residual.result c.from_residual.ensures.1 in
     let all : (ns : List Node) → HasUnits ns b → IsStopAt (first_wide_in_step ns (branch_step (parts_over ns b.sides.parts) b.sides.offset)) stop =
     λ ns units. branch_stops (parts_over ns b.sides.parts) b.sides.offset (c.requires.integral ns units) c.requires.whole ns stop (c.in_err-other.ensures.literal ns units) in
-    subst (λ (r : Result ℕ LinStop). IfErr r (λ st. (ns : List Node) → HasUnits ns b → IsStopAt (first_wide_in_step ns (branch_step (parts_over ns b.sides.parts) b.sides.offset)) st))
+    subst (λ (r : Result ℕ ArithmeticStop). IfErr r (λ st. (ns : List Node) → HasUnits ns b → IsStopAt (first_wide_in_step ns (branch_step (parts_over ns b.sides.parts) b.sides.offset)) st))
     (sym (error.1 ∙ ap Err error.2)) all
 
 pub returns-in_err-second-clause-sound : goal.returns-in_err-second-clause-sound

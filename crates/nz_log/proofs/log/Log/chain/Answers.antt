@@ -5,8 +5,8 @@ use Rattle.std.proofs.lemmas.List.Elements.{recursion_from_All}
 use Rattle.nz_log.specs.declared.origins.Link.{Link}
 use Rattle.nz_log.specs.Atoms.{IsLitIn}
 use Rattle.nz_log.specs.Logs.{LogState, chain_entry, chain_of, level_at, level_of_links, level_with, IsLive, Puts, RestsOn}
-use Rattle.nz_log.proofs.Growing.{chain_grows}
-use Rattle.nz_log.proofs.Ordering.{chain_rests}
+use Rattle.nz_log.proofs.ChainGrowth.{chain_grows}
+use Rattle.nz_log.proofs.PremiseOrder.{chain_rests}
 use Rattle.nz_log.proofs.Soundness.{chain_in_order, level_grows, rule_keeps_order}
 use Rattle.nz_log.proofs.log.Log.chain.Goals as goal
 

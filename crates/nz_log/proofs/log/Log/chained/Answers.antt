@@ -1,12 +1,12 @@
 -- The set of the first clause, and then one link after another.
 use Rattle.std.proofs.Common.{◌≡◌, List, ap, sym, ◌∙◌, get_or, false, rules}
-use Rattle.nz_spec.specs.Literal.{once}
+use Rattle.nz_spec.specs.clauses.Literal.{once}
 use Rattle.nz_log.specs.declared.lits.Lit.{Lit}
 use Rattle.nz_log.specs.declared.origins.Link.{Link}
 use Rattle.nz_log.specs.Lits.{are_same_lit, lit_resolvent}
 use Rattle.nz_log.specs.Logs.{literals_at}
-use Rattle.nz_log.proofs.Chaining.{chained_next, chained_of_set, resolvent_set}
-use Rattle.nz_log.proofs.Gathering.{set_of_set}
+use Rattle.nz_log.proofs.ChainLinks.{chained_next, chained_of_set, resolvent_set}
+use Rattle.nz_log.proofs.LiteralSets.{set_of_set}
 use Rattle.nz_log.proofs.log.Log.chained.Goals as goal
 
 pub loop-link-init : goal.loop-link-init

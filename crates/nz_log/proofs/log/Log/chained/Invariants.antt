@@ -1,5 +1,5 @@
 use Rattle.std.proofs.Common.{◌≡◌, drop}
-use Rattle.nz_spec.specs.Literal.{once}
+use Rattle.nz_spec.specs.clauses.Literal.{once}
 use Rattle.nz_log.specs.Lits.{are_same_lit}
 use Rattle.nz_log.specs.Logs.{chained, literals_at}
 use Rattle.nz_log.proofs.log.Log.chained.Given as goal

@@ -2,27 +2,27 @@
 use Rattle.std.proofs.Common.{◌≡◌, ℕ, List, [], ◌∷◌, ◌++◌, Result, Err, refl, sym, ap, subst, ◌∙◌, rules}
 use Rattle.std.specs.Prelude.{IfErr}
 use Rattle.std.proofs.lemmas.Result.{err_from_is_err_and}
-use Rattle.nz_spec.specs.Literal.{once}
-use Rattle.nz_spec.specs.Steps.{cut_step}
-use Rattle.nz_spec.specs.Table.{Node, IsTable}
-use Rattle.nz_lin.specs.declared.form.LinStop.{LinStop}
-use Rattle.nz_lin.specs.declared.form.LinStop.TheVariants.{Wide}
+use Rattle.nz_spec.specs.clauses.Literal.{once}
+use Rattle.nz_spec.specs.clauses.Steps.{cut_step}
+use Rattle.nz_spec.specs.terms.Table.{Node, IsTable}
+use Rattle.nz_term.specs.declared.stops.ArithmeticStop.{ArithmeticStop}
+use Rattle.nz_term.specs.declared.stops.ArithmeticStop.TheVariants.{Wide}
 use Rattle.nz_lin.specs.Bounds.{bound_over}
-use Rattle.nz_lin.specs.Stops.{IsStopAt}
+use Rattle.nz_term.specs.Stops.{IsStopAt}
 use Rattle.nz_log.specs.declared.atoms.Atom.{Atom}
 use Rattle.nz_log.specs.declared.lits.Lit.{Lit}
-use Rattle.nz_log.specs.declared.multiples.Multiple.{Multiple}
+use Rattle.nz_log.specs.declared.multiples.LitMultiple.{LitMultiple}
 use Rattle.nz_log.specs.Atoms.{AreAtoms, AreWithin}
 use Rattle.nz_log.specs.Axioms.{AreMultiplesIn, IsClauseOf, cut_of, first_wide_in_step, multiples_in, negated_lits}
 use Rattle.nz_log.specs.Lits.{are_same_lit}
 use Rattle.nz_log.specs.Logs.{LogState, Puts, axiom_entry}
 use Rattle.nz_log.specs.Sound.{IsLog}
-use Rattle.nz_log.proofs.Agreeing.{literals_agree}
-use Rattle.nz_log.proofs.Cutting.{cut_is, cut_limit_stops, cut_sorted, cut_sum_stops, cut_within, joined_stay}
-use Rattle.nz_log.proofs.Dropping.{joined_in_order}
-use Rattle.nz_log.proofs.Extending.{axiom_in_stays, axiom_in_wider}
-use Rattle.nz_log.proofs.Joining.{puts_after}
-use Rattle.nz_log.proofs.Ruling.{put_over_all}
+use Rattle.nz_log.proofs.LiteralAgreement.{literals_agree}
+use Rattle.nz_log.proofs.IntegerCuts.{cut_is, cut_limit_stops, cut_sorted, cut_sum_stops, cut_within, joined_stay}
+use Rattle.nz_log.proofs.DroppedLevels.{joined_in_order}
+use Rattle.nz_log.proofs.LiteralPreservation.{axiom_in_stays, axiom_in_wider}
+use Rattle.nz_log.proofs.JoinedAtoms.{puts_after}
+use Rattle.nz_log.proofs.ArithmeticRules.{put_over_all}
 use Rattle.nz_log.proofs.log.Log.cut.Goals as goal
 use Rattle.nz_log.proofs.log.Log.cut.Goals.{In_ok-put_axiom}
 
@@ -40,7 +40,7 @@ put c =
     let multiples : c.in_ok-multiples.multiples.items ≡ c.args.multiples.now = search rules in
     puts_after c.args.self.now mid new id (axiom_entry new (cut_of c.args.multiples.now) (lits c)) c.in_ok-last.ensures.joins
     (subst (λ (ls : List Lit). Puts mid id (axiom_entry new (cut_of c.args.multiples.now) (once are_same_lit ls)) new) literals
-    (subst (λ (ms : List Multiple). Puts mid id (axiom_entry new (cut_of ms) (once are_same_lit c.deref.result.now)) new) multiples c.in_ok-put_axiom.ensures.made))
+    (subst (λ (ms : List LitMultiple). Puts mid id (axiom_entry new (cut_of ms) (once are_same_lit c.deref.result.now)) new) multiples c.in_ok-put_axiom.ensures.made))
 
 over : (c : In_ok-put_axiom) (ns : List Node) → IsTable ns → AreMultiplesIn ns c.args.self.now.atoms c.args.multiples.now
     → IsClauseOf ns c.put_axiom.new.self.atoms (cut_of c.args.multiples.now) (lits c)
@@ -64,20 +64,20 @@ returns-in_err-sum-clause-stop c =
     let all : (ns : List Node) → IsTable ns → AreMultiplesIn ns old ms → IsStopAt (first_wide_in_step ns (cut_step (multiples_in ns old ms))) stop =
     λ ns table within.
     cut_sum_stops ns (multiples_in ns old ms) (c.requires.multiples ns table within) (c.requires.integral ns table within) stop (c.in_err-sum.ensures.sum ns table within) in
-    subst (λ (r : Result ℕ LinStop). IfErr r (λ st. (ns : List Node) → IsTable ns → AreMultiplesIn ns old ms → IsStopAt (first_wide_in_step ns (cut_step (multiples_in ns old ms))) st))
+    subst (λ (r : Result ℕ ArithmeticStop). IfErr r (λ st. (ns : List Node) → IsTable ns → AreMultiplesIn ns old ms → IsStopAt (first_wide_in_step ns (cut_step (multiples_in ns old ms))) st))
     (sym (error.1 ∙ ap Err error.2)) all
 
 pub returns-in_err-limit-clause-stop : goal.returns-in_err-limit-clause-stop
 returns-in_err-limit-clause-stop c =
     let old = c.args.self.now.atoms in
     let ms = c.args.multiples.now in
-    let stop : LinStop = Wide c.in_err-limit.field-0.0 in
+    let stop : ArithmeticStop = Wide c.in_err-limit.field-0.0 in
     let error = err_from_is_err_and c.from_residual-in_err-limit.result c.from_residual-in_err-limit.ensures.1 in
     let all : (ns : List Node) → IsTable ns → AreMultiplesIn ns old ms → IsStopAt (first_wide_in_step ns (cut_step (multiples_in ns old ms))) stop =
     λ ns table within.
     cut_limit_stops ns (multiples_in ns old ms) (c.requires.multiples ns table within) (c.requires.integral ns table within) (bound_over ns c.in_ok-sum.sum) stop
     (c.in_ok-sum.ensures.sum ns table within).0 (c.in_err-limit.ensures.rounded ns) in
-    subst (λ (r : Result ℕ LinStop). IfErr r (λ st. (ns : List Node) → IsTable ns → AreMultiplesIn ns old ms → IsStopAt (first_wide_in_step ns (cut_step (multiples_in ns old ms))) st))
+    subst (λ (r : Result ℕ ArithmeticStop). IfErr r (λ st. (ns : List Node) → IsTable ns → AreMultiplesIn ns old ms → IsStopAt (first_wide_in_step ns (cut_step (multiples_in ns old ms))) st))
     (sym (error.1 ∙ ap Err error.2)) all
 
 pub returns-in_err-push-clause-sound : goal.returns-in_err-push-clause-sound

@@ -3,9 +3,9 @@ use Rattle.std.proofs.Common.{ap, subst, ◌∙◌}
 use Rattle.std.specs.Prelude.{option_map}
 use Rattle.nz_log.specs.Logs.{LogState, Drops}
 use Rattle.nz_log.specs.Stored.{entry_of, log_of}
-use Rattle.nz_log.proofs.Dropping.{drops_in_order}
+use Rattle.nz_log.proofs.DroppedLevels.{drops_in_order}
 use Rattle.nz_log.proofs.Entries.{drops_from}
-use Rattle.nz_log.proofs.Ordering.{drops_ordered}
+use Rattle.nz_log.proofs.PremiseOrder.{drops_ordered}
 use Rattle.nz_log.proofs.log.Log.drop_above.Goals as goal
 
 -- what the calls did to the fields

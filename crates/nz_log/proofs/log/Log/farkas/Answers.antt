@@ -4,20 +4,20 @@ use Rattle.std.specs.Prelude.{IfErr}
 use Rattle.std.proofs.lemmas.Result.{err_from_is_err_and}
 use Rattle.nz_base.specs.declared.errors.Memory.{Memory}
 use Rattle.nz_fractions.specs.Fraction.{first_wide}
-use Rattle.nz_spec.specs.Literal.{once}
-use Rattle.nz_spec.specs.Steps.{farkas_step}
-use Rattle.nz_spec.specs.Table.{Node, IsTable}
-use Rattle.nz_lin.specs.declared.form.LinStop.{LinStop}
+use Rattle.nz_spec.specs.clauses.Literal.{once}
+use Rattle.nz_spec.specs.clauses.Steps.{farkas_step}
+use Rattle.nz_spec.specs.terms.Table.{Node, IsTable}
+use Rattle.nz_term.specs.declared.stops.ArithmeticStop.{ArithmeticStop}
 use Rattle.nz_lin.specs.Bounds.{bound_over}
-use Rattle.nz_lin.specs.Stops.{IsStopAt}
+use Rattle.nz_term.specs.Stops.{IsStopAt}
 use Rattle.nz_log.specs.declared.atoms.Atom.{Atom}
 use Rattle.nz_log.specs.declared.lits.Lit.{Lit}
-use Rattle.nz_log.specs.declared.multiples.Multiple.{Multiple}
+use Rattle.nz_log.specs.declared.multiples.LitMultiple.{LitMultiple}
 use Rattle.nz_log.specs.Atoms.{AreAtoms, AreWithin}
 use Rattle.nz_log.specs.Axioms.{AreMultiplesIn, IsAxiom, IsClauseOf, farkas_of, first_wide_in_step, multiples_in, negated_lits}
 use Rattle.nz_log.specs.Lits.{are_same_lit}
 use Rattle.nz_log.specs.Logs.{Puts, axiom_entry}
-use Rattle.nz_log.proofs.Agreeing.{literals_agree}
+use Rattle.nz_log.proofs.LiteralAgreement.{literals_agree}
 use Rattle.nz_log.proofs.Axiomatic.{axiom_grows, axiom_in_order, axiom_made, farkas_gives, farkas_is, farkas_operations, refuted_within}
 use Rattle.nz_log.proofs.log.Log.farkas.Goals as goal
 use Rattle.nz_log.proofs.log.Log.farkas.Goals.{In_ok-put_axiom}
@@ -31,7 +31,7 @@ put_entry c =
     let literals : c.deref.result.now ≡ negated_lits c.args.multiples.now = c.deref.ensures.value ∙ c.in_ok-literals.ensures.literals in
     let multiples : c.in_ok-multiples.multiples.items ≡ c.args.multiples.now = search rules in
     subst (λ (ls : List Lit). Puts s id (axiom_entry r (farkas_of c.args.multiples.now) (once are_same_lit ls)) r) literals
-    (subst (λ (ms : List Multiple). Puts s id (axiom_entry r (farkas_of ms) (once are_same_lit c.deref.result.now)) r) multiples c.in_ok-put_axiom.ensures.made)
+    (subst (λ (ms : List LitMultiple). Puts s id (axiom_entry r (farkas_of ms) (once are_same_lit c.deref.result.now)) r) multiples c.in_ok-put_axiom.ensures.made)
 
 pub returns-in_err-_sum-clause-stop : goal.returns-in_err-_sum-clause-stop
 returns-in_err-_sum-clause-stop c =
@@ -44,7 +44,7 @@ returns-in_err-_sum-clause-stop c =
     (let agree = literals_agree c.tells_literals.ensures.tells c.one_number.ensures.one ns table s.atoms c.atom_count.ensures.atoms in
     subst (λ o. IsStopAt (first_wide o) stop) (sym (farkas_operations ns s.atoms agree ms within (c.requires.multiples ns table within)))
     (c.in_err-_sum.ensures.sum ns table within)) in
-    subst (λ (r : Result ℕ LinStop). IfErr r (λ st. (ns : List Node) → IsTable ns → AreMultiplesIn ns s.atoms ms → IsStopAt (first_wide_in_step ns (farkas_step (multiples_in ns s.atoms ms))) st))
+    subst (λ (r : Result ℕ ArithmeticStop). IfErr r (λ st. (ns : List Node) → IsTable ns → AreMultiplesIn ns s.atoms ms → IsStopAt (first_wide_in_step ns (farkas_step (multiples_in ns s.atoms ms))) st))
     (sym (error.1 ∙ ap Err error.2)) all
 
 pub returns-clause-made : goal.returns-clause-made

@@ -1,15 +1,15 @@
 -- The atom of the term joins, and then the clause is put.
 use Rattle.std.proofs.Common.{◌≡◌, List, [], ◌∷◌, ap, sym, subst, ◌∙◌, rules}
 use Rattle.std.specs.Prelude.{IfOk}
-use Rattle.nz_spec.specs.Literal.{once}
+use Rattle.nz_spec.specs.clauses.Literal.{once}
 use Rattle.nz_log.specs.declared.atoms.Atom.{Atom}
 use Rattle.nz_log.specs.declared.lits.Lit.{Lit}
 use Rattle.nz_log.specs.Atoms.{AreAtoms, HasTerm, lit_of}
 use Rattle.nz_log.specs.Lits.{are_same_lit}
 use Rattle.nz_log.specs.Logs.{assertion_of, given_entry, made_entry, Puts}
-use Rattle.nz_log.specs.TermLits.{yes}
-use Rattle.nz_log.proofs.Dropping.{joined_in_order}
-use Rattle.nz_log.proofs.Joining.{err_joins, puts_made}
+use Rattle.nz_term.specs.TermLits.{yes}
+use Rattle.nz_log.proofs.DroppedLevels.{joined_in_order}
+use Rattle.nz_log.proofs.JoinedAtoms.{err_joins, puts_made}
 use Rattle.nz_log.proofs.Soundness.{given_in_order, level_grows, rule_in_order}
 use Rattle.nz_log.proofs.log.Log.given.Goals as goal
 use Rattle.nz_log.proofs.log.Log.given.Goals.{After-put_leaf}

@@ -1,9 +1,9 @@
 -- One literal more.
 use Rattle.std.proofs.Common.{◌≡◌, ◌∷◌, [], ◌++◌, get_or, false, rules}
-use Rattle.nz_log.specs.declared.term_lits.TermLit.{TermLit}
+use Rattle.nz_term.specs.declared.term_lits.TermLit.{TermLit}
 use Rattle.nz_log.specs.Atoms.{HasTerm, lit_of}
 use Rattle.nz_log.proofs.AtomLiterals.{lits_more}
-use Rattle.nz_log.proofs.Joining.{joins_twice}
+use Rattle.nz_log.proofs.JoinedAtoms.{joins_twice}
 use Rattle.nz_log.proofs.log.Log.lits_of.Goals as goal
 
 pub loop-literal-preserved : goal.loop-literal-preserved

@@ -1,6 +1,6 @@
 use Rattle.std.proofs.Common.{◌≡◌, take}
 use Rattle.std.specs.List.{AllByRecursion}
-use Rattle.nz_log.specs.declared.term_lits.TermLit.{TermLit}
+use Rattle.nz_term.specs.declared.term_lits.TermLit.{TermLit}
 use Rattle.nz_log.specs.Atoms.{AreAtoms, HasTerm, lits_of}
 use Rattle.nz_log.specs.Logs.{JoinsAtoms}
 use Rattle.nz_log.proofs.log.Log.lits_of.Given as goal

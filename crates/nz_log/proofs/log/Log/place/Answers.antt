@@ -2,8 +2,8 @@
 use Rattle.std.proofs.Common.{ap}
 use Rattle.nz_log.specs.Logs.{LogState}
 use Rattle.nz_log.specs.Stored.{log_of}
-use Rattle.nz_log.proofs.Dropping.{told_in_order}
-use Rattle.nz_log.proofs.Ordering.{told_ordered}
+use Rattle.nz_log.proofs.DroppedLevels.{told_in_order}
+use Rattle.nz_log.proofs.PremiseOrder.{told_ordered}
 use Rattle.nz_log.proofs.log.Log.place.Goals as goal
 
 pub invariant_of-self : goal.invariant_of-self

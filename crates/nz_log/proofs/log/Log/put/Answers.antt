@@ -3,7 +3,7 @@ use Rattle.std.proofs.Common.{◌≡◌, ℕ, ◌<◌, length, subst, sym, rules
 use Rattle.nz_log.specs.Logs.{LogState, IsLive, RestsOn}
 use Rattle.nz_log.specs.Stored.{entry_of, log_of, origin_of}
 use Rattle.nz_log.proofs.Entries.{puts_last}
-use Rattle.nz_log.proofs.Ordering.{puts_ordered}
+use Rattle.nz_log.proofs.PremiseOrder.{puts_ordered}
 use Rattle.nz_log.proofs.log.Log.put.Goals as goal
 
 pub invariant_of-self-2 : goal.invariant_of-self-2

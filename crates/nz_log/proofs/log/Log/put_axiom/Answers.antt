@@ -1,10 +1,10 @@
 -- The level of the clause is the same beside what is there then.
 use Rattle.std.proofs.Common.{refl}
-use Rattle.nz_spec.specs.Literal.{once}
+use Rattle.nz_spec.specs.clauses.Literal.{once}
 use Rattle.nz_log.specs.Lits.{are_same_lit}
 use Rattle.nz_log.specs.Logs.{axiom_of}
 use Rattle.nz_log.specs.Stored.{axiom_in}
-use Rattle.nz_log.proofs.Joining.{nothing_joins, puts_made}
+use Rattle.nz_log.proofs.JoinedAtoms.{nothing_joins, puts_made}
 use Rattle.nz_log.proofs.log.Log.put_axiom.Goals as goal
 
 pub returns-clause-made : goal.returns-clause-made

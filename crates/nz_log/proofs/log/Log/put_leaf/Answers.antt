@@ -1,6 +1,6 @@
 -- What rests on nothing may stand anywhere.
 use Rattle.nz_log.specs.Stored.{origin_of}
-use Rattle.nz_log.proofs.Ordering.{leaf_rests}
+use Rattle.nz_log.proofs.PremiseOrder.{leaf_rests}
 use Rattle.nz_log.proofs.log.Log.put_leaf.Goals as goal
 
 pub put-requires : goal.put-requires

@@ -1,10 +1,10 @@
 use Rattle.std.proofs.Common.{List, drop}
-use Rattle.nz_spec.specs.Farkas.{multiples_onto}
-use Rattle.nz_spec.specs.FormOf.{number_in}
-use Rattle.nz_spec.specs.Table.{Node, IsTable}
+use Rattle.nz_spec.specs.clauses.Farkas.{multiples_onto}
+use Rattle.nz_spec.specs.terms.FormOf.{number_in}
+use Rattle.nz_spec.specs.terms.Table.{Node, IsTable}
 use Rattle.nz_lin.specs.Bounds.{HasUnits, bound_over}
 use Rattle.nz_log.specs.Axioms.{AreMultiplesIn, multiples_in, sum_in}
-use Rattle.nz_log.proofs.Operations.{IsSame}
+use Rattle.nz_spec.specs.numbers.Computation.{IsSame}
 use Rattle.nz_log.proofs.log.Log.sum.Given as goal
 
 -- the sum so far, with the multiples that are left, comes to the same as all of them, and stops at the same

@@ -2,7 +2,7 @@
 use Rattle.std.proofs.Common.{◌≡◌, ◌∷◌, [], ◌++◌, get_or, rules}
 use Rattle.nz_log.specs.Atoms.{HasTerm, term_place}
 use Rattle.nz_log.proofs.KeptAtoms.{places_more}
-use Rattle.nz_log.proofs.Joining.{joins_twice}
+use Rattle.nz_log.proofs.JoinedAtoms.{joins_twice}
 use Rattle.nz_log.proofs.log.Log.term_atoms.Goals as goal
 
 pub loop-term-preserved : goal.loop-term-preserved

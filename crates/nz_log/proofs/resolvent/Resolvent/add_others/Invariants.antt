@@ -1,6 +1,6 @@
 use Rattle.std.proofs.Common.{◌≡◌, drop}
 use Rattle.std.specs.Prelude.{fold}
-use Rattle.nz_spec.specs.Literal.{with_one, without}
+use Rattle.nz_spec.specs.clauses.Literal.{with_one, without}
 use Rattle.nz_log.specs.Lits.{are_same_lit}
 use Rattle.nz_log.proofs.resolvent.Resolvent.add_others.Given as goal
 

@@ -1,6 +1,6 @@
 -- What has no mark isn't there.
 use Rattle.std.proofs.Common.{ap, ◌∙◌}
-use Rattle.nz_spec.specs.Literal.{without}
+use Rattle.nz_spec.specs.clauses.Literal.{without}
 use Rattle.nz_log.specs.Lits.{are_same_lit}
 use Rattle.nz_log.specs.Marked.{has_mark}
 use Rattle.nz_log.proofs.LastMarked.{last_without}

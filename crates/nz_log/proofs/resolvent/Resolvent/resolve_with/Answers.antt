@@ -1,10 +1,10 @@
 -- The resolvent is made of the set of the first clause.
 use Rattle.std.proofs.Common.{ap, fold, ◌∙◌}
 use Rattle.std.proofs.lemmas.Result.{on_ok_weaker}
-use Rattle.nz_spec.specs.Literal.{with_one, without}
+use Rattle.nz_spec.specs.clauses.Literal.{with_one, without}
 use Rattle.nz_log.specs.declared.lits.Lit.{Lit}
 use Rattle.nz_log.specs.Lits.{are_same_lit}
-use Rattle.nz_log.proofs.Gathering.{resolvent_of_set}
+use Rattle.nz_log.proofs.LiteralSets.{resolvent_of_set}
 use Rattle.nz_log.proofs.resolvent.Resolvent.resolve_with.Goals as goal
 
 pub returns : goal.returns

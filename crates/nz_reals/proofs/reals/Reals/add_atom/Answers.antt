@@ -1,15 +1,15 @@
 use Rattle.std.proofs.Common.{rules, ◌≡◌, ◌<◌, ℕ, Some, Err, length, map, sym, ap, ◌∙◌, subst}
 use Rattle.std.specs.Prelude.{slice_get, ⊤}
 use Rattle.std.proofs.lemmas.Option.{slice_get_within}
-use Rattle.nz_log.specs.declared.stop.Stop.TheVariants.{Memory}
-use Rattle.nz_log.specs.Standing.{Ends}
+use Rattle.nz_search.specs.declared.stop.Stop.TheVariants.{Memory}
+use Rattle.nz_search.specs.Standing.{Ends}
 use Rattle.nz_simplex.specs.State as simplex
 use Rattle.nz_simplex.specs.State.{State}
-use Rattle.nz_reals.specs.declared.reals.Told.{Told}
+use Rattle.nz_reals.specs.declared.reals.MarkedLiteral.{MarkedLiteral}
 use Rattle.nz_reals.specs.Known.{known_of}
 use Rattle.nz_reals.specs.Stands.{IsAt}
-use Rattle.nz_reals.proofs.Adding.{learned, may_add, named_sum, normal_at, of_added, of_term, sum_units}
-use Rattle.nz_reals.proofs.Ending.{ends_err, known_more_at, stands_legal}
+use Rattle.nz_reals.proofs.AddedAtoms.{learned, may_add, named_sum, normal_at, of_added, of_term, sum_units}
+use Rattle.nz_reals.proofs.WorkAfterJoins.{ends_err, known_more_at, stands_legal}
 use Rattle.nz_reals.proofs.reals.Reals.add_atom.Goals as goal
 
 pub returns-in_default-clause-of : goal.returns-in_default-clause-of
@@ -79,7 +79,7 @@ returns-clause-ends c = λ ns q lit known stands.
     let normal = normal_at c.args.log.now.atoms c.args.id c.in-AtMost.bound c.atom_count.ensures.atoms l.at in
     let named = named_sum ns c.args.log.now.atoms c.args.id c.args.number c.args.work.now c.in-AtMost.bound c.in_ok-sum.sum l.at normal l.is known in
     let mid = c.in_ok-var.ensures.ends ns q units named stands in
-    let untold = ap (map (λ (y : Told). y.literal)) c.form_for.ensures.adds.told ∙ c.requires.untold in
+    let untold = ap (map (λ (y : MarkedLiteral). y.literal)) c.form_for.ensures.adds.told ∙ c.requires.untold in
     record {
       point = mid.point;
       legal = mid.legal;

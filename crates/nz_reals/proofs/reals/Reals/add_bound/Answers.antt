@@ -1,4 +1,4 @@
-use Rattle.std.proofs.Common.{◌≡◌, inl, ℕ, List, Some, ap, subst}
+use Rattle.std.proofs.Common.{◌≡◌, inl, ℕ, List, Some, subst}
 use Rattle.std.specs.Prelude.{IfOk, IfSome, slice_get}
 use Rattle.nz_lin.specs.declared.form.Part.{Part}
 use Rattle.nz_reals.proofs.Arranged.{arranged_more, may_add_form}

@@ -1,8 +1,8 @@
 use Rattle.std.proofs.Common.{◌≡◌, ◌∷◌, ◌++◌, [], rules, subst, sym}
 use Rattle.std.specs.Prelude.{All, IfSome}
-use Rattle.nz_log.specs.Theories.{IsClash}
+use Rattle.nz_search.specs.Theories.{IsClash}
 use Rattle.nz_reals.specs.Exclusions.{IsExclusion}
-use Rattle.nz_reals.proofs.Excluding.{exclusions_kept, exclusions_more}
+use Rattle.nz_reals.proofs.ExclusionClauses.{exclusions_kept, exclusions_more}
 use Rattle.nz_reals.proofs.reals.Reals.add_exclusion.Goals as goal
 
 pub returns-in_ok-push-clause-clauses : goal.returns-in_ok-push-clause-clauses

@@ -1,6 +1,6 @@
 use Rattle.std.proofs.Common.{◌≡◌, inr, List, sym, subst}
 use Rattle.std.specs.HashMap.{get}
-use Rattle.nz_spec.specs.Table.{Node}
+use Rattle.nz_spec.specs.terms.Table.{Node}
 use Rattle.nz_lin.specs.declared.form.Part.{Part}
 use Rattle.nz_lin.specs.Forms.{AreUnits}
 use Rattle.nz_log.specs.Keys.{are_same_atom}

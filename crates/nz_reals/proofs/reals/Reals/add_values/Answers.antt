@@ -1,15 +1,16 @@
 use Rattle.std.proofs.Common.{rules, ◌≡◌, ◌<◌, List, Result, Err, length, ap, arith, subst, sym}
 use Rattle.std.specs.Prelude.{IfErr, ⊤}
-use Rattle.nz_spec.specs.Bland.{Point}
-use Rattle.nz_spec.specs.Form as spec
-use Rattle.nz_spec.specs.Literal.{Literal}
-use Rattle.nz_log.specs.declared.place.Place.{Place}
-use Rattle.nz_log.specs.declared.stop.Stop.{Stop}
-use Rattle.nz_log.specs.Places.{IsPlaceIn, OnWide}
+use Rattle.nz_spec.specs.simplex.Bland.{Point}
+use Rattle.nz_spec.specs.terms.Form as spec
+use Rattle.nz_spec.specs.clauses.Literal.{Literal}
+use Rattle.nz_place.specs.declared.place.Place.{Place}
+use Rattle.nz_search.specs.declared.stop.Stop.{Stop}
+use Rattle.nz_place.specs.Places.{IsPlaceIn}
+use Rattle.nz_search.specs.Places.{OnWide}
 use Rattle.nz_reals.specs.Stands.{IsAt}
 use Rattle.nz_reals.specs.State.{Theory}
-use Rattle.nz_reals.proofs.Choosing.{adds_values, puts_more}
-use Rattle.nz_reals.proofs.Limiting.{has_values, limit_stands, model_stands}
+use Rattle.nz_reals.proofs.ConstantValues.{adds_values, puts_more}
+use Rattle.nz_reals.proofs.InfinitesimalLimits.{has_values, limit_stands, model_stands}
 use Rattle.nz_reals.proofs.Worths.{has_worths}
 use Rattle.nz_reals.proofs.reals.Reals.add_values.Goals as goal
 

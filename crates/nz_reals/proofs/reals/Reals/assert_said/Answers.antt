@@ -2,7 +2,7 @@ use Rattle.std.proofs.Common.{rules, ◌≡◌, ◌++◌, ◌∷◌, [], List, S
 use Rattle.std.specs.HashMap.{get}
 use Rattle.std.proofs.lemmas.Option.{get_or_from_slice_get, slice_get_within}
 use Rattle.nz_log.specs.Keys.{are_same_atom}
-use Rattle.nz_reals.specs.declared.reals.Told.{Told}
+use Rattle.nz_reals.specs.declared.reals.MarkedLiteral.{MarkedLiteral}
 use Rattle.nz_reals.specs.Known.{known_of, said_of}
 use Rattle.nz_reals.specs.State.{Theory, known_at, known_list}
 use Rattle.nz_reals.specs.Stored.{IsStored}
@@ -53,4 +53,4 @@ returns-in-Clash-clause-clash c =
     let clash = ((c.in_ok-other.ensures.clash c.in-Clash.field-0 c.in-Clash.other).0 c.in-Clash.is).1 in
     let e = c.index.ensures in
     subst (λ (t : Theory). Clashes t c.args.literal (known_of c.args.bounded.now) c.index.result.now.literal) c.self.view_is
-    (clashes_here old c.args.literal (known_of c.args.bounded.now) (said_of c.args.said.now) c.len-reason.result c.in-Clash.other c.index.result.now.literal c.self.invariant.tolds c.requires.said place clash (λ x at. ap (λ (y : Told). y.literal) (sym (e ∙ ap (λ (ts : List Told). get_or ts c.in-Clash.other c.index.result.now) c.in_ok-reserve.ensures.items ∙ get_or_from_slice_get c.self.inside.told.items c.in-Clash.other x c.index.result.now at))))
+    (clashes_here old c.args.literal (known_of c.args.bounded.now) (said_of c.args.said.now) c.len-reason.result c.in-Clash.other c.index.result.now.literal c.self.invariant.tolds c.requires.said place clash (λ x at. ap (λ (y : MarkedLiteral). y.literal) (sym (e ∙ ap (λ (ts : List MarkedLiteral). get_or ts c.in-Clash.other c.index.result.now) c.in_ok-reserve.ensures.items ∙ get_or_from_slice_get c.self.inside.told.items c.in-Clash.other x c.index.result.now at))))

@@ -1,7 +1,7 @@
 use Rattle.std.proofs.Common.{ℕ, add-one, arith, subst, sym}
-use Rattle.nz_spec.specs.Infinitesimal.{IsLeastLimit}
+use Rattle.nz_spec.specs.numbers.Infinitesimal.{IsLeastLimit}
 use Rattle.nz_reals.specs.Limits.{pairs_below}
-use Rattle.nz_reals.proofs.Limiting.{numbers_more, one_least}
+use Rattle.nz_reals.proofs.InfinitesimalLimits.{numbers_more, one_least}
 use Rattle.nz_reals.proofs.reals.Reals.delta.Goals as goal
 
 pub loop-var-init : goal.loop-var-init

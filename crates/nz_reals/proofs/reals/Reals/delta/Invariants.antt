@@ -1,5 +1,5 @@
-use Rattle.nz_spec.specs.Infinitesimal.{IsLeastLimit}
-use Rattle.nz_spec.specs.ToldBounds.{AreNumbers}
+use Rattle.nz_spec.specs.numbers.Infinitesimal.{IsLeastLimit}
+use Rattle.nz_spec.specs.laws.ToldBounds.{AreNumbers}
 use Rattle.nz_reals.specs.Limits.{pairs_below, value_of}
 use Rattle.nz_reals.proofs.reals.Reals.delta.Given as goal
 

@@ -1,11 +1,11 @@
 use Rattle.std.proofs.Common.{List, [], ◌∷◌, subst, sym}
 use Rattle.nz_lists.proofs.Members.{has_first, has_more}
-use Rattle.nz_log.specs.declared.multiples.Multiple.{Multiple}
-use Rattle.nz_log.specs.declared.stop.Stop.{Stop}
-use Rattle.nz_log.specs.Places.{OnWide}
+use Rattle.nz_log.specs.declared.multiples.LitMultiple.{LitMultiple}
+use Rattle.nz_search.specs.declared.stop.Stop.{Stop}
+use Rattle.nz_search.specs.Places.{OnWide}
 use Rattle.nz_reals.specs.Tells.{AreOf, IsSumPlace, Refutes}
-use Rattle.nz_reals.proofs.Excluding.{adds_refuted}
-use Rattle.nz_reals.proofs.Telling.{opposed_refute}
+use Rattle.nz_reals.proofs.ExclusionClauses.{adds_refuted}
+use Rattle.nz_reals.proofs.BoundClashes.{opposed_refute}
 use Rattle.nz_reals.proofs.reals.Reals.exclusion.Goals as goal
 
 pub refute-requires-clause-refutes : goal.refute-requires-clause-refutes
@@ -34,7 +34,7 @@ returns-in-Err-Wide-clause-none c = λ is opposed.
     record {
       place = place;
       leaves = λ ns over.
-          subst (λ (ms : List Multiple). IsSumPlace ns t ms place) c.both_once.ensures.both
+          subst (λ (ms : List LitMultiple). IsSumPlace ns t ms place) c.both_once.ensures.both
           (subst (λ (e : Stop). OnWide e (IsSumPlace ns t c.both_once.result)) c.in-Err-Wide.field-0-is (c.in-Err-Wide.ensures.place ns over));
     }
 

@@ -5,7 +5,7 @@ use Rattle.std.proofs.lemmas.Option.{slice_get-get_or}
 use Rattle.nz_log.specs.Lits.{negated_lit}
 use Rattle.nz_reals.specs.declared.neighbours.Lower.{Lower}
 use Rattle.nz_reals.specs.Exclusions.{AreExcluded, AreJoined}
-use Rattle.nz_reals.proofs.Excluding.{IsExcluding, adds_more, excluding_held, excluding_more, neighbours_joined}
+use Rattle.nz_reals.proofs.ExclusionClauses.{IsExcluding, adds_more, excluding_held, excluding_more, neighbours_joined}
 use Rattle.nz_reals.proofs.reals.Reals.exclusions.Goals as goal
 use Rattle.nz_reals.proofs.reals.Reals.exclusions.Goals.{then-not-index+in_ok-add_exclusion, else-not-index}
 

@@ -1,4 +1,4 @@
-use Rattle.nz_reals.proofs.Excluding.{IsExcluding}
+use Rattle.nz_reals.proofs.ExclusionClauses.{IsExcluding}
 use Rattle.nz_reals.proofs.reals.Reals.exclusions.Given as goal
 
 abbrev pub invariant-loop-i : goal.invariant-loop-i

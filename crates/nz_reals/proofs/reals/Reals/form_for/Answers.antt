@@ -1,7 +1,7 @@
 use Rattle.std.proofs.Common.{sym, subst}
-use Rattle.nz_log.specs.Standing.{Ends}
+use Rattle.nz_search.specs.Standing.{Ends}
 use Rattle.nz_reals.specs.Stands.{IsAt}
-use Rattle.nz_reals.proofs.Ending.{form_ends}
+use Rattle.nz_reals.proofs.WorkAfterJoins.{form_ends}
 use Rattle.nz_reals.proofs.reals.Reals.form_for.Goals as goal
 
 pub returns-clause-ends : goal.returns-clause-ends

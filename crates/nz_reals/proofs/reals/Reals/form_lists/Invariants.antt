@@ -1,5 +1,5 @@
 use Rattle.std.proofs.Common.{◌≡◌, take}
-use Rattle.nz_reals.proofs.Starting.{lists_of}
+use Rattle.nz_reals.proofs.TheoryStarts.{lists_of}
 use Rattle.nz_reals.proofs.reals.Reals.form_lists.Given as goal
 
 abbrev pub invariant-loop-var : goal.invariant-loop-var

@@ -11,7 +11,7 @@ use Rattle.nz_reals.specs.Joins.{AddsForm, IsFree, MayAddSum}
 use Rattle.nz_reals.specs.State.{Theory, known_list}
 use Rattle.nz_reals.specs.Sums.{zero_bound}
 use Rattle.nz_reals.proofs.Arranged.{moves_then}
-use Rattle.nz_reals.proofs.Joining.{adds_form, key_apart, key_decided, finds_then, form_then, forms_then, tolds_then}
+use Rattle.nz_reals.proofs.JoinedForms.{adds_form, key_apart, key_decided, finds_then, form_then, forms_then, tolds_then}
 use Rattle.nz_reals.proofs.reals.Reals.join.Goals as goal
 
 pub invariant_of-self-2 : goal.invariant_of-self-2

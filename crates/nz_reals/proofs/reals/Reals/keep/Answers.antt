@@ -2,8 +2,8 @@ use Rattle.std.proofs.Common.{◌≡◌, ◌==◌, ◌<◌, ℕ, [], Some, None,
 use Rattle.std.specs.Prelude.{OnOk, slice_index_or}
 use Rattle.nz_reals.specs.Known.{known_of}
 use Rattle.nz_reals.specs.State.{Theory, known_at, known_list, told_lits}
-use Rattle.nz_reals.proofs.Keeping.{keeps, known_cases}
-use Rattle.nz_reals.proofs.Joining.{kept_tolds}
+use Rattle.nz_reals.proofs.KnownLists.{keeps, known_cases}
+use Rattle.nz_reals.proofs.JoinedForms.{kept_tolds}
 use Rattle.nz_reals.proofs.reals.Reals.keep.Goals as goal
 
 pub invariant_of-self : goal.invariant_of-self

@@ -1,7 +1,7 @@
 use Rattle.std.proofs.Common.{◌++◌, List, append_assoc, subst}
 use Rattle.std.proofs.lemmas.Result.{IfOk-weaker}
 use Rattle.nz_fractions.specs.Fraction.{Fraction}
-use Rattle.nz_spec.specs.Infinitesimal.{IsLeastLimit, Pair}
+use Rattle.nz_spec.specs.numbers.Infinitesimal.{IsLeastLimit, Pair}
 use Rattle.nz_trail.specs.declared.limits.Side.TheVariants.{Lower, Upper}
 use Rattle.nz_reals.specs.Limits.{listed, pair_on, pairs_of}
 use Rattle.nz_reals.proofs.reals.Reals.limited.Goals as goal

@@ -2,12 +2,12 @@ use Rattle.std.proofs.Common.{◌++◌, [], ◌∷◌, Option, refl, subst, sym}
 use Rattle.std.specs.Prelude.{if◌then◌else◌}
 use Rattle.std.proofs.lemmas.List.Elements.{All-from_recursion}
 use Rattle.nz_fractions.specs.Fraction.{Fraction, fraction_lt}
-use Rattle.nz_spec.specs.Infinitesimal.{IsLeastLimit, Pair, ◌≤δ◌}
+use Rattle.nz_spec.specs.numbers.Infinitesimal.{IsLeastLimit, Pair, ◌≤δ◌}
 use Rattle.nz_delta.specs.Pairs.{pair_of}
-use Rattle.nz_log.specs.declared.place.Place.{Place}
-use Rattle.nz_log.specs.declared.place.Site.TheVariants.{Limit}
+use Rattle.nz_place.specs.declared.place.Place.{Place}
+use Rattle.nz_place.specs.declared.place.Site.TheVariants.{Limit}
 use Rattle.nz_reals.specs.Limits.{IsLimitPlace, listed, pair_on}
-use Rattle.nz_reals.proofs.Limiting.{lesser_least, limit_stop, one_pair}
+use Rattle.nz_reals.proofs.InfinitesimalLimits.{lesser_least, limit_stop, one_pair}
 use Rattle.nz_reals.proofs.reals.Reals.limited_on.Goals as goal
 
 pub choose_delta-requires : goal.choose_delta-requires

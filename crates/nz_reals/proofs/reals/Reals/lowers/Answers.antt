@@ -4,7 +4,7 @@ use Rattle.std.proofs.lemmas.Fn.{always_returns_same}
 use Rattle.std.proofs.lemmas.List.{take_all}
 use Rattle.nz_reals.specs.declared.neighbours.Lower.{Lower}
 use Rattle.nz_reals.specs.Exclusions.{IsSaidLower}
-use Rattle.nz_reals.proofs.Lowering.{AreListed, listed_known, listed_more, listed_same, listed_sorted, lowers_sorted}
+use Rattle.nz_reals.proofs.LowerBounds.{AreListed, listed_known, listed_more, listed_same, listed_sorted, lowers_sorted}
 use Rattle.nz_reals.proofs.reals.Reals.lowers.Goals as goal
 use Rattle.nz_reals.proofs.reals.Reals.lowers.Goals.{in-Some+in_ok-push, in_default}
 

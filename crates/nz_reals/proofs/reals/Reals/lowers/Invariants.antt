@@ -1,5 +1,5 @@
 use Rattle.std.proofs.Common.{take}
-use Rattle.nz_reals.proofs.Lowering.{AreListed}
+use Rattle.nz_reals.proofs.LowerBounds.{AreListed}
 use Rattle.nz_reals.proofs.reals.Reals.lowers.Given as goal
 
 abbrev pub invariant-loop-atom : goal.invariant-loop-atom

@@ -1,5 +1,5 @@
-use Rattle.nz_log.specs.Notes.{places_of}
-use Rattle.nz_reals.proofs.Starting.{HasPlaces}
+use Rattle.nz_search.specs.Notes.{places_of}
+use Rattle.nz_reals.proofs.TheoryStarts.{HasPlaces}
 use Rattle.nz_reals.proofs.reals.Reals.places.Given as goal
 
 abbrev pub invariant-loop-var : goal.invariant-loop-var

@@ -1,8 +1,8 @@
 use Rattle.std.proofs.Common.{sym, subst}
-use Rattle.nz_log.specs.Standing.{Stands}
+use Rattle.nz_search.specs.Standing.{Stands}
 use Rattle.nz_reals.specs.Stands.{IsAt}
 use Rattle.nz_reals.specs.State.{Theory}
-use Rattle.nz_reals.proofs.Starting.{notes_start, starts_there}
+use Rattle.nz_reals.proofs.TheoryStarts.{notes_start, starts_there}
 use Rattle.nz_reals.proofs.reals.Reals.restart.Goals as goal
 
 pub returns-clause-notes : goal.returns-clause-notes

@@ -2,11 +2,11 @@ use Rattle.std.proofs.Common.{sym, ◌∙◌, subst}
 use Rattle.std.specs.Prelude.{IfErr}
 use Rattle.nz_reals.specs.State.{Theory, known_list}
 use Rattle.nz_reals.specs.Tells.{IsMoved}
-use Rattle.nz_reals.proofs.Placing.{noted_joined, place_in, stop_answer}
+use Rattle.nz_reals.proofs.WidePlaces.{noted_joined, place_in, stop_answer}
 use Rattle.nz_reals.proofs.reals.Reals.seek.Goals as goal
 use Rattle.nz_reals.proofs.reals.Reals.seek.Goals.{in-Ok-Feasible, in-Ok-Clash, in-Err-Spent, in-Err-Wide}
-use Rattle.nz_reals.proofs.Placing.{Placed}
-use Rattle.nz_log.specs.Places.{OnWide}
+use Rattle.nz_reals.proofs.WidePlaces.{Placed}
+use Rattle.nz_search.specs.Places.{OnWide}
 
 pub returns-clause-moved : goal.returns-clause-moved
 returns-clause-moved c =
@@ -33,6 +33,5 @@ returns-clause-place c = λ ns over.
           let place = w.in-Err-Wide.place in
           let is = stop_answer ns c.check.new.self _ w.in-Err-Wide.field-0 place (w.in-Err-Wide.ensures.answer ns over) w.in-Err-Wide.field-0-is in
           subst (λ r. IfErr r (λ e. OnWide e (Placed ns c.check.new.self))) (sym w.result-is)
-          (subst (λ e. OnWide e (Placed ns c.check.new.self)) (sym w.stopped_at.ensures.stop)
-          (place_in ns c.check.new.self w.known_state.ensures.sound place is w.stopped_at.ensures.left w.stopped_at.ensures.right))
+          (place_in ns c.check.new.self w.known_state.ensures.sound place is)
     ]

@@ -3,7 +3,7 @@ use Rattle.nz_log.specs.declared.lits.Lit.{Lit}
 use Rattle.nz_reals.specs.Known.{known_of}
 use Rattle.nz_reals.specs.State.{told_lits}
 use Rattle.nz_reals.specs.Tells.{AreKnown, Clashes, Refutes, both}
-use Rattle.nz_reals.proofs.Telling.{clash_told}
+use Rattle.nz_reals.proofs.BoundClashes.{clash_told}
 use Rattle.nz_reals.proofs.Tolds.{clash_handed, clash_has}
 use Rattle.nz_reals.proofs.reals.Reals.tell.Goals as goal
 

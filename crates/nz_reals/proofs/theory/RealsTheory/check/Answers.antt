@@ -1,15 +1,15 @@
 use Rattle.std.proofs.Common.{rules, ◌≡◌, ℕ, ◌<◌, List, Some, None, Ok, Err, length, map, sym, ap, ◌∙◌, subst}
 use Rattle.std.proofs.lemmas.List.Elements.{All-from_recursion}
 use Rattle.nz_fractions.specs.Fraction.{Fraction}
-use Rattle.nz_log.specs.declared.multiples.Multiple.{Multiple}
-use Rattle.nz_log.specs.declared.stop.Stop.TheVariants.{Memory}
-use Rattle.nz_log.specs.Places.{OnWide}
+use Rattle.nz_log.specs.declared.multiples.LitMultiple.{LitMultiple}
+use Rattle.nz_search.specs.declared.stop.Stop.TheVariants.{Memory}
+use Rattle.nz_search.specs.Places.{OnWide}
 use Rattle.nz_reals.specs.Stands.{IsOver}
 use Rattle.nz_reals.specs.Tells.{AreKnown, AreOf, IsSumPlace, Refutes, multiple_at}
-use Rattle.nz_reals.proofs.Knowing.{of_kept}
-use Rattle.nz_reals.proofs.Placing.{in_of_each, leads_on, leads_to_place, leads_to_stop, sum_in_check, there, told_of_each, why_known, why_of, why_told}
-use Rattle.nz_reals.proofs.Telling.{check_refutes}
-use Rattle.nz_reals.specs.declared.reals.Told.{Told}
+use Rattle.nz_reals.proofs.KnownAtoms.{of_kept}
+use Rattle.nz_reals.proofs.WidePlaces.{in_of_each, leads_on, leads_to_place, leads_to_stop, sum_in_check, there, told_of_each, why_known, why_of, why_told}
+use Rattle.nz_reals.proofs.BoundClashes.{check_refutes}
+use Rattle.nz_reals.specs.declared.reals.MarkedLiteral.{MarkedLiteral}
 use Rattle.nz_reals.proofs.theory.RealsTheory.check.Goals as goal
 
 pub returns-in_err-seek-clause-of : goal.returns-in_err-seek-clause-of
@@ -79,7 +79,7 @@ returns-in_err-clause-clause-leads c = λ ns fs ls x at.
     let here = there c.args.self.now t c.args.work.now c.seek.new.work ns fs ls x c.seek.ensures.moved at in
     let refuted = c.in_ok-seek.ensures.clash (ap Ok c.if-branch.false) ns here.over in
     let place : OnWide e (IsSumPlace ns t (map (multiple_at t) t.simplex.why)) =
-    subst (λ (ms : List Multiple). IsOver t ns → OnWide e (IsSumPlace ns t ms)) is (c.in_err-clause.ensures.place ns) here.over in
+    subst (λ (ms : List LitMultiple). IsOver t ns → OnWide e (IsSumPlace ns t ms)) is (c.in_err-clause.ensures.place ns) here.over in
     leads_to_stop c.args.self.now t c.args.work.now c.seek.new.work ns fs ls x c.seek.ensures.moved at e c.from_residual-in_err-clause.result stop
     (sum_in_check t ns fs ls _ here c.stored.ensures.tolds refuted e place)
 
@@ -90,7 +90,7 @@ returns-in_err-clause-clause-grows c = λ ls told are.
     let ns = c.stored.ensures.forms.table in
     let reasons = why_told t ns c.stored.ensures.tolds (c.in_ok-seek.ensures.clash (ap Ok c.if-branch.false) ns c.stored.ensures.forms.over) in
     let is : c.deref.result.now ≡ map (multiple_at t) t.simplex.why = c.deref.ensures.value ∙ c.in_ok-multiples.ensures.multiples in
-    let of : AreOf ls c.deref.result.now = subst (AreOf ls) (sym is) (why_of t ls t.simplex.why (ap (map (λ (y : Told). y.literal)) c.seek.ensures.moved.told ∙ told) reasons) in
+    let of : AreOf ls c.deref.result.now = subst (AreOf ls) (sym is) (why_of t ls t.simplex.why (ap (map (λ (y : MarkedLiteral). y.literal)) c.seek.ensures.moved.told ∙ told) reasons) in
     c.in_err-clause.ensures.grows (told_of_each c.args.log.now ls c.deref.result.now of are)
 
 pub returns-in_err-clause-clause-sound : goal.returns-in_err-clause-clause-sound
@@ -99,7 +99,7 @@ returns-in_err-clause-clause-sound c = λ ls ms levels told over within is_log.
     let ns = c.stored.ensures.forms.table in
     let reasons = why_told t ns c.stored.ensures.tolds (c.in_ok-seek.ensures.clash (ap Ok c.if-branch.false) ns c.stored.ensures.forms.over) in
     let is : c.deref.result.now ≡ map (multiple_at t) t.simplex.why = c.deref.ensures.value ∙ c.in_ok-multiples.ensures.multiples in
-    let of : AreOf ls c.deref.result.now = subst (AreOf ls) (sym is) (why_of t ls t.simplex.why (ap (map (λ (y : Told). y.literal)) c.seek.ensures.moved.told ∙ told) reasons) in
+    let of : AreOf ls c.deref.result.now = subst (AreOf ls) (sym is) (why_of t ls t.simplex.why (ap (map (λ (y : MarkedLiteral). y.literal)) c.seek.ensures.moved.told ∙ told) reasons) in
     c.in_err-clause.ensures.sound ms levels (in_of_each ms c.args.log.now.atoms ls c.deref.result.now of within) is_log
 
 pub returns-clause-clash : goal.returns-clause-clash
@@ -108,7 +108,7 @@ returns-clause-clash c = λ ls told.
     let ns = c.stored.ensures.forms.table in
     let reasons = why_told t ns c.stored.ensures.tolds (c.in_ok-seek.ensures.clash (ap Ok c.if-branch.false) ns c.stored.ensures.forms.over) in
     let is : c.deref.result.now ≡ map (multiple_at t) t.simplex.why = c.deref.ensures.value ∙ c.in_ok-multiples.ensures.multiples in
-    let of : AreOf ls c.deref.result.now = subst (AreOf ls) (sym is) (why_of t ls t.simplex.why (ap (map (λ (y : Told). y.literal)) c.seek.ensures.moved.told ∙ told) reasons) in
+    let of : AreOf ls c.deref.result.now = subst (AreOf ls) (sym is) (why_of t ls t.simplex.why (ap (map (λ (y : MarkedLiteral). y.literal)) c.seek.ensures.moved.told ∙ told) reasons) in
     c.in_ok-clause.ensures.clash ls of
 
 pub returns-clause-of : goal.returns-clause-of
@@ -124,7 +124,7 @@ returns-clause-grows c = λ ls told are.
     let ns = c.stored.ensures.forms.table in
     let reasons = why_told t ns c.stored.ensures.tolds (c.in_ok-seek.ensures.clash (ap Ok c.if-branch.false) ns c.stored.ensures.forms.over) in
     let is : c.deref.result.now ≡ map (multiple_at t) t.simplex.why = c.deref.ensures.value ∙ c.in_ok-multiples.ensures.multiples in
-    let of : AreOf ls c.deref.result.now = subst (AreOf ls) (sym is) (why_of t ls t.simplex.why (ap (map (λ (y : Told). y.literal)) c.seek.ensures.moved.told ∙ told) reasons) in
+    let of : AreOf ls c.deref.result.now = subst (AreOf ls) (sym is) (why_of t ls t.simplex.why (ap (map (λ (y : MarkedLiteral). y.literal)) c.seek.ensures.moved.told ∙ told) reasons) in
     c.in_ok-clause.ensures.grows (told_of_each c.args.log.now ls c.deref.result.now of are)
 
 pub returns-clause-sound : goal.returns-clause-sound
@@ -133,5 +133,5 @@ returns-clause-sound c = λ ls ms levels told over within is_log.
     let ns = c.stored.ensures.forms.table in
     let reasons = why_told t ns c.stored.ensures.tolds (c.in_ok-seek.ensures.clash (ap Ok c.if-branch.false) ns c.stored.ensures.forms.over) in
     let is : c.deref.result.now ≡ map (multiple_at t) t.simplex.why = c.deref.ensures.value ∙ c.in_ok-multiples.ensures.multiples in
-    let of : AreOf ls c.deref.result.now = subst (AreOf ls) (sym is) (why_of t ls t.simplex.why (ap (map (λ (y : Told). y.literal)) c.seek.ensures.moved.told ∙ told) reasons) in
+    let of : AreOf ls c.deref.result.now = subst (AreOf ls) (sym is) (why_of t ls t.simplex.why (ap (map (λ (y : MarkedLiteral). y.literal)) c.seek.ensures.moved.told ∙ told) reasons) in
     c.in_ok-clause.ensures.sound ms levels (in_of_each ms c.args.log.now.atoms ls c.deref.result.now of within) is_log

@@ -3,12 +3,12 @@ use Rattle.std.specs.Prelude.{slice_get}
 use Rattle.std.specs.HashMap.{get}
 use Rattle.nz_log.specs.Keys.{are_same_atom}
 use Rattle.std.proofs.lemmas.Option.{slice_get-get_or}
-use Rattle.nz_reals.specs.declared.reals.Told.{Told}
+use Rattle.nz_reals.specs.declared.reals.MarkedLiteral.{MarkedLiteral}
 use Rattle.nz_simplex.specs.State.{State}
 use Rattle.nz_reals.specs.Stands.{IsAt, IsOf}
 use Rattle.nz_reals.specs.State.{Theory, known_list, told_lits}
-use Rattle.nz_reals.proofs.Knowing.{of_kept, told_then}
-use Rattle.nz_reals.proofs.Standing.{undone_at}
+use Rattle.nz_reals.proofs.KnownAtoms.{of_kept, told_then}
+use Rattle.nz_reals.proofs.TheoryPositions.{undone_at}
 use Rattle.nz_reals.proofs.Tolds.{IsUndone, stored_undone}
 use Rattle.nz_reals.proofs.theory.RealsTheory.undo.Goals as goal
 
@@ -22,7 +22,7 @@ undone : (c : goal.After-truncate) → IsUndone (before c) (after c) c.args.mark
 undone c =
     let at : slice_get c.self.inside.told.items c.args.mark ≡ Some c.in-Some.first.now =
     (let l = c.in-Some.ensures.lookup in
-    subst (λ (ts : List Told). slice_get ts c.args.mark ≡ Some c.in-Some.first.now) c.deref.ensures.value
+    subst (λ (ts : List MarkedLiteral). slice_get ts c.args.mark ≡ Some c.in-Some.first.now) c.deref.ensures.value
     (slice_get-get_or c.deref.result.now c.args.mark c.in-Some.first.now l.3.0 ∙ ap Some (sym l.1))) in
     record { at = at; known = λ i. (before c).known; told = c.truncate.ensures.items; simplex = c.undo.ensures.front }
 

@@ -1,5 +1,5 @@
 use Rattle.std.proofs.Common.{sym, subst, ◌<◌}
-use Rattle.nz_reals_tests.proofs.Ordering.{order_empty}
+use Rattle.nz_reals_tests.proofs.TheoryOverLog.{order_empty}
 use Rattle.nz_reals_tests.proofs.system.System.new.Goals as goal
 
 pub invariant_of-result : goal.invariant_of-result

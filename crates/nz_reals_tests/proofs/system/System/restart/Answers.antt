@@ -1,6 +1,6 @@
 use Rattle.std.proofs.Common.{◌≡◌, rules, true}
 use Rattle.std.proofs.lemmas.Bool.{OnTrue_at}
-use Rattle.nz_reals_tests.proofs.Ordering.{order_restarted}
+use Rattle.nz_reals_tests.proofs.TheoryOverLog.{order_restarted}
 use Rattle.nz_reals_tests.proofs.system.System.restart.Goals as goal
 
 pub invariant_of-self-2 : goal.invariant_of-self-2

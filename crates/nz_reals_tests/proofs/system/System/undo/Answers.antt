@@ -1,7 +1,7 @@
 use Rattle.std.proofs.Common.{◌≤◌, refl, subst}
 use Rattle.std.proofs.lemmas.Bool.{OnTrue_at, OnTrue_from}
 use Rattle.nz_reals.specs.State.{told_lits}
-use Rattle.nz_reals_tests.proofs.Ordering.{order_undone}
+use Rattle.nz_reals_tests.proofs.TheoryOverLog.{order_undone}
 use Rattle.nz_reals_tests.proofs.system.System.undo.Goals as goal
 
 pub invariant_of-self : goal.invariant_of-self

@@ -1,7 +1,7 @@
 use Rattle.std.proofs.Common.{rules, decimal, unsigned_abs, ap, sym, ◌∙◌}
 use Rattle.std.specs.Int.{w128}
 use Rattle.std.proofs.lemmas.Int.{to_z-of_z}
-use Rattle.nz_reply.proofs.Writing.{written_as}
+use Rattle.nz_reply.proofs.TextPieces.{written_as}
 use Rattle.nz_reply.proofs.number.DenominatorSpell.write.Goals as goal
 
 pub returns : goal.returns

@@ -1,7 +1,7 @@
 use Rattle.std.proofs.Common.{◌≡◌, ◌==◌, false, get_or, arith}
 use Rattle.std.proofs.lemmas.Bool.Decides.{nat_tests}
 use Rattle.nz_reply.proofs.Quotes.{run_ends, run_last, run_on}
-use Rattle.nz_reply.proofs.Writing.{cut_off, left_as, rest_written, written_as, written_on}
+use Rattle.nz_reply.proofs.TextPieces.{cut_off, left_as, rest_written, written_as, written_on}
 use Rattle.nz_reply.proofs.symbol.QuotedSpell.write.Goals.{then-text-index-eq34+in_ok-write, else-text-index-eq34}
 use Rattle.nz_reply.proofs.symbol.QuotedSpell.write.Goals as goal
 

@@ -1,8 +1,8 @@
 -- What stands before the run's start is written, and the run has come to this place.
 use Rattle.std.proofs.Common.{◌≤◌}
-use Rattle.nz_spec.specs.Text.{with_quotes_doubled}
+use Rattle.nz_script.specs.text.Text.{with_quotes_doubled}
 use Rattle.nz_reply.proofs.Quotes.{rest_of_run}
-use Rattle.nz_reply.proofs.Writing.{HasWrittenTo}
+use Rattle.nz_reply.proofs.TextPieces.{HasWrittenTo}
 use Rattle.nz_reply.proofs.symbol.QuotedSpell.write.Given as goal
 
 abbrev pub invariant-loop-index : goal.invariant-loop-index

@@ -1,7 +1,7 @@
 use Rattle.std.proofs.Common.{ℕ, List, ◌++◌, codes, ap, sym}
-use Rattle.nz_spec.specs.Reply.{sort_text, symbol_text, value_text}
+use Rattle.nz_script.specs.replies.Reply.{sort_text, symbol_text, value_text}
 use Rattle.nz_reply.specs.Bindings.{binding_of}
-use Rattle.nz_reply.proofs.Writing.{written_as}
+use Rattle.nz_reply.proofs.TextPieces.{written_as}
 use Rattle.nz_reply.proofs.text.BindingSpell.write.Goals as goal
 
 pub returns : goal.returns

@@ -1,5 +1,5 @@
 use Rattle.std.proofs.Common.{ℕ, List, ◌++◌, codes, decimal, ap, sym, ◌∙◌}
-use Rattle.nz_reply.proofs.Writing.{written_as}
+use Rattle.nz_reply.proofs.TextPieces.{written_as}
 use Rattle.nz_reply.proofs.text.ErrorSpell.write.Goals as goal
 
 -- the line of this number and these words

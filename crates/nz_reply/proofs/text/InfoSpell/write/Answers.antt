@@ -1,8 +1,8 @@
 use Rattle.std.proofs.Common.{ℕ, List, ap}
-use Rattle.nz_spec.specs.Reply.{info as info_reply, reply_text}
+use Rattle.nz_script.specs.replies.Reply.{info as info_reply, reply_text}
 use Rattle.nz_reply.specs.Infos.{info_of}
 use Rattle.nz_reply.specs.declared.reply.Info.{Info}
-use Rattle.nz_reply.proofs.Writing.{written_as}
+use Rattle.nz_reply.proofs.TextPieces.{written_as}
 use Rattle.nz_reply.proofs.text.InfoSpell.write.Goals as goal
 
 -- The texts are long for a search.

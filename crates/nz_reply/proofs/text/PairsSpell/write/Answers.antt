@@ -1,7 +1,7 @@
 use Rattle.std.proofs.Common.{arith, ap, ◌∙◌}
 use Rattle.nz_reply.proofs.Pairs.{pairs_end, pairs_next}
 use Rattle.nz_reply.proofs.Spaces.{spaced_end, spaced_from}
-use Rattle.nz_reply.proofs.Writing.{all_written, cut_off, rest_written, written_on}
+use Rattle.nz_reply.proofs.TextPieces.{all_written, cut_off, rest_written, written_on}
 use Rattle.nz_reply.proofs.text.PairsSpell.write.Goals as goal
 
 pub returns-in_err-write : goal.returns-in_err-write

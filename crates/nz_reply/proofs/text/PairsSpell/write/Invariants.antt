@@ -2,7 +2,7 @@
 use Rattle.std.proofs.Common.{drop}
 use Rattle.nz_reply.proofs.Pairs.{pair_texts}
 use Rattle.nz_reply.proofs.Spaces.{spaced_from}
-use Rattle.nz_reply.proofs.Writing.{HasWrittenTo}
+use Rattle.nz_reply.proofs.TextPieces.{HasWrittenTo}
 use Rattle.nz_reply.proofs.text.PairsSpell.write.Given as goal
 
 abbrev pub invariant-loop-index : goal.invariant-loop-index

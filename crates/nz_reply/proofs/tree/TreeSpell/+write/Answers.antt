@@ -2,9 +2,9 @@ use Rattle.std.proofs.Common.{◌≡◌, ◌<◌, suc, ap, refl, rules}
 use Rattle.nz_sexpr.specs.View.{view, seen}
 use Rattle.nz_sexpr.specs.Sizes.{tree_size, trees_size}
 use Rattle.nz_sexpr.specs.declared.tree.Tree.TheFolds.{fold-roll-Tree, fold_out-Tree, fold-roll-TreeList, fold_out-TreeList}
-use Rattle.nz_spec.specs.Tree.{node}
+use Rattle.nz_script.specs.text.Tree.{node}
 use Rattle.nz_reply.proofs.Spaces.{tree_smaller, trees_end, trees_next}
-use Rattle.nz_reply.proofs.Writing.{cut_off, rest_written, written_as, written_behind, written_on}
+use Rattle.nz_reply.proofs.TextPieces.{cut_off, rest_written, written_as, written_behind, written_on}
 use Rattle.nz_reply.proofs.tree.TreeSpell.+write.Goals as goal
 use Rattle.nz_sexpr.specs.declared.tree.Tree.TheViews.{the_lemmas}
 

@@ -1,8 +1,8 @@
 use Rattle.nz_sexpr.specs.View.{view}
-use Rattle.nz_spec.specs.Reply.{tree_text}
+use Rattle.nz_script.specs.replies.Reply.{tree_text}
 use Rattle.nz_sexpr.specs.Sizes.{tree_size}
 use Rattle.nz_reply.proofs.Spaces.{trees_left}
-use Rattle.nz_reply.proofs.Writing.{HasWrittenTo}
+use Rattle.nz_reply.proofs.TextPieces.{HasWrittenTo}
 use Rattle.nz_reply.proofs.tree.TreeSpell.+write.Given as goal
 
 abbrev pub decreases-write : goal.decreases-write

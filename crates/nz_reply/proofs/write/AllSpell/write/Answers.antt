@@ -1,4 +1,4 @@
-use Rattle.nz_reply.proofs.Writing.{cut_off, rest_written, texts_next, written_on}
+use Rattle.nz_reply.proofs.TextPieces.{cut_off, rest_written, texts_next, written_on}
 use Rattle.nz_reply.proofs.write.AllSpell.write.Goals as goal
 
 pub returns-in_err-write : goal.returns-in_err-write

@@ -1,6 +1,6 @@
 -- The texts so far are written.
 use Rattle.std.proofs.Common.{drop, flat_map}
-use Rattle.nz_reply.proofs.Writing.{HasWrittenTo}
+use Rattle.nz_reply.proofs.TextPieces.{HasWrittenTo}
 use Rattle.nz_reply.proofs.write.AllSpell.write.Given as goal
 
 abbrev pub invariant-loop-text : goal.invariant-loop-text

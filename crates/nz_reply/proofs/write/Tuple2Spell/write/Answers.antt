@@ -1,5 +1,5 @@
 use Rattle.std.proofs.Common.{refl}
-use Rattle.nz_reply.proofs.Writing.{written_behind}
+use Rattle.nz_reply.proofs.TextPieces.{written_behind}
 use Rattle.nz_reply.proofs.write.Tuple2Spell.write.Goals as goal
 
 pub returns : goal.returns

@@ -1,5 +1,5 @@
 use Rattle.std.proofs.Common.{append_assoc, refl}
-use Rattle.nz_reply.proofs.Writing.{cut_off, written_behind}
+use Rattle.nz_reply.proofs.TextPieces.{cut_off, written_behind}
 use Rattle.nz_reply.proofs.write.Tuple3Spell.write.Goals as goal
 
 pub returns-in_err-write-2 : goal.returns-in_err-write-2

@@ -1,11 +1,11 @@
 -- Where it was asked before, nothing is noted.
 use Rattle.std.proofs.Common.{List, map, refl, sym, subst}
 use Rattle.std.proofs.lemmas.List.Elements.{Contains-append_left}
-use Rattle.nz_spec.specs.Legal.{Lead, at_first, no_point}
-use Rattle.nz_spec.specs.Work.{WorkLine}
-use Rattle.nz_log.specs.declared.note.Note.{Note}
-use Rattle.nz_log.specs.Notes.{noted_line}
-use Rattle.nz_log.specs.Verdicts.{task_in}
+use Rattle.nz_spec.specs.search.Legal.{Lead, at_first, no_point}
+use Rattle.nz_spec.specs.search.Work.{WorkLine}
+use Rattle.nz_search.specs.declared.note.Note.{Note}
+use Rattle.nz_search.specs.Notes.{noted_line}
+use Rattle.nz_search.specs.Verdicts.{task_in}
 use Rattle.nz_run_tests.proofs.session.OnceOnlyDecide.check.Goals as goal
 
 pub returns-then-self-clause-legal : goal.returns-then-self-clause-legal

@@ -2,7 +2,7 @@
 use Rattle.std.proofs.Common.{◌≡◌, ℕ, ◌++◌, ◌∷◌, [], true, List, length, None, ap, subst, sym, ◌∙◌, rules}
 use Rattle.std.specs.Prelude.{slice_index_or}
 use Rattle.nz_sat.specs.Numbers.{IsNumbered, number_or}
-use Rattle.nz_sat.proofs.Numbering.{numbered_push}
+use Rattle.nz_sat.proofs.AtomNumbers.{numbered_push}
 use Rattle.nz_sat.proofs.atoms.Atoms.name.Goals as goal
 
 pub invariant_of-self-2 : goal.invariant_of-self-2

@@ -1,6 +1,6 @@
 -- Each atom has its number in the table.
 use Rattle.std.proofs.Common.{ℕ, ◌<◌, List, length, get_or, subst, arith}
-use Rattle.nz_sat.proofs.Numbering.{atom_within}
+use Rattle.nz_sat.proofs.AtomNumbers.{atom_within}
 use Rattle.nz_sat.proofs.atoms.Atoms.size.Goals as goal
 
 pub returns : goal.returns

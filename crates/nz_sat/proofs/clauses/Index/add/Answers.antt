@@ -3,7 +3,7 @@ use Rattle.std.proofs.Common.{◌≡◌, ◌<◌, false, List, length, get_or, a
 use Rattle.nz_log.specs.declared.lits.Lit.{Lit}
 use Rattle.nz_log.specs.Logs.{literals_at}
 use Rattle.nz_sat.specs.Clauses.{IsWithin}
-use Rattle.nz_sat.proofs.Indexing.{added_all, adding_more, adding_none, adding_within}
+use Rattle.nz_sat.proofs.ClauseIndex.{added_all, adding_more, adding_none, adding_within}
 use Rattle.nz_sat.proofs.clauses.Index.add.Goals as goal
 
 abbrev blank : Lit

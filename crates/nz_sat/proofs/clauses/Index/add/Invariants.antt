@@ -1,5 +1,5 @@
 use Rattle.nz_log.specs.Logs.{literals_at}
-use Rattle.nz_sat.proofs.Indexing.{IsAdding}
+use Rattle.nz_sat.proofs.ClauseIndex.{IsAdding}
 use Rattle.nz_sat.proofs.clauses.Index.add.Given as goal
 
 -- it stands beside the literals so far

@@ -7,7 +7,7 @@ use Rattle.std.proofs.lemmas.List.Elements.{Contains-get_or}
 use Rattle.std.proofs.lemmas.Option.{slice_get_within}
 use Rattle.nz_sat.specs.Conflicts.{is_marked}
 use Rattle.nz_sat.specs.Theories.{is_bound_at}
-use Rattle.nz_sat.proofs.Tracking.{names_at}
+use Rattle.nz_sat.proofs.AtomTrails.{names_at}
 use Rattle.nz_sat.proofs.consult.Bounds.among.Goals as goal
 
 pub loop-id-init : goal.loop-id-init

@@ -1,6 +1,6 @@
 -- No more was told than how many places there are.
 use Rattle.std.proofs.Common.{◌<◌, arith, rules}
-use Rattle.nz_sat.proofs.Tracking.{told_few}
+use Rattle.nz_sat.proofs.AtomTrails.{told_few}
 use Rattle.nz_sat.proofs.consult.Bounds.told_at.Goals as goal
 
 pub returns-then-has-clause-few : goal.returns-then-has-clause-few

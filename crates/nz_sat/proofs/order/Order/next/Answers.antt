@@ -2,7 +2,7 @@ use Rattle.std.proofs.Common.{◌≡◌, true, None, refl, rules}
 use Rattle.std.specs.Prelude.{is_some}
 use Rattle.nz_sat.specs.Numbers.{number_of}
 use Rattle.nz_sat.specs.Trails.{assigned}
-use Rattle.nz_sat.proofs.Numbering.{has_numbered}
+use Rattle.nz_sat.proofs.AtomNumbers.{has_numbered}
 use Rattle.nz_sat.proofs.order.Order.next.Goals as goal
 
 -- a term of the heap that has a number is an atom

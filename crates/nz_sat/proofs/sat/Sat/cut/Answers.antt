@@ -3,7 +3,7 @@ use Rattle.std.proofs.Common.{ap, ◌∙◌, rules}
 use Rattle.std.specs.Prelude.{nat_le}
 use Rattle.nz_sat.specs.declared.clauses.Held.{Held}
 use Rattle.nz_sat.specs.Sats.{SatState, held_up_to}
-use Rattle.nz_sat.proofs.Retaining.{retained}
+use Rattle.nz_sat.proofs.RetainedElements.{retained}
 use Rattle.nz_sat.proofs.sat.Sat.cut.Goals as goal
 
 pub returns-clause-clauses : goal.returns-clause-clauses

@@ -2,19 +2,19 @@
 use Rattle.std.proofs.Common.{◌≡◌, ℕ, true, false, Err, List, Option, ap, sym, subst, ◌∙◌, rules}
 use Rattle.std.specs.Prelude.{All, Contains, is_none}
 use Rattle.nz_log.specs.declared.lits.Lit.{Lit}
-use Rattle.nz_log.specs.declared.stop.Stop.TheVariants as stop
+use Rattle.nz_search.specs.declared.stop.Stop.TheVariants as stop
 use Rattle.nz_log.specs.Logs.{literals_at}
-use Rattle.nz_log.specs.Standing.{Ends, Stands}
-use Rattle.nz_spec.specs.Legal as legal
+use Rattle.nz_search.specs.Standing.{Ends, Stands}
+use Rattle.nz_spec.specs.search.Legal as legal
 use Rattle.nz_sat.specs.declared.clauses.Held.{Held}
 use Rattle.nz_sat.specs.Numbers.{AreNotedIn}
 use Rattle.nz_sat.specs.Sats.{AreOn, IsTheoryMet, SatState}
 use Rattle.nz_sat.specs.Searching.{Satisfies}
 use Rattle.nz_sat.specs.Theories.{state_of}
 use Rattle.nz_sat.specs.Trails.{AreTruthsOn}
-use Rattle.nz_sat.proofs.Advancing.{advances_same}
-use Rattle.nz_sat.proofs.Listing.{adds_keep, adds_noted, adds_within, forms_kept}
-use Rattle.nz_sat.proofs.Solving.{beginnings_units, ends_later, first_noted, run_ends, run_named, run_sound, satisfied, theory_met}
+use Rattle.nz_sat.proofs.SearchSteps.{advances_same}
+use Rattle.nz_sat.proofs.SearchLines.{adds_keep, adds_noted, adds_within, forms_kept}
+use Rattle.nz_sat.proofs.StartsAndEnds.{beginnings_units, ends_later, first_noted, run_ends, run_named, run_sound, satisfied, theory_met}
 use Rattle.nz_sat.proofs.sat.Sat.solve.Goals.{then-is_none+in_ok-self-inside, else-is_none}
 use Rattle.nz_sat.proofs.sat.Sat.solve.Goals as goal
 

@@ -8,7 +8,7 @@ use Rattle.nz_log.specs.Logs.{literals_at}
 use Rattle.nz_sat.specs.Clauses.{HasReasonOf, IsImplied, IsUsable, Waits}
 use Rattle.nz_sat.specs.Searching.{ids}
 use Rattle.nz_sat.specs.Trails.{EachBehind, GoesOn, TrailState, assigned, with_entry}
-use Rattle.nz_sat.proofs.Assuming.{assume_fails, assume_goes, entry, put_search, put_waits}
+use Rattle.nz_sat.proofs.AssumedLiterals.{assume_fails, assume_goes, entry, put_search, put_waits}
 use Rattle.nz_sat.proofs.Clausal.{other_lit}
 use Rattle.nz_sat.proofs.search.Search.assume.Goals as goal
 

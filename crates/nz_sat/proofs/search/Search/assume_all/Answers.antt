@@ -12,7 +12,7 @@ use Rattle.nz_sat.specs.Sats.{AreConsistent}
 use Rattle.nz_sat.specs.declared.search.Search.{Search}
 use Rattle.nz_sat.specs.Searching.{AreOpen, IsSearch, MayAssume}
 use Rattle.nz_sat.specs.Trails.{IsTrueOn}
-use Rattle.nz_sat.proofs.Keeping.{held_live, none_told, reasons_assumed, search_usable}
+use Rattle.nz_sat.proofs.TrailGrowth.{held_live, none_told, reasons_assumed, search_usable}
 use Rattle.nz_sat.proofs.search.Search.assume_all.Goals as goal
 
 abbrev blank : Lit

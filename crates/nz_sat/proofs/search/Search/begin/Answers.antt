@@ -1,13 +1,13 @@
 -- What comes of the assumed literals.
 use Rattle.std.proofs.Common.{◌≡◌, ℕ, Err, List, Ok, Option, None, Some, subst, sym, rules}
 use Rattle.std.proofs.lemmas.Result.{IfOk-weaker}
-use Rattle.nz_log.specs.declared.stop.Stop.TheVariants as stop
+use Rattle.nz_search.specs.declared.stop.Stop.TheVariants as stop
 use Rattle.nz_sat.specs.declared.clauses.Held.{Held}
 use Rattle.nz_sat.specs.declared.search.Search.{Search}
 use Rattle.nz_sat.specs.Searching.{AssumesAll, Runs, Settles, assumed_entries}
 use Rattle.nz_sat.specs.Theories.{state_of, told_lits}
-use Rattle.nz_sat.proofs.Advancing.{advances_same, ends_memory, steps_behind}
-use Rattle.nz_sat.proofs.Running.{first_advances, first_lits, first_noted, first_refuted, first_stands, first_waits, first_were, refutes_assumed, runs_first}
+use Rattle.nz_sat.proofs.SearchSteps.{advances_same, ends_memory, steps_behind}
+use Rattle.nz_sat.proofs.SearchRuns.{first_advances, first_lits, first_noted, first_refuted, first_stands, first_waits, first_were, refutes_assumed, runs_first}
 use Rattle.nz_sat.proofs.search.Search.begin.Goals as goal
 
 pub returns-in_err-refute-clause-steps : goal.returns-in_err-refute-clause-steps

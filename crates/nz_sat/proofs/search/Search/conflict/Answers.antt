@@ -3,8 +3,8 @@ use Rattle.std.proofs.Common.{◌≡◌, None, rules, sym, subst}
 use Rattle.nz_sat.specs.declared.search.Search.{Search}
 use Rattle.nz_sat.specs.Searching.{Follows}
 use Rattle.nz_sat.specs.Theories.{state_of}
-use Rattle.nz_sat.proofs.Consulting.{comes_falsified, comes_told, consult_advances, falsified_advances, follow_tells, follow_told}
-use Rattle.nz_sat.proofs.Keeping.{search_usable}
+use Rattle.nz_sat.proofs.TheoryAnswers.{comes_falsified, comes_told, consult_advances, falsified_advances, follow_tells, follow_told}
+use Rattle.nz_sat.proofs.TrailGrowth.{search_usable}
 use Rattle.nz_sat.proofs.search.Search.conflict.Goals as goal
 
 pub follow-falsified-requires-clause-usable : goal.follow-falsified-requires-clause-usable

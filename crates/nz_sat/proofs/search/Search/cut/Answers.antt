@@ -4,7 +4,7 @@ use Rattle.std.proofs.lemmas.List.{length-map}
 use Rattle.nz_log.specs.declared.lits.Lit.{Lit}
 use Rattle.nz_sat.specs.declared.trail.Assigned.{Assigned}
 use Rattle.nz_sat.specs.Theories.{told_lits, told_on}
-use Rattle.nz_sat.proofs.Advancing.{told_taken}
+use Rattle.nz_sat.proofs.SearchSteps.{told_taken}
 use Rattle.nz_sat.proofs.search.Search.cut.Goals as goal
 
 pub returns-clause-told : goal.returns-clause-told

@@ -1,6 +1,6 @@
 -- The term is an atom.
 use Rattle.std.proofs.Common.{sym, ◌∙◌}
-use Rattle.nz_sat.proofs.Numbering.{unnamed}
+use Rattle.nz_sat.proofs.AtomNumbers.{unnamed}
 use Rattle.nz_sat.proofs.search.Search.decide.Goals as goal
 
 pub unreachable-requires : goal.unreachable-requires

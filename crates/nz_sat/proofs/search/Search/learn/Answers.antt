@@ -1,9 +1,9 @@
 -- The learned clause is noted and added, and its literal is true where the search goes back to.
 use Rattle.std.proofs.Common.{◌≡◌, ℕ, ◌<◌, ◌++◌, ◌∷◌, [], Err, List, None, Ok, length, take, drop, min, vec_len, sym, ap, subst, ◌∙◌, arith, rules}
 use Rattle.std.proofs.lemmas.List.{take_all, take-append-le}
-use Rattle.nz_spec.specs.Work.{WorkList}
-use Rattle.nz_log.specs.declared.note.Note.{Note}
-use Rattle.nz_log.specs.declared.stop.Stop.TheVariants as stop
+use Rattle.nz_spec.specs.search.Work.{WorkList}
+use Rattle.nz_search.specs.declared.note.Note.{Note}
+use Rattle.nz_search.specs.declared.stop.Stop.TheVariants as stop
 use Rattle.nz_sat.specs.declared.clauses.Held.{Held}
 use Rattle.nz_sat.specs.declared.search.Search.{Search}
 use Rattle.nz_sat.specs.Clauses.{Adds}
@@ -12,10 +12,10 @@ use Rattle.nz_sat.specs.Sats.{AreHeld, held_of}
 use Rattle.nz_sat.specs.Searching.{Advances, Learns, after_learned}
 use Rattle.nz_sat.specs.Theories.{state_of, told_lits}
 use Rattle.nz_sat.specs.Trails.{assigned, below}
-use Rattle.nz_sat.proofs.Advancing.{StaysAt, advances_same, narrow_advances}
-use Rattle.nz_sat.proofs.Growing.{order_over}
-use Rattle.nz_sat.proofs.Learning.{learned, learned_ends, literal_missing, literal_within, literals_within}
-use Rattle.nz_sat.proofs.Noting.{conflict_like, line_advances, line_memory, lits_named, taught}
+use Rattle.nz_sat.proofs.SearchSteps.{StaysAt, advances_same, narrow_advances}
+use Rattle.nz_sat.proofs.LogGrowth.{order_over}
+use Rattle.nz_sat.proofs.Backjumps.{learned, learned_ends, literal_missing, literal_within, literals_within}
+use Rattle.nz_sat.proofs.LearnedLines.{conflict_like, line_advances, line_memory, lits_named, taught}
 use Rattle.nz_sat.proofs.search.Search.learn.Goals as goal
 
 pub learned_clause-requires-clause-live : goal.learned_clause-requires-clause-live

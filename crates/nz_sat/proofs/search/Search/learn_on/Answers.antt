@@ -1,9 +1,9 @@
 -- The next conflict, after a clause was learned.
 use Rattle.std.proofs.Common.{◌≡◌, Err, ap, rules, subst, sym}
 use Rattle.nz_sat.specs.declared.search.Search.{Search}
-use Rattle.nz_sat.proofs.Advancing.{advances_err}
-use Rattle.nz_sat.proofs.Consulting.{learned_advances, learned_follows, turns_learned}
-use Rattle.nz_sat.proofs.Listing.{adds_limit}
+use Rattle.nz_sat.proofs.SearchSteps.{advances_err}
+use Rattle.nz_sat.proofs.TheoryAnswers.{learned_advances, learned_follows, turns_learned}
+use Rattle.nz_sat.proofs.SearchLines.{adds_limit}
 use Rattle.nz_sat.proofs.search.Search.learn_on.Goals as goal
 
 pub returns-in_err-from-clause-steps : goal.returns-in_err-from-clause-steps

@@ -13,8 +13,8 @@ use Rattle.nz_sat.specs.Conflicts.{AreUnmarked, is_marked}
 use Rattle.nz_sat.specs.Trails.{EachBehind, IsTrail, TrailState, empty_trail}
 use Rattle.nz_sat.specs.Searching.{ids}
 use Rattle.nz_sat.specs.Theories.{AreLast, is_bound_at}
-use Rattle.nz_sat.proofs.Keeping.{held_has, none_marked}
-use Rattle.nz_sat.proofs.Tracking.{nothing_last}
+use Rattle.nz_sat.proofs.TrailGrowth.{held_has, none_marked}
+use Rattle.nz_sat.proofs.AtomTrails.{nothing_last}
 use Rattle.nz_sat.proofs.search.Search.new.Goals as goal
 
 abbrev blank : Held

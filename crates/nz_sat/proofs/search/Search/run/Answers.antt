@@ -7,9 +7,9 @@ use Rattle.nz_sat.specs.declared.search.Search.{Search}
 use Rattle.nz_sat.specs.Clauses.{IsAssumed}
 use Rattle.nz_sat.specs.Conflicts.{Refutes}
 use Rattle.nz_sat.specs.Theories.{IsMet, state_of, told_lits}
-use Rattle.nz_sat.proofs.Advancing.{advances_same, steps_same}
-use Rattle.nz_sat.proofs.Listing.{adds_limit}
-use Rattle.nz_sat.proofs.Running.{run_advances, run_steps, runs_on, runs_ordered}
+use Rattle.nz_sat.proofs.SearchSteps.{advances_same, steps_same}
+use Rattle.nz_sat.proofs.SearchLines.{adds_limit}
+use Rattle.nz_sat.proofs.SearchRuns.{run_advances, run_steps, runs_on, runs_ordered}
 use Rattle.nz_sat.proofs.search.Search.run.Goals as goal
 
 pub loop-atom-init : goal.loop-atom-init

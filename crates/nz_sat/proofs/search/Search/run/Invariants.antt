@@ -1,5 +1,5 @@
 use Rattle.std.proofs.Common.{◌-◌, ℕ, None, Ok, Option}
-use Rattle.nz_spec.specs.Work.{unit_count}
+use Rattle.nz_spec.specs.search.Work.{unit_count}
 use Rattle.nz_sat.specs.Searching.{Advances, Runs, assumed_entries}
 use Rattle.nz_sat.specs.Theories.{IsMet, state_of}
 use Rattle.nz_sat.proofs.search.Search.run.Given as goal

@@ -1,15 +1,15 @@
 -- One conflict more is learned from.
 use Rattle.std.proofs.Common.{◌≡◌, ℕ, ◌<◌, Err, None, List, Ok, Option, Some, ap, sym, subst, ◌∙◌, arith, rules}
-use Rattle.nz_log.specs.declared.stop.Stop.TheVariants as stop
+use Rattle.nz_search.specs.declared.stop.Stop.TheVariants as stop
 use Rattle.nz_sat.specs.declared.search.Search.{Search}
 use Rattle.nz_sat.specs.Searching.{Advances, MayFollow}
 use Rattle.nz_sat.specs.Theories.{TheoryState, state_of, told_lits}
 use Rattle.nz_sat.specs.declared.trail.Assigned.{Assigned}
 use Rattle.nz_sat.specs.Trails.{IsFrontOf}
-use Rattle.nz_sat.proofs.Advancing.{advances_same, reaches_cut, steps_same}
-use Rattle.nz_sat.proofs.Consulting.{back_falsified, back_refuted, ends_without, goes_back, settles_first, settles_on, settles_open, settling_reaches, steps_on}
+use Rattle.nz_sat.proofs.SearchSteps.{advances_same, reaches_cut, steps_same}
+use Rattle.nz_sat.proofs.TheoryAnswers.{back_falsified, back_refuted, ends_without, goes_back, settles_first, settles_on, settles_open, settling_reaches, steps_on}
 use Rattle.nz_sat.proofs.Levels.{below_front}
-use Rattle.nz_sat.proofs.Listing.{adds_limit}
+use Rattle.nz_sat.proofs.SearchLines.{adds_limit}
 use Rattle.nz_sat.proofs.search.Search.settle.Goals as goal
 
 pub returns-in_err-conflict-clause-steps : goal.returns-in_err-conflict-clause-steps

@@ -1,7 +1,7 @@
 use Rattle.std.proofs.Common.{◌-◌}
-use Rattle.nz_spec.specs.Work.{unit_count}
+use Rattle.nz_spec.specs.search.Work.{unit_count}
 use Rattle.nz_sat.specs.Theories.{state_of}
-use Rattle.nz_sat.proofs.Consulting.{IsSettling}
+use Rattle.nz_sat.proofs.TheoryAnswers.{IsSettling}
 use Rattle.nz_sat.proofs.search.Search.settle.Given as goal
 
 -- the clauses are open and the theory meets the trail, or there is a conflict that is to be learned from

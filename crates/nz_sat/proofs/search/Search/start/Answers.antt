@@ -8,8 +8,8 @@ use Rattle.nz_sat.specs.declared.clauses.Held.{Held}
 use Rattle.nz_sat.specs.Clauses.{AreUsable, Waits}
 use Rattle.nz_sat.specs.Searching.{ids}
 use Rattle.nz_sat.specs.Trails.{depth}
-use Rattle.nz_sat.proofs.Keeping.{goes_reasons, goes_search, held_has, held_usable, none_told, search_usable}
-use Rattle.nz_sat.proofs.Visiting.{goes_depth, goes_far, waits_less}
+use Rattle.nz_sat.proofs.TrailGrowth.{goes_reasons, goes_search, held_has, held_usable, none_told, search_usable}
+use Rattle.nz_sat.proofs.VisitedClauses.{goes_depth, goes_far, waits_less}
 use Rattle.nz_sat.proofs.search.Search.start.Goals as goal
 
 pub visit_held-falsified-requires : goal.visit_held-falsified-requires

@@ -2,13 +2,13 @@
 use Rattle.std.proofs.Common.{◌≡◌, ℕ, ◌<◌, Err, Option, None, sym, subst, arith, rules}
 use Rattle.std.proofs.lemmas.List.Elements.{All-contains}
 use Rattle.std.proofs.lemmas.Result.{IfOk-weaker}
-use Rattle.nz_spec.specs.Work.{WorkList}
-use Rattle.nz_log.specs.declared.note.Note.{Note}
+use Rattle.nz_spec.specs.search.Work.{WorkList}
+use Rattle.nz_search.specs.declared.note.Note.{Note}
 use Rattle.nz_sat.specs.Searching.{Advances, AreWaiting, Settles, SettlesOn}
 use Rattle.nz_sat.specs.Theories.{state_of}
-use Rattle.nz_sat.proofs.Advancing.{narrow_advances, reaches_then, steps_behind}
-use Rattle.nz_sat.proofs.Growing.{grows_none}
-use Rattle.nz_sat.proofs.Running.{has_decided, refutes_far, settles_far}
+use Rattle.nz_sat.proofs.SearchSteps.{narrow_advances, reaches_then, steps_behind}
+use Rattle.nz_sat.proofs.LogGrowth.{grows_none}
+use Rattle.nz_sat.proofs.SearchRuns.{has_decided, refutes_far, settles_far}
 use Rattle.nz_sat.proofs.search.Search.turn.Goals as goal
 
 pub decide-requires-clause-within : goal.decide-requires-clause-within

@@ -7,7 +7,7 @@ use Rattle.std.proofs.lemmas.Option.{slice_get-get_or}
 use Rattle.nz_sat.specs.declared.trail.Assigned.{Assigned}
 use Rattle.nz_sat.specs.Stored.{vacancy}
 use Rattle.nz_sat.specs.Trails.{EachBehind, IsNext, TrailState, assigned}
-use Rattle.nz_sat.proofs.Trailing.{each_front, each_last, table_pop, assigned_missing, assigned_one, last_highest}
+use Rattle.nz_sat.proofs.TrailEntries.{each_front, each_last, table_pop, assigned_missing, assigned_one, last_highest}
 use Rattle.nz_sat.proofs.trail.Trail.pop_above.Goals as goal
 
 pub returns-then-last-level-clause-below : goal.returns-then-last-level-clause-below

@@ -6,7 +6,7 @@ use Rattle.std.proofs.lemmas.List.Sums.{sum_by-set}
 use Rattle.nz_sat.specs.declared.trail.Assigned.{Assigned}
 use Rattle.nz_sat.specs.Stored.{vacancy}
 use Rattle.nz_sat.specs.Trails.{EachBehind, IsNext, TrailState, assigned, depth}
-use Rattle.nz_sat.proofs.Trailing.{order_put, table_put}
+use Rattle.nz_sat.proofs.TrailEntries.{order_put, table_put}
 use Rattle.nz_sat.proofs.trail.Trail.put.Goals as goal
 
 pub invariant_of-self : goal.invariant_of-self

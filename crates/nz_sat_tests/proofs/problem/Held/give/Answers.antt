@@ -1,4 +1,4 @@
-use Rattle.nz_sat_tests.proofs.Posing.{joined_posed, put_posed}
+use Rattle.nz_sat_tests.proofs.HeldClauses.{joined_posed, put_posed}
 use Rattle.nz_sat_tests.proofs.problem.Held.give.Goals as goal
 
 pub invariant_of-self : goal.invariant_of-self

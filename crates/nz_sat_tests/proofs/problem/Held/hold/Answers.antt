@@ -1,7 +1,7 @@
 use Rattle.std.proofs.Common.{rules, subst}
 use Rattle.std.specs.Prelude.{All, Contains}
 use Rattle.nz_log.specs.declared.lits.Lit.{Lit}
-use Rattle.nz_sat_tests.proofs.Posing.{add_posed}
+use Rattle.nz_sat_tests.proofs.HeldClauses.{add_posed}
 use Rattle.nz_sat_tests.proofs.problem.Held.hold.Goals as goal
 
 pub invariant_of-self : goal.invariant_of-self

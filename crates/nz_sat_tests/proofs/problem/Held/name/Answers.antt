@@ -1,7 +1,7 @@
 -- The term has a level, and its atom is among the log's.
 use Rattle.std.proofs.Common.{sym, subst}
 use Rattle.nz_sat_tests.specs.Problems.{IsPosed}
-use Rattle.nz_sat_tests.proofs.Posing.{joined_placed, named_placed}
+use Rattle.nz_sat_tests.proofs.HeldClauses.{joined_placed, named_placed}
 use Rattle.nz_sat_tests.proofs.problem.Held.name.Goals as goal
 
 pub invariant_of-self-in_err-atom : goal.invariant_of-self-in_err-atom

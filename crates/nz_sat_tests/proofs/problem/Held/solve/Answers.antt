@@ -1,10 +1,10 @@
 use Rattle.std.proofs.Common.{sym, subst}
 use Rattle.std.specs.Prelude.{All, Contains}
-use Rattle.nz_spec.specs.Literal.{StandOnce}
+use Rattle.nz_spec.specs.clauses.Literal.{StandOnce}
 use Rattle.nz_log.specs.declared.lits.Lit.{Lit}
 use Rattle.nz_log.specs.Leveled.{AreToldAtoms}
 use Rattle.nz_sat.specs.Sats.{AreConsistent, AreNamed, AreOn}
-use Rattle.nz_sat_tests.proofs.Posing.{joined_posed, posed_named, searched_posed}
+use Rattle.nz_sat_tests.proofs.HeldClauses.{joined_posed, posed_named, searched_posed}
 use Rattle.nz_sat_tests.proofs.problem.Held.solve.Goals as goal
 
 pub invariant_of-self : goal.invariant_of-self

@@ -1,10 +1,10 @@
 use Rattle.std.proofs.Common.{◌≡◌, Err, rules}
-use Rattle.nz_log.specs.declared.stop.Stop.TheVariants.{Wide, Spent}
+use Rattle.nz_search.specs.declared.stop.Stop.TheVariants.{Wide, Spent}
 use Rattle.nz_session.proofs.LegalWork.{lits_true, literals_true, search_known}
-use Rattle.nz_session.proofs.Acting.{memory_answer}
-use Rattle.nz_session.proofs.Answering.{holds_searched}
-use Rattle.nz_session.proofs.Assigning.{no_live_model}
-use Rattle.nz_session.proofs.Checking.{live_taken}
+use Rattle.nz_session.proofs.ActAnswers.{memory_answer}
+use Rattle.nz_session.proofs.RightAnswers.{holds_searched}
+use Rattle.nz_session.proofs.LiveModels.{no_live_model}
+use Rattle.nz_session.proofs.CheckedTerms.{live_taken}
 use Rattle.nz_session.proofs.desk.Desk.check.Goals as goal
 
 pub decide-decided-requires : goal.decide-decided-requires

@@ -1,13 +1,13 @@
 use Rattle.std.proofs.Common.{◌<◌, List, length, Some, refl, sym, ap, ◌∙◌, subst}
 use Rattle.std.proofs.lemmas.List.Elements.{recursion_from_All}
-use Rattle.nz_spec.specs.Model.{AreModel, Binding, assignment_of}
-use Rattle.nz_spec.specs.Live.{model_found, constants_of, assertions_of}
+use Rattle.nz_spec.specs.terms.Model.{AreModel, Binding, assignment_of}
+use Rattle.nz_script.specs.live.Live.{model_found, constants_of, assertions_of}
 use Rattle.nz_sort.specs.Live.{constants_by}
 use Rattle.nz_reply.specs.declared.reply.Reply.TheVariants as code
 use Rattle.nz_session.specs.Completed.{completed_values}
-use Rattle.nz_session.proofs.Answering.{checked}
+use Rattle.nz_session.proofs.RightAnswers.{checked}
 use Rattle.nz_session.specs.Desk.{AreValuesOf}
-use Rattle.nz_session.proofs.Assigning.{live_model, live_values, values_in}
+use Rattle.nz_session.proofs.LiveModels.{live_model, live_values, values_in}
 use Rattle.nz_session.proofs.desk.Desk.found.Goals as goal
 
 pub returns-in-Ok-clause-right : goal.returns-in-Ok-clause-right

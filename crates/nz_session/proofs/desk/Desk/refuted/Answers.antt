@@ -1,6 +1,6 @@
 use Rattle.std.proofs.Common.{refl}
 use Rattle.nz_reply.specs.declared.reply.Reply.TheVariants as code
-use Rattle.nz_session.proofs.Answering.{checked}
+use Rattle.nz_session.proofs.RightAnswers.{checked}
 use Rattle.nz_session.proofs.desk.Desk.refuted.Goals as goal
 
 pub returns-clause-right : goal.returns-clause-right

@@ -1,6 +1,6 @@
 use Rattle.std.proofs.Common.{◌≡◌, Some, rules}
 use Rattle.nz_session.specs.declared.desk.LastAnswer.TheVariants.{Model}
-use Rattle.nz_session.proofs.Valuing.{values_answer}
+use Rattle.nz_session.proofs.TermValues.{values_answer}
 use Rattle.nz_session.proofs.desk.Desk.show_values.Goals as goal
 
 pub returns-in-Ok : goal.returns-in-Ok

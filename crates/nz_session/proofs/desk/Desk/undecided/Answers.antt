@@ -1,9 +1,9 @@
 use Rattle.std.proofs.Common.{Some, refl, sym, ap, ◌∙◌, subst}
-use Rattle.nz_spec.specs.Live.{Reason, undecided}
-use Rattle.nz_log.specs.Notes.{AreNotedWithin}
+use Rattle.nz_script.specs.live.Live.{Reason, undecided}
+use Rattle.nz_search.specs.Notes.{AreNotedWithin}
 use Rattle.nz_reply.specs.Reasons.{reason_of}
 use Rattle.nz_reply.specs.Replies.{cause_of}
-use Rattle.nz_session.proofs.Answering.{checked_answer}
+use Rattle.nz_session.proofs.RightAnswers.{checked_answer}
 use Rattle.nz_session.proofs.LegalWork.{right_undecided}
 use Rattle.nz_session.proofs.desk.Desk.undecided.Goals as goal
 

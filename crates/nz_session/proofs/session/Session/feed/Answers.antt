@@ -1,9 +1,9 @@
 -- Each thing heard is served in turn, until the piece is read.
 use Rattle.std.proofs.Common.{inl, inr, refl, sym, subst, ◌∙◌, ◌++◌}
 use Rattle.std.proofs.lemmas.List.{take_rest}
-use Rattle.nz_spec.specs.Text.{script_limits}
+use Rattle.nz_script.specs.text.Text.{script_limits}
 use Rattle.nz_session.specs.Serve.{IsCut}
-use Rattle.nz_session.proofs.Feeding.{broken_fed, cut_fed, exited_fed, fed_all, feeding_more, feeding_start, kept_alike, none_is, writes_cut, writes_more}
+use Rattle.nz_session.proofs.InputPieces.{broken_fed, cut_fed, exited_fed, fed_all, feeding_more, feeding_start, kept_alike, none_is, writes_cut, writes_more}
 use Rattle.nz_session.proofs.session.Session.feed.Goals as goal
 
 pub heard-init : goal.heard-init

@@ -1,7 +1,7 @@
 -- What was read of the piece, answered, written and handed on so far, with no fault.
 use Rattle.std.proofs.Common.{◌≡◌, length, ◌+◌, ◌*◌, cond}
 use Rattle.nz_sexpr.specs.Fits.{owes}
-use Rattle.nz_session.proofs.Feeding.{IsFeeding}
+use Rattle.nz_session.proofs.InputPieces.{IsFeeding}
 use Rattle.nz_session.proofs.session.Session.feed.Given as goal
 
 abbrev pub invariant-heard : goal.invariant-heard

@@ -1,9 +1,9 @@
 -- The last thing heard is served.
 use Rattle.std.proofs.Common.{true, sym, subst, inl, inr}
-use Rattle.nz_spec.specs.Right.{beginning}
-use Rattle.nz_spec.specs.Transcript.{AreRight}
+use Rattle.nz_script.specs.replies.Right.{beginning}
+use Rattle.nz_script.specs.run.Transcript.{AreRight}
 use Rattle.nz_session.specs.Serve.{IsCut, kept_at}
-use Rattle.nz_session.proofs.Feeding.{finished, finish_broken, finish_cut, finish_quiet, kept_alike, writes_more, writes_nothing}
+use Rattle.nz_session.proofs.InputPieces.{finished, finish_broken, finish_cut, finish_quiet, kept_alike, writes_more, writes_nothing}
 use Rattle.nz_session.proofs.session.Session.finish.Goals as goal
 
 pub returns-in-None-clause-ended : goal.returns-in-None-clause-ended

@@ -1,7 +1,7 @@
 use Rattle.std.proofs.Common.{ℕ, List, ◌++◌, ◌∙◌, ap}
 use Rattle.nz_sexpr.specs.Packed.{packed, unpacked}
 use Rattle.nz_sexpr.specs.View.{view}
-use Rattle.nz_sexpr.proofs.Packing.{unpacked-packed}
+use Rattle.nz_sexpr.proofs.PackedTrees.{unpacked-packed}
 use Rattle.nz_sexpr.proofs.packed.Packed.new.Goals as goal
 
 pub returns : goal.returns

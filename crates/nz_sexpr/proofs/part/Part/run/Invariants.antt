@@ -1,5 +1,5 @@
 use Rattle.std.proofs.Common.{take}
-use Rattle.nz_spec.specs.Text.{HasNone}
+use Rattle.nz_script.specs.text.Text.{HasNone}
 use Rattle.nz_sexpr.specs.Part.{ends}
 use Rattle.nz_sexpr.proofs.part.Part.run.Given as goal
 

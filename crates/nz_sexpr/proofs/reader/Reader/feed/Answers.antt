@@ -1,7 +1,7 @@
 use Rattle.std.proofs.Common.{◌≡◌, ◌++◌, ◌+◌, sym, ap, subst, arith, is_some, false, take, append-nil, length, length-drop, length-take, drop, ◌-◌, ◌∙◌}
 use Rattle.nz_sexpr.specs.Matches.{told}
 use Rattle.nz_sexpr.specs.Fits.{Fits}
-use Rattle.nz_sexpr.proofs.Feeding.{goes_on, goes_on_by, ends_later, told_none, is_none_at}
+use Rattle.nz_sexpr.proofs.FedBytes.{goes_on, goes_on_by, ends_later, told_none, is_none_at}
 use Rattle.nz_sexpr.proofs.reader.Reader.feed.Goals as goal
 
 pub returns-then-is_some-clause-heard : goal.returns-then-is_some-clause-heard

@@ -1,5 +1,5 @@
 use Rattle.std.proofs.Common.{length, ◌-◌, ◌≡◌, ◌≤◌, ◌<◌, ◌+◌, ◌^◌, ◌++◌, ℕ, List, take, None}
-use Rattle.nz_spec.specs.Text.{Limits, Heard}
+use Rattle.nz_script.specs.text.Text.{Limits, Heard}
 use Rattle.nz_sexpr.specs.Matches.{GoesOnBy}
 use Rattle.nz_sexpr.specs.Fits.{Fits, bytes_read}
 use Rattle.nz_sexpr.proofs.reader.Reader.feed.Given as goal

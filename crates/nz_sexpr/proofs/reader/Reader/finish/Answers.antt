@@ -1,9 +1,9 @@
 use Rattle.std.proofs.Common.{◌++◌, arith, List}
-use Rattle.nz_spec.specs.Text.{Heard}
-use Rattle.nz_spec.specs.Kept.{AreToldAs}
-use Rattle.nz_spec.specs.Reading.{reading_start, read_on, told_on, told_open}
+use Rattle.nz_script.specs.text.Text.{Heard}
+use Rattle.nz_script.specs.text.ToldAs.{AreToldAs}
+use Rattle.nz_script.specs.text.Reading.{reading_start, read_on, told_on, told_open}
 use Rattle.nz_sexpr.specs.Matches.{told}
-use Rattle.nz_sexpr.proofs.Feeding.{AreToldAs-append, told_all, bytes_read}
+use Rattle.nz_sexpr.proofs.FedBytes.{AreToldAs-append, told_all, bytes_read}
 use Rattle.nz_sexpr.proofs.reader.Reader.finish.Goals as goal
 
 pub returns-clause-heard : goal.returns-clause-heard

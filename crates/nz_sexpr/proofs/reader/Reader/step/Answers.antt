@@ -1,10 +1,10 @@
 use Rattle.std.proofs.Common.{◌≡◌, ◌++◌, ◌∷◌, sym, subst, arith, [], List, take, get_or, append-nil, append_assoc, length-take, ℕ, ◌+◌, ◌<◌, ◌^◌}
 use Rattle.nz_lists.proofs.Fronts.{take_one}
-use Rattle.nz_spec.specs.Text.{HasNone}
-use Rattle.nz_spec.specs.Kept.{AreToldAs}
-use Rattle.nz_spec.specs.Reading.{reading_start, read_on, told_on}
+use Rattle.nz_script.specs.text.Text.{HasNone}
+use Rattle.nz_script.specs.text.ToldAs.{AreToldAs}
+use Rattle.nz_script.specs.text.Reading.{reading_start, read_on, told_on}
 use Rattle.nz_sexpr.specs.Matches.{Matches, told}
-use Rattle.nz_sexpr.proofs.Feeding.{read_on-append, told_more, bytes_read}
+use Rattle.nz_sexpr.proofs.FedBytes.{read_on-append, told_more, bytes_read}
 use Rattle.nz_sexpr.specs.Part.{ends, part_of}
 use Rattle.nz_sexpr.proofs.Runs.{told_run}
 use Rattle.nz_sexpr.proofs.reader.Reader.step.Goals as goal

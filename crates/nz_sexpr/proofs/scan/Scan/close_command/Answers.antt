@@ -1,10 +1,10 @@
 use Rattle.std.proofs.Common.{◌≡◌, ◌+◌, ◌-◌, ◌^◌, min, ◌∷◌, ◌∙◌, sym, ap, subst, []}
-use Rattle.nz_spec.specs.Text.{Heard}
-use Rattle.nz_spec.specs.Kept.{AreToldAs}
-use Rattle.nz_spec.specs.Reading.{closed, passed, told_closed, told_closed_by, what_of}
+use Rattle.nz_script.specs.text.Text.{Heard}
+use Rattle.nz_script.specs.text.ToldAs.{AreToldAs}
+use Rattle.nz_script.specs.text.Reading.{closed, passed, told_closed, told_closed_by, what_of}
 use Rattle.nz_sexpr.specs.View.{heard_view}
 use Rattle.nz_sexpr.specs.Matches.{Matches}
-use Rattle.nz_sexpr.proofs.Keeping.{one_open, passes, command_closes}
+use Rattle.nz_sexpr.proofs.OpenCommands.{one_open, passes, command_closes}
 use Rattle.nz_sexpr.specs.declared.scan.Scan.{Scan}
 use Rattle.nz_sexpr.proofs.scan.Scan.close_command.Goals as goal
 

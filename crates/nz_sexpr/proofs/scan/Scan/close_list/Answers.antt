@@ -1,7 +1,7 @@
 use Rattle.std.proofs.Common.{sym, subst}
-use Rattle.nz_spec.specs.Reading.{closed}
+use Rattle.nz_script.specs.text.Reading.{closed}
 use Rattle.nz_sexpr.specs.Matches.{Matches}
-use Rattle.nz_sexpr.proofs.Keeping.{list_closes}
+use Rattle.nz_sexpr.proofs.OpenCommands.{list_closes}
 use Rattle.nz_sexpr.specs.declared.scan.Scan.{Scan}
 use Rattle.nz_sexpr.proofs.scan.Scan.close_list.Goals as goal
 

@@ -1,9 +1,9 @@
 use Rattle.std.proofs.Common.{◌≡◌, ◌∙◌, ◌<◌, ◌||◌, length, Option, IfSome, is_none, sym, ap, subst, arith}
-use Rattle.nz_spec.specs.Reading.{taken}
+use Rattle.nz_script.specs.text.Reading.{taken}
 use Rattle.nz_sexpr.specs.Part.{part_of, filler_of, kind_of_part}
 use Rattle.nz_sexpr.specs.Matches.{Matches}
 use Rattle.nz_sexpr.specs.Store.{kept_of, TakesToken}
-use Rattle.nz_sexpr.proofs.Keeping.{token_ends}
+use Rattle.nz_sexpr.proofs.OpenCommands.{token_ends}
 use Rattle.nz_sexpr.specs.declared.scan.Scan.{Scan}
 use Rattle.nz_sexpr.specs.declared.part.Part.TheVariants as part
 use Rattle.nz_sexpr.specs.declared.store.Store.{Store}

@@ -1,6 +1,6 @@
 use Rattle.std.proofs.Common.{◌≡◌, ◌∙◌, [], refl, sym, ap, subst}
-use Rattle.nz_spec.specs.Text.{class_of, comment_byte, quote_byte, bar_byte}
-use Rattle.nz_spec.specs.Reading.{in_comment, in_string, in_quoted, next_outside}
+use Rattle.nz_script.specs.text.Text.{class_of, comment_byte, quote_byte, bar_byte}
+use Rattle.nz_script.specs.text.Reading.{in_comment, in_string, in_quoted, next_outside}
 use Rattle.nz_sexpr.specs.Bytes.{class_view}
 use Rattle.nz_sexpr.specs.Matches.{Matches}
 use Rattle.nz_sexpr.proofs.scan.Scan.pass_outside.Goals as goal

@@ -1,11 +1,11 @@
 use Rattle.std.proofs.Common.{◌≡◌, ◌∙◌, ◌++◌, ◌∷◌, [], ℕ, IfSome, true, sym, subst, arith, append-nil, eq-eqb}
-use Rattle.nz_spec.specs.Text.{class_of, is_bar}
-use Rattle.nz_spec.specs.Kept.{AreToldAs}
-use Rattle.nz_spec.specs.Reading.{in_string, goes_on, passed, taken, told_token, next_in, told_in, next_outside}
+use Rattle.nz_script.specs.text.Text.{class_of, is_bar}
+use Rattle.nz_script.specs.text.ToldAs.{AreToldAs}
+use Rattle.nz_script.specs.text.Reading.{in_string, goes_on, passed, taken, told_token, next_in, told_in, next_outside}
 use Rattle.nz_sexpr.specs.Bytes.{ends_word}
 use Rattle.nz_sexpr.specs.Part.{filler_of, ends}
 use Rattle.nz_sexpr.specs.Matches.{Matches, told}
-use Rattle.nz_sexpr.proofs.Keeping.{passes}
+use Rattle.nz_sexpr.proofs.OpenCommands.{passes}
 use Rattle.nz_sexpr.proofs.Runs.{is_word_part, is_after_quote, is_quoted_part, after_word, second_quote, closing_bar, told_closing_bar}
 use Rattle.nz_sexpr.specs.declared.scan.Scan.{Scan}
 use Rattle.nz_sexpr.proofs.scan.Scan.read_byte.Goals as goal

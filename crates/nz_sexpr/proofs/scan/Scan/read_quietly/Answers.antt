@@ -1,11 +1,11 @@
 use Rattle.std.proofs.Common.{◌≡◌, ◌∙◌, ◌++◌, ◌∷◌, [], ℕ, length, IfSome, true, sym, subst, eq-eqb}
-use Rattle.nz_spec.specs.Text.{class_of, is_bar}
-use Rattle.nz_spec.specs.Kept.{AreToldAs}
-use Rattle.nz_spec.specs.Reading.{in_string, goes_on, passed, taken, next_in, next_outside}
+use Rattle.nz_script.specs.text.Text.{class_of, is_bar}
+use Rattle.nz_script.specs.text.ToldAs.{AreToldAs}
+use Rattle.nz_script.specs.text.Reading.{in_string, goes_on, passed, taken, next_in, next_outside}
 use Rattle.nz_sexpr.specs.Bytes.{ends_word}
 use Rattle.nz_sexpr.specs.Part.{filler_of, ends, part_of}
 use Rattle.nz_sexpr.specs.Matches.{Matches, is_quiet_at}
-use Rattle.nz_sexpr.proofs.Keeping.{passes}
+use Rattle.nz_sexpr.proofs.OpenCommands.{passes}
 use Rattle.nz_sexpr.proofs.Runs.{is_word_part, is_after_quote, is_quoted_part, after_word, second_quote, closing_bar}
 use Rattle.nz_sexpr.proofs.Quiet.{told_quietly}
 use Rattle.nz_sexpr.specs.declared.scan.Scan.{Scan}

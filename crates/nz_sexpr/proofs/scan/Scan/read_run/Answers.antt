@@ -1,9 +1,9 @@
 use Rattle.std.proofs.Common.{◌≡◌, ◌+◌, ◌-◌, ◌^◌, ◌∙◌, ℕ, List, length, min, sym, ap, subst}
-use Rattle.nz_spec.specs.Reading.{read_on}
+use Rattle.nz_script.specs.text.Reading.{read_on}
 use Rattle.nz_sexpr.specs.Part.{part_after, text_after, begins_here}
 use Rattle.nz_sexpr.specs.Matches.{Matches}
-use Rattle.nz_sexpr.specs.Store.{Kept, kept_of, Keeps}
-use Rattle.nz_sexpr.proofs.Keeping.{run_matches}
+use Rattle.nz_sexpr.specs.Store.{OpenCommand, kept_of, Keeps}
+use Rattle.nz_sexpr.proofs.OpenCommands.{run_matches}
 use Rattle.nz_sexpr.specs.declared.scan.Scan.{Scan}
 use Rattle.nz_sexpr.specs.declared.store.Store.{Store}
 use Rattle.nz_sexpr.specs.declared.part.Part.{Part}
@@ -21,8 +21,8 @@ returns-clause-state c within limits s m few =
     c.pass.ensures.counted
     ∙ ap (λ (v : Scan). record v { at = min (v.at + length run) (2 ^ 64 - 1); part = c.after_run-self.result }) kept
     ∙ ap (λ (p : Part). record old { at = min (old.at + length run) (2 ^ 64 - 1); from = begins_here old.part old.depth old.at old.from; part = p; store = store }) part in
-    let keeps : Keeps (kept_of old.store) (kept_of store) (λ (k : Kept). record k { text = text_after old.part k.text run }) =
-    subst (λ (v : Scan). Keeps (kept_of v.store) (kept_of store) (λ (k : Kept). record k { text = text_after v.part k.text run })) c.begin_part.ensures c.keep_run.ensures.kept in
+    let keeps : Keeps (kept_of old.store) (kept_of store) (λ (k : OpenCommand). record k { text = text_after old.part k.text run }) =
+    subst (λ (v : Scan). Keeps (kept_of v.store) (kept_of store) (λ (k : OpenCommand). record k { text = text_after v.part k.text run })) c.begin_part.ensures c.keep_run.ensures.kept in
     c.forget_if.ensures.state limits (read_on s run) (
     subst (λ (v : Scan). Matches limits v (read_on s run)) (sym e)
     (run_matches limits old s store run m c.requires within few keeps)

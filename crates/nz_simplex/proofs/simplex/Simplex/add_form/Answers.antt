@@ -1,10 +1,10 @@
 -- The units that aren't there join, and then the form.
 use Rattle.std.proofs.Common.{rules, ◌≡◌, ℕ, ◌<◌, ◌≤◌, Some, None, false, List, length, take, sym, ap, subst, arith}
 use Rattle.std.specs.Prelude.{Err, IfErr, Result, slice_index_or, if◌then◌else◌}
-use Rattle.nz_spec.specs.Table.{Node}
+use Rattle.nz_spec.specs.terms.Table.{Node}
 use Rattle.nz_lin.specs.Forms.{AreUnits}
-use Rattle.nz_tab.specs.declared.tab.TabStop.{TabStop}
-use Rattle.nz_tab.specs.declared.tab.TabStop.TheVariants as stops
+use Rattle.nz_term.specs.declared.stops.ArithmeticStop.{ArithmeticStop}
+use Rattle.nz_term.specs.declared.stops.ArithmeticStop.TheVariants as stops
 use Rattle.nz_simplex.specs.Moves.{JoinStops}
 use Rattle.nz_simplex.specs.State.{IsOver}
 use Rattle.nz_simplex.specs.Tabled.{marks_in}
@@ -17,7 +17,7 @@ returns-in_err-var-clause-stops g c =
     let e = c.in_err-var.field-0.0 in
     let error : c.from_residual-in_err-var.result ≡ Err e = search rules in
     subst
-    (λ (r : Result ℕ TabStop). IfErr r (λ e. (ns : List Node) → IsOver ns c.args.self.now → AreUnits ns c.args.form.now.parts → JoinStops ns c.args.self.now c.args.form.now.parts e))
+    (λ (r : Result ℕ ArithmeticStop). IfErr r (λ e. (ns : List Node) → IsOver ns c.args.self.now → AreUnits ns c.args.form.now.parts → JoinStops ns c.args.self.now c.args.form.now.parts e))
     (sym error)
     (join_stops g.S.Coordinate.stands_for x.tab c.add_form.new.self x.trail x.values.items x.why.items c.args.self.now c.args.form.now.parts e c.self.view_is c.self.invariant.sound c.known_tableau.ensures.tableau
     c.in_err-var.ensures.unit c.in_err-var.ensures.joins)
@@ -25,7 +25,7 @@ returns-in_err-var-clause-stops g c =
 pub returns-in_err-var-clause-alone : goal.returns-in_err-var-clause-alone
 returns-in_err-var-clause-alone g c alone =
     let error : c.from_residual-in_err-var.result ≡ Err c.in_err-var.field-0.0 = search rules in
-    subst (λ (r : Result ℕ TabStop). IfErr r (λ e. e ≡ stops.Memory)) (sym error) (c.in_err-var.ensures.unit alone)
+    subst (λ (r : Result ℕ ArithmeticStop). IfErr r (λ e. e ≡ stops.Memory)) (sym error) (c.in_err-var.ensures.unit alone)
 
 pub extend_values-requires-clause-room : goal.extend_values-requires-clause-room
 extend_values-requires-clause-room g c =

@@ -1,16 +1,16 @@
 -- A bound that is tighter stands, and a nonbasic form outside of it has moved to it; else nothing changes.
 use Rattle.std.proofs.Common.{◌≡◌, ℕ, List, length, Option, sym, ap, ◌∙◌, subst, arith, Ok}
 use Rattle.std.specs.Prelude.{◌↔◌, vec_capacity}
-use Rattle.nz_spec.specs.Infinitesimal.{infinitesimal_cmp}
+use Rattle.nz_spec.specs.numbers.Infinitesimal.{infinitesimal_cmp}
 use Rattle.nz_trail.specs.Bounds.{ClashesWith, IsExcluded, IsImplied, TrailState, asserted}
-use Rattle.nz_trail.specs.declared.limits.Bound.{Bound}
-use Rattle.nz_trail.specs.declared.limits.Bound.TheVariants.{Kept, Tighter, Clash}
+use Rattle.nz_trail.specs.declared.limits.AssertOutcome.{AssertOutcome}
+use Rattle.nz_trail.specs.declared.limits.AssertOutcome.TheVariants.{Kept, Tighter, Clash}
 use Rattle.nz_simplex.specs.Moves.{IsBounded}
 use Rattle.nz_simplex.specs.State.{State}
 use Rattle.nz_simplex.specs.Stored.{IsStored, state_of}
 use Rattle.nz_simplex.proofs.Bounded.{asserted_shown}
-use Rattle.nz_simplex.proofs.Bounding.{clash_shown, kept_shown, same_ok, tighter_shown}
-use Rattle.nz_simplex.proofs.Exchanging.{written_back}
+use Rattle.nz_simplex.proofs.ScalarBounds.{clash_shown, kept_shown, same_ok, tighter_shown}
+use Rattle.nz_simplex.proofs.Exchanges.{written_back}
 use Rattle.nz_simplex.proofs.simplex.Simplex.assert_bound.Goals as goal
 
 pub invariant_of-self-in-Tighter : goal.invariant_of-self-in-Tighter
@@ -57,14 +57,14 @@ returns-in-Tighter-clause-bounded g c =
 
 pub returns-in-Tighter-clause-kept : goal.returns-in-Tighter-clause-kept
 returns-in-Tighter-clause-kept g c =
-    subst (λ (o : Bound). (o ≡ Kept) ↔ IsImplied infinitesimal_cmp c.args.self.now.asserted (asserted c.args.var c.args.side (g.S.Coordinate.stands_for c.args.value) c.args.reason)) c.in-Tighter.is
+    subst (λ (o : AssertOutcome). (o ≡ Kept) ↔ IsImplied infinitesimal_cmp c.args.self.now.asserted (asserted c.args.var c.args.side (g.S.Coordinate.stands_for c.args.value) c.args.reason)) c.in-Tighter.is
     (subst (λ (s : State). (c.in_ok-outcome.outcome ≡ Kept) ↔ IsImplied infinitesimal_cmp s.asserted (asserted c.args.var c.args.side (g.S.Coordinate.stands_for c.args.value) c.args.reason)) c.self.view_is
     (kept_shown g.S.Coordinate.stands_for g.S.Scalar.order g.met.S.Coordinate.faithful.compares c.self.inside.trail.asserted (asserted c.args.var c.args.side c.args.value c.args.reason) c.in_ok-outcome.outcome c.in_ok-outcome.ensures.kept))
 
 pub returns-in-Tighter-clause-clash : goal.returns-in-Tighter-clause-clash
 returns-in-Tighter-clause-clash g c =
     subst
-    (λ (o : Bound). (r : ℕ) → (s : ℕ) → (o ≡ Clash r s)
+    (λ (o : AssertOutcome). (r : ℕ) → (s : ℕ) → (o ≡ Clash r s)
     ↔ ((r ≡ c.args.reason) × ClashesWith infinitesimal_cmp c.args.self.now.asserted (asserted c.args.var c.args.side (g.S.Coordinate.stands_for c.args.value) c.args.reason) s))
     c.in-Tighter.is
     (subst
@@ -76,7 +76,7 @@ returns-in-Tighter-clause-clash g c =
 pub returns-in-Tighter-clause-tighter : goal.returns-in-Tighter-clause-tighter
 returns-in-Tighter-clause-tighter g c =
     subst
-    (λ (o : Bound). (o ≡ Tighter)
+    (λ (o : AssertOutcome). (o ≡ Tighter)
     ↔ ((¬ IsImplied infinitesimal_cmp c.args.self.now.asserted (asserted c.args.var c.args.side (g.S.Coordinate.stands_for c.args.value) c.args.reason))
     × (¬ IsExcluded infinitesimal_cmp c.args.self.now.asserted (asserted c.args.var c.args.side (g.S.Coordinate.stands_for c.args.value) c.args.reason))))
     c.in-Tighter.is

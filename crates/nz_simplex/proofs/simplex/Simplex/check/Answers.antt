@@ -1,11 +1,11 @@
 -- The states are a run of check steps, each noted, and the last one tells the answer.
 use Rattle.std.proofs.Common.{rules, ◌≡◌, ℕ, true, false, List, Ok, sym, ap, ◌∙◌, subst}
-use Rattle.nz_spec.specs.Bland as bland
-use Rattle.nz_spec.specs.Bland.{CanHelp}
-use Rattle.nz_spec.specs.Table.{Node}
+use Rattle.nz_spec.specs.simplex.Bland as bland
+use Rattle.nz_spec.specs.simplex.Bland.{CanHelp}
+use Rattle.nz_spec.specs.terms.Table.{Node}
 use Rattle.nz_simplex.specs.Standing.{half}
 use Rattle.nz_simplex.specs.State.{State, IsOver, position_over}
-use Rattle.nz_simplex.proofs.Checking.{stepped_itself, stepped_more, stepped_renewed, stepped_same, stepped_why}
+use Rattle.nz_simplex.proofs.StepSequences.{stepped_itself, stepped_more, stepped_renewed, stepped_same, stepped_why}
 use Rattle.nz_simplex.proofs.simplex.Simplex.check.Goals as goal
 
 pub returns-in_err-renew-clause-steps : goal.returns-in_err-renew-clause-steps

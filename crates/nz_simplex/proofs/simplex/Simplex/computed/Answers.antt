@@ -1,11 +1,12 @@
 -- The value of a form from its row, or the operation at which it stops.
 use Rattle.std.proofs.Common.{◌≡◌, ℕ, ◌<◌, List, length, Option, None, sym, ap, ◌∙◌, subst}
 use Rattle.std.specs.Prelude.{All, IsSome, slice_index_or}
-use Rattle.nz_spec.specs.Bland.{value_onto, zero_infinitesimal, HasValue}
+use Rattle.nz_spec.specs.simplex.Bland.{value_onto, zero_infinitesimal, HasValue}
 use Rattle.nz_fractions.specs.Fraction.{first_wide}
-use Rattle.nz_spec.specs.Table.{Node}
+use Rattle.nz_spec.specs.terms.Table.{Node}
 use Rattle.nz_tab.specs.Rows.{DenseRow}
-use Rattle.nz_simplex.specs.declared.answer.Site.TheVariants as sites
+use Rattle.nz_place.specs.declared.place.Place.{Place}
+use Rattle.nz_place.specs.declared.place.Site.TheVariants as sites
 use Rattle.nz_simplex.specs.Checks.{IsPlace}
 use Rattle.nz_simplex.specs.Choices.{numbers_in}
 use Rattle.nz_simplex.specs.State.{State, IsOver, nonbasic_in, position_over}
@@ -74,9 +75,10 @@ returns-in-Err g c =
     record {
       value = tt;
       stops =
-          subst (λ (s : State). (ns : List Node) → IsOver ns s → IsPlace ns s (record { wide = c.in-Err.wide; site = sites.Point c.args.var })) c.self.view_is
+          subst (λ (p : Place). (ns : List Node) → IsOver ns c.args.self.now → IsPlace ns c.args.self.now p) (sym c.new.ensures.place)
+          (subst (λ (s : State). (ns : List Node) → IsOver ns s → IsPlace ns s (record { wide = c.in-Err.wide; site = sites.Value c.args.var })) c.self.view_is
           (λ ns over. point_place stands x.tab x.trail x.values.items x.why.items c.self.invariant.sound c.known_tableau.ensures.tableau ns over c.args.var
           (subst (λ (s : State). c.args.var < length s.forms) (sym c.self.view_is) c.requires.known)
           (ap (λ (s : State). nonbasic_in s c.args.var) c.self.view_is ∙ c.requires.basic)
-          c.in-Err.wide stop);
+          c.in-Err.wide stop c.new.ensures.left c.new.ensures.right));
     }

@@ -2,16 +2,16 @@
 use Rattle.std.proofs.Common.{rules, ◌≡◌, List, length, Err, Some, true, Bool, sym, ap, ◌∙◌, subst, arith}
 use Rattle.std.specs.Prelude.{IfErr, Result}
 use Rattle.nz_fractions.specs.Fraction.{first_wide}
-use Rattle.nz_spec.specs.BasisMoves.{AreRows, Rows, exchange}
-use Rattle.nz_spec.specs.Bland.{is_nonbasic}
-use Rattle.nz_spec.specs.Table.{Node}
-use Rattle.nz_spec.specs.Term.{is_zero}
+use Rattle.nz_spec.specs.simplex.BasisMoves.{AreRows, Rows, exchange}
+use Rattle.nz_spec.specs.simplex.Bland.{is_nonbasic}
+use Rattle.nz_spec.specs.terms.Table.{Node}
+use Rattle.nz_spec.specs.terms.Term.{is_zero}
 use Rattle.nz_frac.specs.Operations.{operation_of}
 use Rattle.nz_frac.specs.declared.frac.Wide.{Wide}
 use Rattle.nz_tab.specs.Rows.{DenseRow, coefficient}
 use Rattle.nz_simplex.specs.State.{IsOver, position_over}
 use Rattle.nz_simplex.specs.Tabled.{rows_in}
-use Rattle.nz_simplex.proofs.Beginning.{exchange_stops, exchanged_shown, no_coefficient}
+use Rattle.nz_simplex.proofs.StartBases.{exchange_stops, exchanged_shown, no_coefficient}
 use Rattle.nz_simplex.proofs.simplex.Simplex.exchange.Goals as goal
 
 pub returns-then-is_zero-clause-none : goal.returns-then-is_zero-clause-none

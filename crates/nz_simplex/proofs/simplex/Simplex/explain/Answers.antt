@@ -2,14 +2,14 @@
 use Rattle.std.proofs.Common.{◌≡◌, ℕ, ◌<◌, false, List, ◌∷◌, flat_map, length, sym, ap, ◌∙◌, subst, arith}
 use Rattle.std.specs.Prelude.{All, pos}
 use Rattle.nz_fractions.specs.Fraction.{whole}
-use Rattle.nz_spec.specs.Bland as bland
-use Rattle.nz_spec.specs.Bland.{Breaks, CanHelp}
+use Rattle.nz_spec.specs.simplex.Bland as bland
+use Rattle.nz_spec.specs.simplex.Bland.{Breaks, CanHelp}
 use Rattle.nz_simplex.specs.Standing.{half, standing}
 use Rattle.nz_simplex.specs.State.{State, IsOver, nonbasic_in, position_over}
 use Rattle.nz_simplex.specs.Stored.{held_back, state_of}
 use Rattle.nz_simplex.specs.Tabled.{rows_in}
 use Rattle.nz_simplex.proofs.Pointed.{all_below, count_below}
-use Rattle.nz_simplex.proofs.Refuting.{explained, sound_why}
+use Rattle.nz_simplex.proofs.BoundRefutations.{explained, sound_why}
 use Rattle.nz_simplex.proofs.simplex.Simplex.explain.Goals as goal
 
 pub put_multipliers-requires-clause-listed : goal.put_multipliers-requires-clause-listed

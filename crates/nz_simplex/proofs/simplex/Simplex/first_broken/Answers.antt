@@ -5,7 +5,7 @@ use Rattle.std.proofs.lemmas.List.Elements.{All-from_recursion}
 use Rattle.std.proofs.lemmas.Option.{IfSome_then}
 use Rattle.nz_simplex.specs.State.{nonbasic_in}
 use Rattle.nz_simplex.specs.Stored.{basic_numbers, first_passing, is_breaking}
-use Rattle.nz_simplex.proofs.Breaking.{basic_told, feasible_told, past_told}
+use Rattle.nz_simplex.proofs.BrokenBounds.{basic_told, feasible_told, past_told}
 use Rattle.nz_simplex.proofs.Pointed.{numbers_below}
 use Rattle.nz_simplex.proofs.simplex.Simplex.first_broken.Goals as goal
 

@@ -1,6 +1,6 @@
 -- No value is renewed yet.
 use Rattle.std.proofs.Common.{arith}
-use Rattle.nz_simplex.proofs.Renewing.{renewed_itself}
+use Rattle.nz_simplex.proofs.RenewedValues.{renewed_itself}
 use Rattle.nz_simplex.proofs.simplex.Simplex.renew.Goals as goal
 
 pub loop-var-init : goal.loop-var-init

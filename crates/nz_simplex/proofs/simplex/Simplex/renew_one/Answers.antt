@@ -2,7 +2,7 @@
 use Rattle.std.proofs.Common.{true≢false, sym, ◌∙◌}
 use Rattle.std.specs.Prelude.{IsSome}
 use Rattle.nz_simplex.specs.State.{value_in}
-use Rattle.nz_simplex.proofs.Renewing.{basic_form, renewed_at, renewed_itself}
+use Rattle.nz_simplex.proofs.RenewedValues.{basic_form, renewed_at, renewed_itself}
 use Rattle.nz_simplex.proofs.simplex.Simplex.renew_one.Goals as goal
 
 pub returns-then-has_value-clause-renewed : goal.returns-then-has_value-clause-renewed

@@ -1,8 +1,8 @@
 -- The row of the table is that of the position.
 use Rattle.std.proofs.Common.{◌≡◌, ◌<◌, false, List, length, sym, ap, ◌∙◌, subst}
-use Rattle.nz_spec.specs.Basis.{IsRow}
-use Rattle.nz_spec.specs.Bland.{is_nonbasic}
-use Rattle.nz_spec.specs.Table.{Node}
+use Rattle.nz_spec.specs.simplex.Basis.{IsRow}
+use Rattle.nz_spec.specs.simplex.Bland.{is_nonbasic}
+use Rattle.nz_spec.specs.terms.Table.{Node}
 use Rattle.nz_tab.specs.Rows.{DenseRow}
 use Rattle.nz_simplex.specs.State.{State, IsOver, nonbasic_in, position_over}
 use Rattle.nz_simplex.specs.Stored.{state_of}

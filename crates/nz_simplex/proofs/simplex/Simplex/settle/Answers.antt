@@ -7,8 +7,8 @@ use Rattle.nz_trail.specs.declared.limits.Side.TheVariants.{Lower, Upper}
 use Rattle.nz_simplex.specs.Moves.{IsSettled}
 use Rattle.nz_simplex.specs.Standing.{Held, standing}
 use Rattle.nz_simplex.specs.State.{nonbasic_in}
-use Rattle.nz_simplex.proofs.Checking.{renews_told}
-use Rattle.nz_simplex.proofs.Settling.{settled_more, settled_none, settled_renewed}
+use Rattle.nz_simplex.proofs.StepSequences.{renews_told}
+use Rattle.nz_simplex.proofs.SettledForms.{settled_more, settled_none, settled_renewed}
 use Rattle.nz_simplex.proofs.simplex.Simplex.settle.Goals as goal
 
 pub loop-var-init : goal.loop-var-init

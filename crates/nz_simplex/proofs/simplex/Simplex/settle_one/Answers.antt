@@ -4,9 +4,9 @@ use Rattle.std.specs.Prelude.{IsSome, slice_index_or, vec_capacity}
 use Rattle.nz_simplex.specs.Moves.{IsSettled}
 use Rattle.nz_simplex.specs.State.{State, nonbasic_in}
 use Rattle.nz_simplex.specs.Stored.{IsStored, state_of}
-use Rattle.nz_simplex.proofs.Exchanging.{written_back}
+use Rattle.nz_simplex.proofs.Exchanges.{written_back}
 use Rattle.nz_simplex.proofs.Pointed.{some_at}
-use Rattle.nz_simplex.proofs.Settling.{marked_inside, settled_shown}
+use Rattle.nz_simplex.proofs.SettledForms.{marked_inside, settled_shown}
 use Rattle.nz_simplex.proofs.simplex.Simplex.settle_one.Goals as goal
 
 pub move_to-requires-clause-known : goal.move_to-requires-clause-known

@@ -1,5 +1,5 @@
 -- The value of one nonbasic form changes, and no basic one has a value that would follow.
-use Rattle.nz_simplex.proofs.Beginning.{stands_shown}
+use Rattle.nz_simplex.proofs.StartBases.{stands_shown}
 use Rattle.nz_simplex.proofs.simplex.Simplex.stand.Goals as goal
 
 pub invariant_of-self : goal.invariant_of-self

@@ -1,15 +1,15 @@
 -- The least forms are exchanged, and the values follow; or no form can help; or it stops.
 use Rattle.std.proofs.Common.{rules, ◌≡◌, ℕ, ◌<◌, refl, true, false, List, length, Option, None, sym, ap, ◌∙◌, subst, arith}
 use Rattle.std.specs.Prelude.{◌==◌, if◌then◌else◌, All, IsSome, Err, slice_index_or, vec_capacity}
-use Rattle.nz_spec.specs.Bland.{IsCheckStep}
-use Rattle.nz_spec.specs.Pivots.{pivot}
-use Rattle.nz_spec.specs.Table.{Node}
+use Rattle.nz_spec.specs.simplex.Bland.{IsCheckStep}
+use Rattle.nz_spec.specs.simplex.Pivots.{pivot}
+use Rattle.nz_spec.specs.terms.Table.{Node}
 use Rattle.nz_tab.specs.Rows.{is_nonbasic}
 use Rattle.nz_simplex.specs.declared.answer.SimplexStop.{SimplexStop}
 use Rattle.nz_simplex.specs.Checks.{Answers}
 use Rattle.nz_simplex.specs.State.{State, IsOver, nonbasic_in, position_over, value_in}
 use Rattle.nz_simplex.specs.Stored.{IsStored, state_of}
-use Rattle.nz_simplex.proofs.Exchanging.{enters_nonbasic, enters_nonzero, exchange_place, exchanged_sound, exchanged_step, helpless, may_step, written_back}
+use Rattle.nz_simplex.proofs.Exchanges.{enters_nonbasic, enters_nonzero, exchange_place, exchanged_sound, exchanged_step, helpless, may_step, written_back}
 use Rattle.nz_simplex.proofs.Pointed.{all_below, all_known, all_listed, some_at}
 use Rattle.nz_simplex.proofs.ValuesAfter.{equal_number}
 use Rattle.nz_simplex.proofs.simplex.Simplex.step.Goals as goal
@@ -109,7 +109,7 @@ returns-in-Err-clause-stops g c =
       is_nonbasic = c.as_slice.ensures.value ∙ c.self.invariant.nonbasic_listed;
       found = c.in-Some.ensures.first;
     })
-    b.limit.value c.requires.broken c.in-Err.wide c.in-Err.ensures.stops)
+    b.limit.value c.requires.broken c.in-Err.wide c.in-Err.ensures.stops c.exchange_stop.ensures.left c.exchange_stop.ensures.right)
 
 pub move_to-requires-clause-nonbasic : goal.move_to-requires-clause-nonbasic
 move_to-requires-clause-nonbasic g c =

@@ -6,7 +6,7 @@ use Rattle.nz_trail.specs.Bounds.{TrailState}
 use Rattle.nz_simplex.specs.Standing.{Held, told}
 use Rattle.nz_simplex.specs.State.{State, IsSound}
 use Rattle.nz_simplex.specs.Stored.{IsStored, state_of}
-use Rattle.nz_simplex.proofs.Undoing.{sound_front}
+use Rattle.nz_simplex.proofs.LooserBounds.{sound_front}
 use Rattle.nz_simplex.proofs.simplex.Simplex.undo.Goals as goal
 
 pub undo-requires : goal.undo-requires

@@ -1,5 +1,5 @@
 use Rattle.nz_command.specs.View.{view as written}
-use Rattle.nz_sort.proofs.Asserting.{comes_asserted}
+use Rattle.nz_sort.proofs.AssertionRules.{comes_asserted}
 use Rattle.nz_sort.proofs.live.Live.assert_term.Goals as goal
 
 pub returns : goal.returns

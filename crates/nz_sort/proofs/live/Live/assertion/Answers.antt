@@ -1,15 +1,15 @@
 use Rattle.std.proofs.Common.{◌≡◌, ◌∙◌, true, Err, ap, sym, rules}
 use Rattle.nz_command.specs.View.{view as written}
-use Rattle.nz_spec.specs.Term.{are_same_sort, bool_sort}
-use Rattle.nz_spec.specs.Elaboration.{term_of}
-use Rattle.nz_spec.specs.Scoping.{has_clash}
-use Rattle.nz_spec.specs.Script.{assertion_of, scope_of}
+use Rattle.nz_spec.specs.terms.Term.{are_same_sort, bool_sort}
+use Rattle.nz_script.specs.commands.Elaboration.{term_of}
+use Rattle.nz_script.specs.commands.Scoping.{has_clash}
+use Rattle.nz_script.specs.commands.Script.{assertion_of, scope_of}
 use Rattle.nz_term.specs.Constants.{sort_of}
 use Rattle.nz_elaborate.specs.Elaborate.{is_unknown_in}
 use Rattle.nz_sort.specs.Live.{Standing}
-use Rattle.nz_sort.proofs.Asserting.{term_outcome, linear_assertion}
-use Rattle.nz_sort.proofs.Living.{companions_made, live_scope, stands_kept}
-use Rattle.nz_sort.proofs.Ruling.{broken_by, refused_by}
+use Rattle.nz_sort.proofs.AssertionRules.{term_outcome, linear_assertion}
+use Rattle.nz_sort.proofs.LiveStates.{companions_made, live_scope, stands_kept}
+use Rattle.nz_sort.proofs.CommandRules.{broken_by, refused_by}
 use Rattle.nz_sort.proofs.live.Live.assertion.Goals as goal
 
 pub is_linear-requires : goal.is_linear-requires

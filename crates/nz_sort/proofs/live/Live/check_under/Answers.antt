@@ -2,7 +2,7 @@ use Rattle.std.proofs.Common.{◌∙◌, map, refl, sym, ap}
 use Rattle.nz_command.specs.Requests.{assumption_view}
 use Rattle.nz_sort.specs.Live.{Standing}
 use Rattle.nz_sort.proofs.FoundLiterals.{comes_under, comes_of_integers, comes_of_unknown, comes_of_sort}
-use Rattle.nz_sort.proofs.Living.{companions_made, cut_back, kept_where_grown, live_scope}
+use Rattle.nz_sort.proofs.LiveStates.{companions_made, cut_back, kept_where_grown, live_scope}
 use Rattle.nz_sort.proofs.live.Live.check_under.Goals as goal
 
 pub assumed-requires : goal.assumed-requires

@@ -1,7 +1,7 @@
 use Rattle.std.proofs.Common.{◌≡◌, ◌∙◌, length, ap, subst, arith, rules}
 use Rattle.nz_sort.specs.Live.{Standing}
 use Rattle.nz_sort.specs.Changes.{DropsMany}
-use Rattle.nz_sort.proofs.Leveling.{as_many_below, left_below, nothing_below}
+use Rattle.nz_sort.proofs.LevelChanges.{as_many_below, left_below, nothing_below}
 use Rattle.nz_sort.proofs.live.Live.clear.Goals as goal
 
 pub pop-requires : goal.pop-requires

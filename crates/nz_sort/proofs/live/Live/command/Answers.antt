@@ -1,7 +1,7 @@
 use Rattle.std.proofs.Common.{Ok, Err, refl}
 use Rattle.nz_sexpr.specs.View.{view}
-use Rattle.nz_spec.specs.Parse.{request_of}
-use Rattle.nz_sort.proofs.Ruling.{carried, broken, some_comes}
+use Rattle.nz_script.specs.commands.Parse.{request_of}
+use Rattle.nz_sort.proofs.CommandRules.{carried, broken, some_comes}
 use Rattle.nz_sort.proofs.live.Live.command.Goals as goal
 
 pub returns-in-Ok-clause-accepted : goal.returns-in-Ok-clause-accepted

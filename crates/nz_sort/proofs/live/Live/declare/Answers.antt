@@ -1,7 +1,7 @@
 use Rattle.std.proofs.Common.{map}
 use Rattle.nz_command.specs.Requests.{sort_view}
 use Rattle.nz_term.specs.Constants.{sort_of}
-use Rattle.nz_sort.proofs.Declaring.{comes_declared}
+use Rattle.nz_sort.proofs.DeclarationRules.{comes_declared}
 use Rattle.nz_sort.proofs.live.Live.declare.Goals as goal
 
 pub returns : goal.returns

@@ -1,10 +1,10 @@
 use Rattle.std.proofs.Common.{◌≡◌, ◌∙◌, ◌||◌, map, is_some, true, false, ap, sym, rules}
 use Rattle.std.specs.List.{list_any}
-use Rattle.nz_spec.specs.Script.{is_unknown_sort}
+use Rattle.nz_script.specs.commands.Script.{is_unknown_sort}
 use Rattle.nz_command.specs.Requests.{sort_view}
 use Rattle.nz_sort.specs.Live.{Standing}
-use Rattle.nz_sort.proofs.Declaring.{sort_unknown, name_declared, no_sort, unknown_each, has_arguments}
-use Rattle.nz_sort.proofs.Living.{looked_up}
+use Rattle.nz_sort.proofs.DeclarationRules.{sort_unknown, name_declared, no_sort, unknown_each, has_arguments}
+use Rattle.nz_sort.proofs.LiveStates.{looked_up}
 use Rattle.nz_sort.proofs.live.Live.declared_sort.Goals as goal
 use Rattle.nz_sort.proofs.live.Live.declared_sort.Goals.{then-has_unknown_sort-via-then-has_unknown_sort, then-has_unknown_sort-via-else-has_unknown_sort+then-is_unknown_sort}
 

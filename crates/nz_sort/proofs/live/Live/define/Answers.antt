@@ -1,7 +1,7 @@
 use Rattle.std.proofs.Common.{map}
 use Rattle.nz_command.specs.View.{view as written}
 use Rattle.nz_command.specs.Requests.{sort_view, parameter_view}
-use Rattle.nz_sort.proofs.Defining.{comes_defined}
+use Rattle.nz_sort.proofs.DefinitionRules.{comes_defined}
 use Rattle.nz_sort.proofs.live.Live.define.Goals as goal
 
 pub returns : goal.returns

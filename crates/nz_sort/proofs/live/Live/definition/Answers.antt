@@ -2,13 +2,13 @@ use Rattle.std.proofs.Common.{◌≡◌, ◌∙◌, map, is_some, IfSome, true, 
 use Rattle.std.proofs.lemmas.Result.{IfOk-weaker}
 use Rattle.nz_command.specs.View.{view as written}
 use Rattle.nz_command.specs.Requests.{sort_view, parameter_view}
-use Rattle.nz_spec.specs.Script.{scope_of, definition_of}
-use Rattle.nz_spec.specs.Command.{refused}
+use Rattle.nz_script.specs.commands.Script.{scope_of, definition_of}
+use Rattle.nz_script.specs.commands.Command.{refused}
 use Rattle.nz_sort.specs.Acts.{rule_of}
 use Rattle.nz_sort.specs.Live.{Standing}
-use Rattle.nz_sort.proofs.Defining.{unmade_definition, redeclared_definition, nonlinear_definition, linear_definition}
-use Rattle.nz_sort.proofs.Living.{companions_made, live_scope, looked_up, typed_kept}
-use Rattle.nz_sort.proofs.Ruling.{broken_by, broken_in_each}
+use Rattle.nz_sort.proofs.DefinitionRules.{unmade_definition, redeclared_definition, nonlinear_definition, linear_definition}
+use Rattle.nz_sort.proofs.LiveStates.{companions_made, live_scope, looked_up, typed_kept}
+use Rattle.nz_sort.proofs.CommandRules.{broken_by, broken_in_each}
 use Rattle.nz_sort.proofs.live.Live.definition.Goals as goal
 
 pub is_linear-requires : goal.is_linear-requires

@@ -1,6 +1,6 @@
 use Rattle.std.proofs.Common.{◌≡◌, ◌∙◌, length, ap, rules}
 use Rattle.nz_sort.specs.Live.{Standing}
-use Rattle.nz_sort.proofs.Leveling.{as_many_below, levels_pushed}
+use Rattle.nz_sort.proofs.LevelChanges.{as_many_below, levels_pushed}
 use Rattle.nz_sort.proofs.live.Live.levels.Goals as goal
 
 pub returns-clause-levels : goal.returns-clause-levels

@@ -1,6 +1,6 @@
 use Rattle.std.proofs.Common.{◌∙◌, [], map, false, ap}
 use Rattle.nz_sort.specs.Layers.{layer_of, empty_layer}
-use Rattle.nz_sort.proofs.Living.{live_at_start}
+use Rattle.nz_sort.proofs.LiveStates.{live_at_start}
 use Rattle.nz_sort.proofs.live.Live.new.Goals as goal
 
 pub returns-clause-live : goal.returns-clause-live

@@ -1,6 +1,6 @@
 use Rattle.std.proofs.Common.{add-one, sym, subst, arith}
 use Rattle.nz_sort.specs.Changes.{DropsMany}
-use Rattle.nz_sort.proofs.Leveling.{drops_last, left_below}
+use Rattle.nz_sort.proofs.LevelChanges.{drops_last, left_below}
 use Rattle.nz_sort.proofs.live.Live.pop.Goals as goal
 
 pub pop_newest-requires : goal.pop_newest-requires

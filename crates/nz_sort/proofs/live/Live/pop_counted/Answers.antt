@@ -1,13 +1,13 @@
 use Rattle.std.proofs.Common.{◌≡◌, ◌∙◌, length, Ok, Err, sym, ap, subst, arith, rules}
-use Rattle.nz_spec.specs.Request.{pops}
-use Rattle.nz_spec.specs.Script.{pop_of}
+use Rattle.nz_script.specs.commands.Request.{pops}
+use Rattle.nz_script.specs.commands.Script.{pop_of}
 use Rattle.nz_command.specs.Requests.{count_view}
 use Rattle.nz_base.specs.declared.reply_errors.Error.TheVariants.{BelowZero}
 use Rattle.nz_sort.specs.declared.acts.Act.TheVariants.{Popped}
 use Rattle.nz_sort.specs.Live.{Standing}
 use Rattle.nz_sort.specs.Changes.{Comes}
-use Rattle.nz_sort.proofs.Leveling.{as_many_below}
-use Rattle.nz_sort.proofs.Moving.{comes_popped, comes_below_zero}
+use Rattle.nz_sort.proofs.LevelChanges.{as_many_below}
+use Rattle.nz_sort.proofs.LevelRules.{comes_popped, comes_below_zero}
 use Rattle.nz_sort.proofs.live.Live.pop_counted.Goals as goal
 
 pub returns-then-count-len : goal.returns-then-count-len

@@ -1,10 +1,10 @@
 use Rattle.std.proofs.Common.{◌≡◌, ◌∙◌, Ok, ap, sym, subst, rules}
-use Rattle.nz_spec.specs.Request.{pushes}
-use Rattle.nz_spec.specs.Script.{push_of}
+use Rattle.nz_script.specs.commands.Request.{pushes}
+use Rattle.nz_script.specs.commands.Script.{push_of}
 use Rattle.nz_command.specs.Requests.{count_view}
 use Rattle.nz_sort.specs.declared.acts.Act.TheVariants.{Changed}
 use Rattle.nz_sort.specs.Changes.{Comes, with_levels}
-use Rattle.nz_sort.proofs.Moving.{comes_pushed}
+use Rattle.nz_sort.proofs.LevelRules.{comes_pushed}
 use Rattle.nz_sort.proofs.live.Live.push_counted.Goals as goal
 
 pub returns : goal.returns

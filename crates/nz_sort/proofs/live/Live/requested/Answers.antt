@@ -1,11 +1,11 @@
 use Rattle.std.proofs.Common.{Ok, sym, subst}
-use Rattle.nz_spec.specs.Request.{shows_info, sets_option}
-use Rattle.nz_spec.specs.Script.{info_asked, option_set, outcome_by}
+use Rattle.nz_script.specs.commands.Request.{shows_info, sets_option}
+use Rattle.nz_script.specs.commands.Script.{info_asked, option_set, outcome_by}
 use Rattle.nz_command.specs.Requests.{request, key_view, setting_view}
 use Rattle.nz_sort.specs.declared.acts.Act.TheVariants.{Cleared, Reset}
 use Rattle.nz_sort.specs.Changes.{Comes}
-use Rattle.nz_sort.proofs.Moving.{comes_reset, comes_cleared}
-use Rattle.nz_sort.proofs.Ruling.{comes_checked, comes_only}
+use Rattle.nz_sort.proofs.LevelRules.{comes_reset, comes_cleared}
+use Rattle.nz_sort.proofs.CommandRules.{comes_checked, comes_only}
 use Rattle.nz_sort.proofs.live.Live.requested.Goals as goal
 
 pub returns-in-CheckSat : goal.returns-in-CheckSat

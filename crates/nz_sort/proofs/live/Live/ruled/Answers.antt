@@ -1,17 +1,17 @@
 use Rattle.std.proofs.Common.{◌≡◌, ◌∙◌, ◌||◌, false, length, refl, ap, sym, rules}
 use Rattle.nz_sexpr.specs.View.{view}
-use Rattle.nz_spec.specs.Bounds.{has_token, is_long_decimal}
-use Rattle.nz_spec.specs.Limits.{passes_limit}
-use Rattle.nz_spec.specs.Live.{State}
-use Rattle.nz_spec.specs.Script.{outcome_by, outcome_requested}
-use Rattle.nz_spec.specs.Command.{refused}
-use Rattle.nz_spec.specs.Error.{past_limit}
+use Rattle.nz_script.specs.text.Bounds.{has_token, is_long_decimal}
+use Rattle.nz_script.specs.commands.Limits.{passes_limit}
+use Rattle.nz_script.specs.live.Live.{State}
+use Rattle.nz_script.specs.commands.Script.{outcome_by, outcome_requested}
+use Rattle.nz_script.specs.commands.Command.{refused}
+use Rattle.nz_spec.specs.outside.Error.{past_limit}
 use Rattle.nz_base.specs.declared.reply_errors.Error.TheVariants.{Limit, TooWide}
 use Rattle.nz_command.specs.Requests.{request}
 use Rattle.nz_sort.specs.Live.{Standing, IsLive}
-use Rattle.nz_sort.proofs.Leveling.{as_many_below}
-use Rattle.nz_sort.proofs.Living.{kept_where_same}
-use Rattle.nz_sort.proofs.Ruling.{comes_alike, comes_refused, breaks_own, breaks_places, breaks_width, limit_told, within_bounds}
+use Rattle.nz_sort.proofs.LevelChanges.{as_many_below}
+use Rattle.nz_sort.proofs.LiveStates.{kept_where_same}
+use Rattle.nz_sort.proofs.CommandRules.{comes_alike, comes_refused, breaks_own, breaks_places, breaks_width, limit_told, within_bounds}
 use Rattle.nz_sort.proofs.live.Live.ruled.Goals as goal
 use Rattle.nz_sort.proofs.live.Live.ruled.Goals.{then-faults-via-then-faults, then-faults-via-else-faults+then-passes_limit}
 

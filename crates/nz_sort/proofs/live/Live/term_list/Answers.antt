@@ -2,7 +2,7 @@ use Rattle.std.proofs.Common.{◌≡◌, ◌∙◌, ◌++◌, ◌<◌, All, leng
 use Rattle.std.proofs.lemmas.Result.{IfOk-weaker}
 use Rattle.std.proofs.lemmas.List.Elements.{All-append}
 use Rattle.nz_sort.specs.Live.{accepted_by}
-use Rattle.nz_sort.proofs.Living.{listed_terms}
+use Rattle.nz_sort.proofs.LiveStates.{listed_terms}
 use Rattle.nz_sort.proofs.live.Live.term_list.Goals as goal
 
 pub listing_order-requires : goal.listing_order-requires

@@ -1,15 +1,15 @@
 use Rattle.std.proofs.Common.{◌∙◌, ◌<◌, length, map, All, Err, ap, sym, subst}
 use Rattle.nz_command.specs.Requests.{question_view}
-use Rattle.nz_spec.specs.Elaboration.{terms_of}
-use Rattle.nz_spec.specs.Scoping.{have_clash}
-use Rattle.nz_spec.specs.Script.{scope_of, asked_expressions, values_asked}
+use Rattle.nz_script.specs.commands.Elaboration.{terms_of}
+use Rattle.nz_script.specs.commands.Scoping.{have_clash}
+use Rattle.nz_script.specs.commands.Script.{scope_of, asked_expressions, values_asked}
 use Rattle.nz_elaborate.specs.declared.typed.Typed.{Typed}
 use Rattle.nz_elaborate.specs.Elaborate.{are_unknown_in}
 use Rattle.nz_elaborate.specs.Typed.{AreTyped}
 use Rattle.nz_sort.specs.Live.{Standing}
 use Rattle.nz_sort.proofs.AskedValues.{terms_outcome, linear_values}
-use Rattle.nz_sort.proofs.Living.{all_typed_kept, all_within, companions_made, live_scope}
-use Rattle.nz_sort.proofs.Ruling.{broken_by, refused_by}
+use Rattle.nz_sort.proofs.LiveStates.{all_typed_kept, all_within, companions_made, live_scope}
+use Rattle.nz_sort.proofs.CommandRules.{broken_by, refused_by}
 use Rattle.nz_sort.proofs.live.Live.values.Goals as goal
 
 pub are_linear-requires : goal.are_linear-requires

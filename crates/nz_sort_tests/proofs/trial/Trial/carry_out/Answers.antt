@@ -1,13 +1,13 @@
 use Rattle.std.proofs.Common.{◌≡◌, List, Result, Ok, Err, IfOk, OnErr, sym, subst}
 use Rattle.nz_sexpr.specs.View.{view}
-use Rattle.nz_spec.specs.Tree.{Tree}
-use Rattle.nz_spec.specs.Table.{Node}
-use Rattle.nz_spec.specs.Request.{Request}
-use Rattle.nz_spec.specs.Live.{State}
-use Rattle.nz_spec.specs.Command.{Outcome}
-use Rattle.nz_spec.specs.Script.{outcome_of}
-use Rattle.nz_spec.specs.Reply.{quiet}
-use Rattle.nz_spec.specs.Right.{effect}
+use Rattle.nz_script.specs.text.Tree.{Tree}
+use Rattle.nz_spec.specs.terms.Table.{Node}
+use Rattle.nz_script.specs.commands.Request.{Request}
+use Rattle.nz_script.specs.live.Live.{State}
+use Rattle.nz_script.specs.commands.Command.{Outcome}
+use Rattle.nz_script.specs.commands.Script.{outcome_of}
+use Rattle.nz_script.specs.replies.Reply.{quiet}
+use Rattle.nz_script.specs.replies.Right.{effect}
 use Rattle.nz_base.specs.declared.reply_errors.Error.{Error}
 use Rattle.nz_sort.specs.Acts.{asked}
 use Rattle.nz_sort.specs.declared.acts.Act.{Act}

@@ -1,6 +1,6 @@
 -- As many basic forms as there are, and one more, over the nonbasic ones with the units.
 use Rattle.std.proofs.Common.{◌≡◌, ◌+◌, ◌-◌, ◌*◌, length, refl, rules, ap, ◌∙◌, arith}
-use Rattle.nz_spec.specs.BasisMoves.{numbers}
+use Rattle.nz_spec.specs.simplex.BasisMoves.{numbers}
 use Rattle.nz_tab.specs.Rows.{basic, is_nonbasic}
 use Rattle.nz_tab.proofs.Blocks.{columns_within}
 use Rattle.nz_tab.proofs.Numbers.{count_both}

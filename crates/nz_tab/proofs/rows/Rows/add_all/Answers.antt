@@ -1,14 +1,14 @@
 -- One form more.
 use Rattle.std.proofs.Common.{◌≡◌, ℕ, ◌<◌, [], length, map, take, Err, refl, rules, sym, subst, ◌∙◌, arith}
 use Rattle.nz_fractions.specs.Fraction.{Fraction}
-use Rattle.nz_spec.specs.Basis.{Coefficients}
-use Rattle.nz_spec.specs.Computation.{turned_into}
+use Rattle.nz_spec.specs.simplex.Basis.{Coefficients}
+use Rattle.nz_spec.specs.numbers.Computation.{turned_into}
 use Rattle.nz_frac.specs.Operations.{operation_of}
 use Rattle.nz_frac.specs.declared.frac.Wide.{Wide}
 use Rattle.nz_tab.specs.Comes.{Comes, IsDone}
 use Rattle.nz_tab.specs.Rows.{coefficients_at, is_nonbasic, rows_of}
 use Rattle.nz_tab.specs.Sums.{all_added}
-use Rattle.nz_tab.proofs.Adding.{added_all, added_more, added_none, added_stop}
+use Rattle.nz_tab.proofs.RowSums.{added_all, added_more, added_none, added_stop}
 use Rattle.nz_tab.proofs.rows.Rows.add_all.Goals as goal
 
 pub loop-addend-init : goal.loop-addend-init

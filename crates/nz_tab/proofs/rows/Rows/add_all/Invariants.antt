@@ -1,7 +1,7 @@
 use Rattle.std.proofs.Common.{◌≡◌, map, take}
 use Rattle.std.specs.Prelude.{vec_len, vec_capacity}
-use Rattle.nz_spec.specs.Basis.{Coefficients}
-use Rattle.nz_spec.specs.Computation.{turned_into}
+use Rattle.nz_spec.specs.simplex.Basis.{Coefficients}
+use Rattle.nz_spec.specs.numbers.Computation.{turned_into}
 use Rattle.nz_tab.specs.Comes.{IsDone}
 use Rattle.nz_tab.specs.Rows.{coefficients_at, is_nonbasic, rows_of}
 use Rattle.nz_tab.specs.Sums.{all_added}

@@ -1,15 +1,15 @@
 -- A nonbasic form in its column, a basic one by its row.
 use Rattle.std.proofs.Common.{Vec, Global, ◌≡◌, ℕ, true, false, List, length, map, slice_index_or, pos, sym, ap, subst, ◌∙◌, arith}
 use Rattle.std.specs.Prelude.{set}
-use Rattle.nz_spec.specs.BasisMoves.{plus_multiple}
+use Rattle.nz_spec.specs.simplex.BasisMoves.{plus_multiple}
 use Rattle.nz_fractions.specs.Fraction.{Fraction, Sum, whole}
-use Rattle.nz_spec.specs.Basis.{Coefficients}
-use Rattle.nz_spec.specs.Computation.{Computation, operated, turned_into}
+use Rattle.nz_spec.specs.simplex.Basis.{Coefficients}
+use Rattle.nz_spec.specs.numbers.Computation.{Computation, operated, turned_into}
 use Rattle.nz_tab.specs.Comes.{Comes}
 use Rattle.nz_tab.specs.Rows.{AreSlotted, Grid, coefficient, coefficients_at, columns_of, is_nonbasic, place_in, rows_of}
 use Rattle.nz_tab.specs.Sums.{IsStoredGrid, one_added}
-use Rattle.nz_tab.proofs.Adding.{same_row, slot_added}
-use Rattle.nz_tab.proofs.Pivoting.{stored_of}
+use Rattle.nz_tab.proofs.RowSums.{same_row, slot_added}
+use Rattle.nz_tab.proofs.Pivots.{stored_of}
 use Rattle.nz_tab.proofs.Slots.{slotted}
 use Rattle.nz_tab.proofs.rows.Rows.add_one.Goals as goal
 use Rattle.nz_tab.proofs.rows.Rows.add_one.Goals.{After-as_slice-places}

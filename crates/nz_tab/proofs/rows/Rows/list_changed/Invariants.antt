@@ -1,7 +1,7 @@
 use Rattle.std.proofs.Common.{◌≡◌, ◌<◌, ◌≤◌, ℕ, false, pos}
 use Rattle.std.specs.Prelude.{vec_capacity, vec_len, ◌≢◌}
 use Rattle.nz_fractions.specs.Fraction.{whole}
-use Rattle.nz_spec.specs.BasisMoves.{numbers}
+use Rattle.nz_spec.specs.simplex.BasisMoves.{numbers}
 use Rattle.nz_tab.specs.Exchanges.{changes}
 use Rattle.nz_tab.specs.Rows.{is_nonbasic, rows_of}
 use Rattle.nz_tab.proofs.rows.Rows.list_changed.Given as goal

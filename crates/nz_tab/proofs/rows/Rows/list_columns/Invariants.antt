@@ -1,6 +1,6 @@
 use Rattle.std.proofs.Common.{◌≡◌, ◌≤◌}
 use Rattle.std.specs.Prelude.{vec_len, vec_capacity}
-use Rattle.nz_spec.specs.BasisMoves.{exchanged, numbers}
+use Rattle.nz_spec.specs.simplex.BasisMoves.{exchanged, numbers}
 use Rattle.nz_tab.specs.Rows.{is_nonbasic}
 use Rattle.nz_tab.proofs.rows.Rows.list_columns.Given as goal
 

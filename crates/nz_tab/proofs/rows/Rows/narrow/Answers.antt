@@ -3,7 +3,7 @@ use Rattle.std.proofs.Common.{Vec, Global, ◌≡◌, ℕ, ◌-◌, Bool, List, 
 use Rattle.nz_fractions.specs.Fraction.{Fraction}
 use Rattle.nz_tab.specs.Rows.{Grid, IsGrid, columns_of}
 use Rattle.nz_tab.specs.Sums.{IsStoredGrid, widened}
-use Rattle.nz_tab.proofs.Widening.{columns_then, cut, cut_back, wider_long}
+use Rattle.nz_tab.proofs.AddedColumns.{columns_then, cut, cut_back, wider_long}
 use Rattle.nz_tab.proofs.rows.Rows.narrow.Goals as goal
 use Rattle.nz_tab.proofs.rows.Rows.narrow.Goals.{After-cut_columns}
 

@@ -4,8 +4,8 @@ use Rattle.std.proofs.lemmas.List.{length-map, map_push}
 use Rattle.nz_fractions.specs.Fraction.{Fraction}
 use Rattle.nz_tab.specs.Rows.{Grid, IsGrid, columns_of}
 use Rattle.nz_tab.specs.Sums.{IsStoredGrid}
-use Rattle.nz_tab.proofs.Pivoting.{stored_of}
-use Rattle.nz_tab.proofs.Pushing.{stored_then}
+use Rattle.nz_tab.proofs.Pivots.{stored_of}
+use Rattle.nz_tab.proofs.AppendedRows.{stored_then}
 use Rattle.nz_tab.proofs.rows.Rows.push.Goals as goal
 
 abbrev items : Vec Fraction Global → List Fraction

@@ -3,8 +3,8 @@ use Rattle.std.proofs.Common.{Vec, Global, ◌≡◌, List, length, map, sym, ap
 use Rattle.nz_fractions.specs.Fraction.{Fraction}
 use Rattle.nz_tab.specs.Rows.{Grid, coefficients_at, columns_of}
 use Rattle.nz_tab.specs.Sums.{IsStoredGrid, IsSummed, sum_over}
-use Rattle.nz_tab.proofs.Pivoting.{stored_of}
-use Rattle.nz_tab.proofs.Pushing.{is_summed}
+use Rattle.nz_tab.proofs.Pivots.{stored_of}
+use Rattle.nz_tab.proofs.AppendedRows.{is_summed}
 use Rattle.nz_tab.proofs.rows.Rows.push_sum.Goals as goal
 
 abbrev items : Vec Fraction Global → List Fraction

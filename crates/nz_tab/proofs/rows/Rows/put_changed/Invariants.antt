@@ -1,6 +1,6 @@
 use Rattle.std.proofs.Common.{◌≡◌, ◌*◌, [], length, map, take}
 use Rattle.std.specs.Prelude.{vec_capacity, vec_len}
-use Rattle.nz_spec.specs.Basis.{Coefficients}
+use Rattle.nz_spec.specs.simplex.Basis.{Coefficients}
 use Rattle.nz_tab.specs.Comes.{IsDone}
 use Rattle.nz_tab.specs.Each.{behind}
 use Rattle.nz_tab.specs.Exchanges.{changed_rows}

@@ -3,12 +3,12 @@ use Rattle.std.proofs.Common.{Vec, Global, ◌≡◌, ◌<◌, ℕ, true, false,
 use Rattle.std.specs.Prelude.{All}
 use Rattle.std.proofs.lemmas.List.{length-map}
 use Rattle.nz_fractions.specs.Fraction.{Fraction}
-use Rattle.nz_spec.specs.BasisMoves.{numbers}
+use Rattle.nz_spec.specs.simplex.BasisMoves.{numbers}
 use Rattle.nz_tab.specs.Exchanges.{places_exchanged, written_forms}
 use Rattle.nz_tab.specs.Rows.{AreSlotted, Grid, IsGrid, is_marked}
 use Rattle.nz_tab.specs.Sums.{IsStoredGrid}
 use Rattle.nz_tab.proofs.Exchanged.{grid_then, marks_after}
-use Rattle.nz_tab.proofs.Pivoting.{IsReady, columns_after, columns_long, columns_slotted, rows_full, rows_slotted, stored_of}
+use Rattle.nz_tab.proofs.Pivots.{IsReady, columns_after, columns_long, columns_slotted, rows_full, rows_slotted, stored_of}
 use Rattle.nz_tab.proofs.rows.Rows.replace.Goals as goal
 use Rattle.nz_tab.proofs.rows.Rows.replace.Goals.{After-as_slice}
 

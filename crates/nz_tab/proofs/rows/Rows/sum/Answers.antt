@@ -1,13 +1,13 @@
 -- The columns, zeros, and then the forms one by one.
 use Rattle.std.proofs.Common.{◌≡◌, ℕ, Bool, List, length, map, pos, refl, ap, subst, ◌∙◌, arith}
-use Rattle.nz_spec.specs.BasisMoves.{numbers}
+use Rattle.nz_spec.specs.simplex.BasisMoves.{numbers}
 use Rattle.nz_fractions.specs.Fraction.{whole}
-use Rattle.nz_spec.specs.Basis.{Coefficients}
-use Rattle.nz_spec.specs.Computation.{turned_into}
+use Rattle.nz_spec.specs.simplex.Basis.{Coefficients}
+use Rattle.nz_spec.specs.numbers.Computation.{turned_into}
 use Rattle.nz_tab.specs.Comes.{Comes}
 use Rattle.nz_tab.specs.Rows.{Grid, coefficients_at, is_marked, is_nonbasic, rows_of}
 use Rattle.nz_tab.specs.Sums.{all_added}
-use Rattle.nz_tab.proofs.Adding.{zeros_read}
+use Rattle.nz_tab.proofs.RowSums.{zeros_read}
 use Rattle.nz_tab.proofs.Blocks.{columns_within}
 use Rattle.nz_tab.proofs.rows.Rows.sum.Goals as goal
 

@@ -3,8 +3,8 @@ use Rattle.std.proofs.Common.{Vec, Global, ◌≡◌, ℕ, ◌+◌, true, Bool, 
 use Rattle.nz_fractions.specs.Fraction.{Fraction}
 use Rattle.nz_tab.specs.Rows.{Grid, IsGrid, columns_of}
 use Rattle.nz_tab.specs.Sums.{IsStoredGrid, IsWidened, lengthened, next_columns, widened}
-use Rattle.nz_tab.proofs.Pivoting.{stored_of}
-use Rattle.nz_tab.proofs.Widening.{is_widened, stored_then}
+use Rattle.nz_tab.proofs.Pivots.{stored_of}
+use Rattle.nz_tab.proofs.AddedColumns.{is_widened, stored_then}
 use Rattle.nz_tab.proofs.rows.Rows.widen.Goals as goal
 use Rattle.nz_tab.proofs.rows.Rows.widen.Goals.{After-put_columns}
 

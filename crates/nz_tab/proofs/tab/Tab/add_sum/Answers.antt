@@ -4,13 +4,13 @@ use Rattle.std.specs.HashMap.{get}
 use Rattle.std.specs.Prelude.{All, nat_eq, vec_capacity}
 use Rattle.std.proofs.lemmas.List.{length-map}
 use Rattle.nz_lin.specs.declared.form.Part.{Part}
-use Rattle.nz_tab.specs.declared.tab.TabStop.{TabStop}
+use Rattle.nz_term.specs.declared.stops.ArithmeticStop.{ArithmeticStop}
 use Rattle.nz_tab.specs.Joins.{HasOwnRow, IsFormJoined, Joins}
 use Rattle.nz_tab.specs.Sums.{HasRoomForSum}
 use Rattle.nz_tab.specs.Tables.{IsStored, Table}
 use Rattle.nz_tab.specs.Units.{AreNumbers, is_unit_form, with_units}
 use Rattle.nz_tab.proofs.Added.{forms_then, grown, kept, long_then, prepared, stopped, told, units_then, within}
-use Rattle.nz_tab.proofs.Storing.{items, units_are}
+use Rattle.nz_tab.proofs.TableStorage.{items, units_are}
 use Rattle.nz_tab.proofs.tab.Tab.add_sum.Goals as goal
 
 pub join-requires-clause-within : goal.join-requires-clause-within
@@ -33,7 +33,7 @@ returns-in_err-join-clause-joins c = λ ns table are.
     let us = c.in_ok-units.units in
     let qs = c.as_slice.result.now in
     let made = prepared t.forms us f c.len.result c.len-5.result qs c.len.ensures c.len-5.ensures (c.in_ok-units.ensures.units forms s.units) (c.as_slice.ensures.value ∙ c.in_ok-addends.ensures.addends forms s.units) in
-    let stop : TabStop = c.in_err-join.field-0.0 in
+    let stop : ArithmeticStop = c.in_err-join.field-0.0 in
     let error : c.from_residual-in_err-join.result ≡ Err stop = search rules in
     let after : Table = record { forms = map items c.reserve-2.new.self.items; grid = c.join.new.self } in
     subst (λ r. Joins ns c.args.self.now after f r) (sym error)

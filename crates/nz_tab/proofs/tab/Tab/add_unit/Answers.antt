@@ -7,7 +7,7 @@ use Rattle.nz_lin.specs.declared.form.Part.{Part}
 use Rattle.nz_tab.specs.Joins.{IsUnitJoined}
 use Rattle.nz_tab.specs.Tables.{IsStored, Table}
 use Rattle.nz_tab.specs.Units.{AreNumbers, unit_number, unit_of}
-use Rattle.nz_tab.proofs.Storing.{items, stored_unit, unit_joined}
+use Rattle.nz_tab.proofs.TableStorage.{items, stored_unit, unit_joined}
 use Rattle.nz_tab.proofs.tab.Tab.add_unit.Goals as goal
 
 pub invariant_of-self-2 : goal.invariant_of-self-2

@@ -2,8 +2,8 @@
 use Rattle.std.proofs.Common.{Vec, Global, ◌≡◌, ℕ, ◌<◌, true, false, length, map, sym, ap, subst, ◌∙◌}
 use Rattle.std.specs.Prelude.{nat_eq, vec_capacity}
 use Rattle.std.specs.HashMap.{get}
-use Rattle.nz_spec.specs.BasisMoves.{exchange}
-use Rattle.nz_spec.specs.Term.{is_zero}
+use Rattle.nz_spec.specs.simplex.BasisMoves.{exchange}
+use Rattle.nz_spec.specs.terms.Term.{is_zero}
 use Rattle.nz_lin.specs.declared.form.Part.{Part}
 use Rattle.nz_tab.specs.Comes.{Stops}
 use Rattle.nz_tab.specs.Rows.{is_nonbasic, rows_of}

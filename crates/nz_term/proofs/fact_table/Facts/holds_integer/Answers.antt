@@ -4,7 +4,7 @@ use Rattle.std.specs.HashMap.{get}
 use Rattle.nz_term.specs.declared.facts.Fact.{Fact}
 use Rattle.nz_term.specs.Facts.{fact_at}
 use Rattle.nz_term.specs.Marks.{fact_by}
-use Rattle.nz_term.proofs.Marking.{length-facts, read}
+use Rattle.nz_term.proofs.FactMarks.{length-facts, read}
 use Rattle.nz_term.proofs.fact_table.Facts.holds_integer.Goals as goal
 
 pub index-requires : goal.index-requires

@@ -3,7 +3,7 @@ use Rattle.std.proofs.Common.{◌≡◌, [], ◌∷◌, ◌++◌, length, nat_eq
 use Rattle.std.specs.Prelude.{is_some}
 use Rattle.std.specs.HashMap.{get}
 use Rattle.nz_term.specs.Marks.{facts_by}
-use Rattle.nz_term.proofs.Marking.{agreeing, on_err, put}
+use Rattle.nz_term.proofs.FactMarks.{agreeing, on_err, put}
 use Rattle.nz_term.proofs.fact_table.Facts.push.Goals as goal
 
 pub returns-in_err-keep-clause-unchanged : goal.returns-in_err-keep-clause-unchanged

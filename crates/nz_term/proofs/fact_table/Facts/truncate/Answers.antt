@@ -2,7 +2,7 @@
 use Rattle.std.proofs.Common.{nat_eq, take, ap, ◌∙◌}
 use Rattle.std.specs.HashMap.{get}
 use Rattle.nz_term.specs.Marks.{facts_by}
-use Rattle.nz_term.proofs.Marking.{cut}
+use Rattle.nz_term.proofs.FactMarks.{cut}
 use Rattle.nz_term.proofs.fact_table.Facts.truncate.Goals as goal
 
 pub returns : goal.returns

@@ -1,7 +1,7 @@
 -- The key that is looked up stands for the term.
 use Rattle.std.proofs.Common.{◌<◌, length, All, None, sym, subst, ◌∙◌}
-use Rattle.nz_spec.specs.Term.{apply}
-use Rattle.nz_spec.specs.Table.{IsTable, term_in, terms_at}
+use Rattle.nz_spec.specs.terms.Term.{apply}
+use Rattle.nz_spec.specs.terms.Table.{IsTable, term_in, terms_at}
 use Rattle.nz_term.specs.declared.nodes.Stored.{Stored}
 use Rattle.nz_term.specs.Found.{IsFound}
 use Rattle.nz_term.specs.Heads.{head_of}

@@ -1,14 +1,14 @@
 -- The nodes with one looked up, or put last, beside the leaves with its own.
 use Rattle.std.proofs.Common.{◌≡◌, ◌<◌, length, All, IsTrue, Some, inl, sym, ap, subst, slice_get, ◌∙◌}
-use Rattle.nz_spec.specs.Term.{head_fits}
-use Rattle.nz_spec.specs.Table as table
-use Rattle.nz_spec.specs.Table.{HasItsArguments, IsTable}
+use Rattle.nz_spec.specs.terms.Term.{head_fits}
+use Rattle.nz_spec.specs.terms.Table as table
+use Rattle.nz_spec.specs.terms.Table.{HasItsArguments, IsTable}
 use Rattle.nz_term.specs.declared.nodes.Stored.{Stored}
 use Rattle.nz_term.specs.Growth.{GoesOn}
 use Rattle.nz_term.specs.Nodes.{node_with}
 use Rattle.nz_term.specs.Stored.{node_in, nodes_in}
-use Rattle.nz_term.proofs.Leafing.{kept_nodes, kept_within}
-use Rattle.nz_term.proofs.Marking.{on_err}
+use Rattle.nz_term.proofs.LeafTables.{kept_nodes, kept_within}
+use Rattle.nz_term.proofs.FactMarks.{on_err}
 use Rattle.nz_term.proofs.Tables.{HaveLeaves, leaves_made, made_grown, made_node, made_table}
 use Rattle.nz_term.proofs.nodes.Nodes.put.Goals as goal
 use Rattle.nz_term.proofs.nodes.Nodes.put.Goals.{After-put_symbol, In_ok-id}

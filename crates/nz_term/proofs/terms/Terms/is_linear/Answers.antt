@@ -1,7 +1,7 @@
 -- What is listed at the number is known of its term.
 use Rattle.std.proofs.Common.{length, ap, ◌∙◌, arith}
-use Rattle.nz_spec.specs.Linear.{is_linear}
-use Rattle.nz_spec.specs.Table.{term_in}
+use Rattle.nz_spec.specs.terms.Linear.{is_linear}
+use Rattle.nz_spec.specs.terms.Table.{term_in}
 use Rattle.nz_term.specs.declared.facts.Fact.{Fact}
 use Rattle.nz_term.proofs.Knowledge.{length-known, known}
 use Rattle.nz_term.proofs.terms.Terms.is_linear.Goals as goal

@@ -1,8 +1,8 @@
 -- What is known of a term over those of a table.
 use Rattle.std.proofs.Common.{◌≡◌, ◌<◌, [], length, All, sym, ap, subst, ◌∙◌}
 use Rattle.std.specs.Prelude.{fold}
-use Rattle.nz_spec.specs.Term.{apply}
-use Rattle.nz_spec.specs.Table.{term_in, terms_at, with_term}
+use Rattle.nz_spec.specs.terms.Term.{apply}
+use Rattle.nz_spec.specs.terms.Table.{term_in, terms_at, with_term}
 use Rattle.nz_term.specs.Facts.{fact_of}
 use Rattle.nz_term.specs.Heads.{head_of}
 use Rattle.nz_term.proofs.Knowledge.{length-known, over_table}

@@ -2,8 +2,8 @@
 use Rattle.std.proofs.Common.{◌≡◌, ◌<◌, ◌++◌, [], ◌∷◌, length, take, Some, All, slice_get, sym, ap, subst, ◌∙◌}
 use Rattle.std.proofs.lemmas.Result.{IfOk-weaker}
 use Rattle.nz_lists.proofs.Results.{on_ok}
-use Rattle.nz_spec.specs.Term.{apply}
-use Rattle.nz_spec.specs.Table.{term_in, terms_at}
+use Rattle.nz_spec.specs.terms.Term.{apply}
+use Rattle.nz_spec.specs.terms.Table.{term_in, terms_at}
 use Rattle.nz_term.specs.Facts.{fact_of}
 use Rattle.nz_term.specs.Growth.{GoesOn, KeepsTerms}
 use Rattle.nz_term.specs.Heads.{head_of}

@@ -1,7 +1,7 @@
 -- The term of a number by its node.
 use Rattle.std.proofs.Common.{◌≡◌, subst}
-use Rattle.nz_spec.specs.Term.{apply}
-use Rattle.nz_spec.specs.Table.{term_in, terms_at}
+use Rattle.nz_spec.specs.terms.Term.{apply}
+use Rattle.nz_spec.specs.terms.Table.{term_in, terms_at}
 use Rattle.nz_term.specs.Heads.{head_of}
 use Rattle.nz_term.specs.Nodes.{node_of}
 use Rattle.nz_term.proofs.terms.Terms.node.Goals as goal

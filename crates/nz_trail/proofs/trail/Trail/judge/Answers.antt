@@ -3,7 +3,7 @@ use Rattle.std.proofs.Common.{◌∙◌, ap, subst}
 use Rattle.nz_trail.specs.Bounds.{TrailState, IsConsistent, asserted, other_side}
 use Rattle.nz_trail.specs.Pairs.{limit_on}
 use Rattle.nz_trail.proofs.Outcomes.{kept_told, clash_told, tighter_told}
-use Rattle.nz_trail.proofs.Standing.{implied_by, not_implied, not_excluded, clash_by}
+use Rattle.nz_trail.proofs.AssertedBounds.{implied_by, not_implied, not_excluded, clash_by}
 use Rattle.nz_trail.proofs.Tables.{read_stands}
 use Rattle.nz_trail.proofs.trail.Trail.judge.Goals as goal
 

@@ -1,0 +1,444 @@
+-- Notes of atoms are legal: each is of what is asked, and none is named twice. Behind the note of a start they lead to where the theory stands that began so.
+use Rattle.std.proofs.Common.{◌≡◌, ◌≢◌, inl, inr, ℕ, zero, suc, ◌+◌, ◌<◌, Bool, true, false, List, [], ◌∷◌, ◌++◌, append-nil, length, get_or, take, map, Option, Some, None, option_map, Result, Ok, Err, refl, sym, ap, ◌∙◌, subst, arith, append_assoc}
+use Rattle.std.specs.Prelude.{All, Contains, flat_map, if◌then◌else◌, slice_get, slice_index_or, ⊤}
+use Rattle.std.specs.List.{AllByRecursion, AllPairs}
+use Rattle.std.proofs.lemmas.List.{length-map, map-append, take_more}
+use Rattle.std.proofs.lemmas.List.Sums.{sum_by-append}
+use Rattle.std.proofs.lemmas.Option.{get_or_from_slice_get, slice_get-get_or, slice_get_within}
+use Rattle.std.proofs.lemmas.List.Elements.{All-contains, All-contains_itself, All-from_recursion, All-map, All-take, All-weaker, Contains-append_cases, Contains-append_left, Contains-append_right, recursion_from_All}
+use Rattle.nz_lists.proofs.Elements.{AllByRecursion-append, AllByRecursion-weaker}
+use Rattle.nz_lists.proofs.Places.{slice_get_kept}
+use Rattle.nz_spec.specs.simplex.Bland.{Point}
+use Rattle.nz_spec.specs.search.Decide.{asserted_numbers, asserted_terms}
+use Rattle.nz_spec.specs.terms.Form as spec_form
+use Rattle.nz_spec.specs.clauses.Gates.{holds}
+use Rattle.nz_spec.specs.search.Legal.{Task, Search, IsAtom, MayFollow, MayName, Lead, at_first, no_point, after_line, after_lines, literal_by, told_literals, AreLegal}
+use Rattle.nz_spec.specs.clauses.Literal.{Literal, term_literal, is_at_most, is_below, negation_of, are_same_literal, StandOnce, TellsLiterals}
+use Rattle.nz_spec.specs.search.Notes as spec
+use Rattle.nz_spec.specs.search.Notes.{atom_note, form_note}
+use Rattle.nz_spec.specs.terms.Order.{post_order, post_orders, companions, listing_order, listing_orders}
+use Rattle.nz_spec.specs.terms.Table.{Node, IsTable, term_in}
+use Rattle.nz_spec.specs.terms.Term.{falsum, Term, apply, Terms, no_terms, terms}
+use Rattle.nz_spec.specs.search.Work.{WorkLine, UnitLine, NoteLine, WorkList, is_unit, unit_count, with_line}
+use Rattle.nz_lin.specs.Bounds.{bounded}
+use Rattle.nz_lin.specs.Forms.{parts_over}
+use Rattle.nz_log.specs.declared.atoms.Atom as log
+use Rattle.nz_log.specs.declared.atoms.Atom.TheVariants as atoms
+use Rattle.nz_log.specs.declared.lits.Lit.{Lit}
+use Rattle.nz_term.specs.declared.term_lits.TermLit.{TermLit}
+use Rattle.nz_search.specs.declared.note.Note.{Note}
+use Rattle.nz_search.specs.declared.note.Note.TheVariants.{Start}
+use Rattle.nz_search.specs.declared.note.StartNote as code
+use Rattle.nz_search.specs.declared.stop.Stop.{Stop}
+use Rattle.nz_search.specs.declared.stop.Stop.TheVariants.{Wide, Spent, Memory}
+use Rattle.nz_log.specs.Atoms.{AreAtoms, IsAtomIn, IsNormal, TellsLits, atom_in, with_sign}
+use Rattle.nz_log.specs.Lits.{are_same_lit}
+use Rattle.nz_search.specs.Notes.{forms_over, noted_line, noted_list, AreNotedWithin, IsNoteWithin}
+use Rattle.nz_search.specs.Standing.{Standing, Ends, Stands, search_after}
+use Rattle.nz_search.specs.Verdicts.{task_in}
+use Rattle.nz_reals.specs.Joins.{IsNumberIn}
+use Rattle.nz_reals.specs.Stands.{IsAt, IsOver}
+use Rattle.nz_reals.specs.Starts.{NotesStart}
+use Rattle.nz_reals.specs.State.{Theory}
+use Rattle.nz_sat.specs.Numbers.{AreBeginnings, IsAtomAt, IsBeginning, atom_literal, noted_atoms}
+use Rattle.nz_engine.specs.Checking.{AreNumbered, EndsWith, HasBegun, MayBegin, NotesAll, NotesForms, atom_at, atom_lines, form_lines, note_of, terms_named}
+use Rattle.nz_engine.proofs.AssertionPlaces.{in_second, lower_or_not, place_of}
+
+-- ---- Lists of lines
+
+-- where the search stands after lines and then others
+after_both : (s : Search) (xs ys : List (WorkLine spec.Note)) → after_lines s (xs ++ ys) ≡ after_lines (after_lines s xs) ys
+after_both s [] ys = refl
+after_both s (x ∷ xs) ys = after_both (after_line s x) xs ys
+
+-- where lines lead, others lead on
+lead_far : (q : Task) (s : Search) (x y z : Point) (xs ys : List (WorkLine spec.Note)) → Lead q s x xs y → Lead q (after_lines s xs) y ys z → Lead q s x (xs ++ ys) z
+lead_far q s x y z [] ys h more = subst (λ (p : Point). Lead q s p ys z) h more
+lead_far q s x y z (line ∷ xs) ys h more = (h.0, h.1, lead_far q (after_line s line) h.0 y z xs ys h.2 more)
+
+lines_both : (ns : List Node) (xs ys : List (WorkLine Note)) → map (noted_line ns) (xs ++ ys) ≡ map (noted_line ns) xs ++ map (noted_line ns) ys
+lines_both ns xs ys = map-append (noted_line ns) xs ys
+
+-- forms that join name no atom
+forms_name_none : (ns : List Node) (s : Search) (ks : List ℕ) → (after_lines s (map (noted_line ns) (form_lines ks))).atoms ≡ s.atoms
+forms_name_none ns s [] = refl
+forms_name_none ns s (k ∷ ks) = forms_name_none ns (after_line s (NoteLine (form_note k))) ks
+
+-- so the list knows an atom by its number still
+pub numbered_still : (ns : List Node) (all : List log.Atom) (i k : ℕ) (old new : WorkList Note) → NotesForms old new → IsNumberIn ns all i k old → IsNumberIn ns all i k new
+numbered_still ns all i k old new forms h =
+    let same : (search_after ns new).atoms ≡ (search_after ns old).atoms =
+    ap (λ (w : WorkList Note). (search_after ns w).atoms) forms.noted
+    ∙ ap (λ (ls : List (WorkLine spec.Note)). (after_lines at_first ls).atoms) (lines_both ns old.lines (form_lines forms.forms))
+    ∙ ap (λ (s : Search). s.atoms) (after_both at_first (map (noted_line ns) old.lines) (map (noted_line ns) (form_lines forms.forms)))
+    ∙ forms_name_none ns (search_after ns old) forms.forms in
+    record {
+      named = subst (λ (ls : List Literal). k < length ls) (sym same) h.named;
+      says = ap (λ (ls : List Literal). literal_by ls (k, true)) same ∙ h.says;
+    }
+
+-- ---- Atoms that are named
+
+module _ (tells : TellsLits) (tells_spec : TellsLiterals) (ns : List Node) (table : IsTable ns) (all : List log.Atom) (are : AreAtoms all) where
+  abbrev lit : ℕ → Literal
+  lit i = atom_literal ns all i
+
+  abbrev own : ℕ → Lit
+  own i = record { atom = i; sign = true }
+
+  -- what an atom says
+  says : (i : ℕ) (a : log.Atom) → slice_get all i ≡ Some a → lit i ≡ atom_in ns a
+  says i a at = ap (λ (o : Option log.Atom). elim o [ None ↦ term_literal (term_in ns 0) true | Some x ↦ with_sign true (atom_in ns x) ]) at
+
+  note_says : (a : log.Atom) → noted_line ns (NoteLine (note_of a)) ≡ NoteLine (atom_note (atom_in ns a))
+  note_says (atoms.Term t) = refl
+  note_says (atoms.AtMost b) = refl
+
+  line_says : (i : ℕ) → IsAtomAt ns all i → noted_line ns (NoteLine (note_of (atom_at all i))) ≡ NoteLine (atom_note (lit i))
+  line_says i h =
+      ap (λ (a : log.Atom). noted_line ns (NoteLine (note_of a))) (get_or_from_slice_get all i h.atom (atoms.Term 0) h.at) ∙ note_says h.atom
+      ∙ ap (λ (l : Literal). NoteLine (atom_note l)) (sym (says i h.atom h.at))
+
+  -- two atoms that say the same are one
+  one_atom : (i j : ℕ) → IsAtomAt ns all i → IsAtomAt ns all j → lit j ≡ lit i → j ≡ i
+  one_atom i j h k same =
+      let alike : are_same_literal (lit j) (lit i) ≡ true = subst (λ (l : Literal). are_same_literal (lit j) l ≡ true) same (tells_spec.one (lit j)) in
+      let test : are_same_lit (own j) (own i) ≡ true = sym (tells.agree ns table all are (own j) (own i) k h) ∙ alike in
+      ap (λ (l : Lit). l.atom) (tells.same (own j) (own i) test)
+
+  -- no atom says what the negation of one does
+  abbrev IsPositive : Literal → Type 0
+  IsPositive (term_literal t true) = ⊤
+  IsPositive (term_literal t false) = ⊥
+  IsPositive (is_at_most ps b) = ⊤
+  IsPositive (is_below ps b) = ⊥
+
+  positive_atom : (a : log.Atom) → IsNormal a → IsPositive (atom_in ns a)
+  positive_atom (atoms.Term t) normal = tt
+  positive_atom (atoms.AtMost b) normal =
+      subst (λ (s : Bool). IsPositive (bounded s (parts_over ns b.sides.parts) b.sides.offset)) (sym normal) tt
+
+  normal_at : (xs : List log.Atom) (i : ℕ) (a : log.Atom) → AllByRecursion IsNormal xs → slice_get xs i ≡ Some a → IsNormal a
+  normal_at xs i a h at =
+      All-contains IsNormal xs a (All-from_recursion IsNormal xs h) (i, slice_get_within xs i a at, get_or_from_slice_get xs i a a at)
+
+  positive : (i : ℕ) → IsAtomAt ns all i → IsPositive (lit i)
+  positive i h = subst IsPositive (sym (says i h.atom h.at)) (positive_atom h.atom (normal_at all i h.atom are.normal h.at))
+
+  negated : (l : Literal) → IsPositive l → IsPositive (negation_of l) → ⊥
+  negated (term_literal t true) h k = absurd k
+  negated (term_literal t false) h k = absurd h
+  negated (is_at_most ps b) h k = absurd k
+  negated (is_below ps b) h k = absurd h
+
+  -- what is in a mapped list is of one of its elements
+  from_map : (f : ℕ → Literal) (xs : List ℕ) (y : Literal) → Contains (map f xs) y → (x : ℕ) × Contains xs x × (f x ≡ y)
+  from_map f xs y c =
+      let P = λ (z : Literal). z ≡ y → (x : ℕ) × Contains xs x × (f x ≡ y) in
+      All-contains P (map f xs) y
+      (All-map P f xs (All-weaker (Contains xs) (λ x. P (f x)) (λ x has e. (x, has, e)) xs (All-contains_itself xs))) c refl
+
+  -- each may be named after those before it
+  lead_names : (q : Task) (x : Point) (seen ids : List ℕ) (s : Search) → s.atoms ≡ map lit seen → StandOnce (seen ++ ids) → AllByRecursion (IsAtomAt ns all) seen → AllByRecursion (IsAtomAt ns all) ids
+      → AllByRecursion (λ i. IsAtom q (lit i)) ids → Lead q s x (map (noted_line ns) (atom_lines all ids)) x
+  lead_names q x seen [] s same once before within each = refl
+  lead_names q x seen (i ∷ ids) s same once before within each =
+      let joined : (seen ++ i ∷ []) ++ ids ≡ seen ++ i ∷ ids = append_assoc seen (i ∷ []) ids in
+      let fresh : Contains s.atoms (lit i) → ⊥ = λ c.
+      let was = from_map lit seen (lit i) (subst (λ (ls : List Literal). Contains ls (lit i)) same c) in
+      let inside = All-contains (IsAtomAt ns all) seen was.0 (All-from_recursion (IsAtomAt ns all) seen before) was.1 in
+      let number : was.0 ≡ i = one_atom i was.0 within.0 inside was.2 in
+      let place = place_of seen was.0 was.1 in
+      let first : slice_get (seen ++ i ∷ ids) place.0 ≡ Some i = slice_get_kept seen (i ∷ ids) place.0 was.0 place.1 ∙ ap Some number in
+      let second : slice_get (seen ++ i ∷ ids) (length seen) ≡ Some i = in_second seen (i ∷ ids) (length seen) 0 (omega arith) in
+      let meet : place.0 ≡ length seen = once place.0 (length seen) i first second in
+      let below = slice_get_within seen place.0 was.0 place.1 in
+      omega (arith, meet, below) in
+      let other : Contains s.atoms (negation_of (lit i)) → ⊥ = λ c.
+      let was = from_map lit seen (negation_of (lit i)) (subst (λ (ls : List Literal). Contains ls (negation_of (lit i))) same c) in
+      let inside = All-contains (IsAtomAt ns all) seen was.0 (All-from_recursion (IsAtomAt ns all) seen before) was.1 in
+      negated (lit i) (positive i within.0) (subst IsPositive was.2 (positive was.0 inside)) in
+      let may : MayName q s (lit i) = record { atom = each.0; fresh = fresh; negation_fresh = other } in
+      let rest : Lead q (after_line s (NoteLine (atom_note (lit i)))) x (map (noted_line ns) (atom_lines all ids)) x =
+      lead_names q x (seen ++ i ∷ []) ids (record s { atoms = s.atoms ++ lit i ∷ [] })
+      (ap (λ (ls : List Literal). ls ++ lit i ∷ []) same ∙ sym (map-append lit seen (i ∷ [])))
+      (subst StandOnce (sym joined) once)
+      (AllByRecursion-append (IsAtomAt ns all) seen (i ∷ []) before (within.0, tt)) within.1 each.1 in
+      subst (λ (line : WorkLine spec.Note). (mid : Point) × MayFollow q s x line mid × Lead q (after_line s line) mid (map (noted_line ns) (atom_lines all ids)) x)
+      (sym (line_says i within.0)) (x, (may, refl), rest)
+
+  -- where the search stands then
+  after_names : (ids : List ℕ) (s : Search) → AllByRecursion (IsAtomAt ns all) ids → after_lines s (map (noted_line ns) (atom_lines all ids)) ≡ record s { atoms = s.atoms ++ map lit ids }
+  after_names [] s within = ap (λ (ls : List Literal). record s { atoms = ls }) (sym (append-nil s.atoms))
+  after_names (i ∷ ids) s within =
+      ap (λ (line : WorkLine spec.Note). after_lines (after_line s line) (map (noted_line ns) (atom_lines all ids))) (line_says i within.0)
+      ∙ after_names ids (record s { atoms = s.atoms ++ lit i ∷ [] }) within.1
+      ∙ ap (λ (ls : List Literal). record s { atoms = ls }) (append_assoc s.atoms (lit i ∷ []) (map lit ids))
+
+  -- Lines of atoms come behind a list that tells of forms alone.
+  module _ (mid : WorkList Note) (fs : List (List spec_form.Part)) (first : search_after ns mid ≡ record at_first { forms = fs }) where
+    stood : (names : List ℕ) → AllByRecursion (IsAtomAt ns all) names → (work : WorkList Note) → work.lines ≡ mid.lines ++ atom_lines all names
+        → search_after ns work ≡ record at_first { forms = fs; atoms = map lit names }
+    stood names within work lines =
+        ap (λ (ls : List (WorkLine Note)). after_lines at_first (map (noted_line ns) ls)) lines
+        ∙ ap (after_lines at_first) (lines_both ns mid.lines (atom_lines all names))
+        ∙ after_both at_first (map (noted_line ns) mid.lines) (map (noted_line ns) (atom_lines all names))
+        ∙ ap (λ (s : Search). after_lines s (map (noted_line ns) (atom_lines all names))) first
+        ∙ after_names names (record at_first { forms = fs }) within
+
+    leads : (q : Task) (names : List ℕ) → StandOnce names → AllByRecursion (IsAtomAt ns all) names → AllByRecursion (λ i. IsAtom q (lit i)) names → (work : WorkList Note)
+        → work.lines ≡ mid.lines ++ atom_lines all names → (y : Point) → Lead q at_first no_point (noted_list ns mid).lines y → Lead q at_first no_point (noted_list ns work).lines y
+    leads q names once within each work lines y lead =
+        let before = map (noted_line ns) mid.lines in
+        let behind = map (noted_line ns) (atom_lines all names) in
+        let more : Lead q (after_lines at_first before) y behind y =
+        subst (λ (s : Search). Lead q s y behind y) (sym first) (lead_names q y [] names (record at_first { forms = fs }) refl once tt within each) in
+        subst (λ (ls : List (WorkLine Note)). Lead q at_first no_point (map (noted_line ns) ls) y) (sym lines)
+        (subst (λ (ls : List (WorkLine spec.Note)). Lead q at_first no_point ls y) (sym (lines_both ns mid.lines (atom_lines all names)))
+        (lead_far q at_first no_point y y before behind lead more))
+
+    module _ (t : Theory) (q : Task) (ids : List ℕ) (may : MayBegin t ns q all ids) (work : WorkList Note) where
+      each_within : AllByRecursion (IsAtomAt ns all) ids
+      each_within = recursion_from_All (IsAtomAt ns all) ids may.within
+
+      -- a theory stands there still
+      pub stands_named : (new : Theory) → work.lines ≡ mid.lines ++ atom_lines all ids → Stands (IsAt new ns) ns q mid → Stands (IsAt new ns) ns q work
+      stands_named new lines h =
+          record {
+            point = h.point;
+            legal = leads q ids may.once each_within (recursion_from_All (λ i. IsAtom q (lit i)) ids may.nameable) work lines h.point h.legal;
+            at = subst (λ (s : Search). IsAt new ns s.forms (told_literals s) h.point) (sym (stood ids each_within work lines))
+                (subst (λ (s : Search). IsAt new ns s.forms (told_literals s) h.point) first h.at);
+          }
+
+      -- and the list knows each atom by its place
+      pub numbered_first : work.lines ≡ mid.lines ++ atom_lines all ids → AreNumbered ns all ids work
+      numbered_first lines k i at =
+          let atoms_are : (search_after ns work).atoms ≡ map lit ids = ap (λ (s : Search). s.atoms) (stood ids each_within work lines) in
+          let inside = slice_get_within ids k i at in
+          let long = length-map ids lit in
+          record {
+            named = subst (λ (ls : List Literal). k < length ls) (sym atoms_are) (omega (arith, inside, long));
+            says = ap (λ (ls : List Literal). slice_index_or ls k (holds (apply falsum no_terms))) atoms_are ∙ get_or_from_slice_get (map lit ids) k (lit i) (holds (apply falsum no_terms)) (mapped ids k at);
+          }
+        where
+          mapped : (xs : List ℕ) (j : ℕ) → slice_get xs j ≡ Some i → slice_get (map lit xs) j ≡ Some (lit i)
+          mapped [] j e = cc
+          mapped (x ∷ xs) zero e = ap (option_map lit) e
+          mapped (x ∷ xs) (suc j) e = mapped xs j e
+
+      -- a front of the notes is legal
+      pub legal_first : (n : ℕ) → work.lines ≡ mid.lines ++ atom_lines all (take n ids) → (y : Point) → Lead q at_first no_point (noted_list ns mid).lines y → AreLegal q (noted_list ns work).lines
+      legal_first n lines y lead = (
+        y,
+        leads q (take n ids) (once_front n ids may.once)
+            (recursion_from_All (IsAtomAt ns all) (take n ids) (All-take (IsAtomAt ns all) n ids may.within))
+            (recursion_from_All (λ i. IsAtom q (lit i)) (take n ids) (All-take (λ i. IsAtom q (lit i)) n ids may.nameable)) work lines y lead,
+      )
+        where
+          in_front : (k n : ℕ) (xs : List ℕ) (x : ℕ) → slice_get (take n xs) k ≡ Some x → slice_get xs k ≡ Some x
+          in_front k zero xs x e = cc
+          in_front k (suc n) [] x e = cc
+          in_front zero (suc n) (y ∷ xs) x e = e
+          in_front (suc k) (suc n) (y ∷ xs) x e = in_front k n xs x e
+
+          once_front : (n : ℕ) (xs : List ℕ) → StandOnce xs → StandOnce (take n xs)
+          once_front n xs h i j x a b = h i j x (in_front i n xs x a) (in_front j n xs x b)
+
+-- where the note of a start leads
+pub started : (ns : List Node) (t : Theory) (old new : WorkList Note) → old.lines ≡ [] → (n : NotesStart t old new) → search_after ns new ≡ record at_first { forms = forms_over ns n.start.forms.items }
+started ns t old new none n =
+    ap (λ (w : WorkList Note). after_lines at_first (map (noted_line ns) w.lines)) n.line
+    ∙ ap (λ (ls : List (WorkLine Note)). after_lines at_first (map (noted_line ns) (ls ++ NoteLine (Start n.start) ∷ []))) none
+
+-- ---- What lines note
+
+within_append : (ns : List Node) (xs ys : List (WorkLine Note)) → AreNotedWithin ns xs → AreNotedWithin ns ys → AreNotedWithin ns (xs ++ ys)
+within_append ns [] ys h k = k
+within_append ns (UnitLine entry ∷ xs) ys h k = within_append ns xs ys h k
+within_append ns (NoteLine note ∷ xs) ys h k = (h.0, within_append ns xs ys h.1 k)
+
+-- what is noted is of the table where each atom is
+atom_within : (ns : List Node) (a : log.Atom) → IsAtomIn ns a → IsNoteWithin ns (note_of a)
+atom_within ns (atoms.Term t) h = h
+atom_within ns (atoms.AtMost b) h = h
+
+pub atoms_within : (ns : List Node) (all : List log.Atom) (ids : List ℕ) → AllByRecursion (IsAtomAt ns all) ids → AreNotedWithin ns (atom_lines all ids)
+atoms_within ns all [] h = tt
+atoms_within ns all (i ∷ ids) h =
+    (atom_within ns (atom_at all i) (subst (IsAtomIn ns) (sym (get_or_from_slice_get all i h.0.atom (atoms.Term 0) h.0.at)) h.0.within), atoms_within ns all ids h.1)
+
+pub forms_within : (ns : List Node) (ks : List ℕ) → AreNotedWithin ns (form_lines ks)
+forms_within ns [] = tt
+forms_within ns (k ∷ ks) = (tt, forms_within ns ks)
+
+-- no unit is among them
+pub atoms_no_unit : (all : List log.Atom) (ids : List ℕ) → unit_count (atom_lines all ids) ≡ 0
+atoms_no_unit all [] = refl
+atoms_no_unit all (i ∷ ids) = atoms_no_unit all ids
+
+pub forms_no_unit : (ks : List ℕ) → unit_count (form_lines ks) ≡ 0
+forms_no_unit [] = refl
+forms_no_unit (k ∷ ks) = forms_no_unit ks
+
+-- nothing is noted
+pub begun_none : (t : Theory) (all : List log.Atom) (ids : List ℕ) (old : WorkList Note) → old.lines ≡ [] → HasBegun t all ids old old
+begun_none t all ids old none = record { within = λ ns over within. subst (AreNotedWithin ns) (sym none) tt; units = ap unit_count none; limit = refl }
+
+-- and then more is
+pub begun_more : (t : Theory) (all : List log.Atom) (ids : List ℕ) (old mid new : WorkList Note) (more : List (WorkLine Note)) → HasBegun t all ids old mid → new ≡ record mid { lines = mid.lines ++ more }
+    → ((ns : List Node) → IsOver t ns → All (IsAtomAt ns all) ids → AreNotedWithin ns more) → unit_count more ≡ 0 → HasBegun t all ids old new
+begun_more t all ids old mid new more h is named none =
+    let both = sum_by-append (λ (x : WorkLine Note). if is_unit x then 1 else 0) mid.lines more in
+    let units = h.units in
+    let count : unit_count (mid.lines ++ more) ≡ 0 = omega (arith, both, units, none) in
+    record {
+      within = λ ns over within. subst (λ (w : WorkList Note). AreNotedWithin ns w.lines) (sym is) (within_append ns mid.lines more (h.within ns over within) (named ns over within));
+      units = ap (λ (w : WorkList Note). unit_count w.lines) is ∙ count;
+      limit = ap (λ (w : WorkList Note). w.limit) is ∙ h.limit;
+    }
+
+forms_noted : (ks : List ℕ) → noted_atoms (form_lines ks) ≡ []
+forms_noted [] = refl
+forms_noted (k ∷ ks) = forms_noted ks
+
+named_by : (a : log.Atom) (lines : List (WorkLine Note)) → noted_atoms (NoteLine (note_of a) ∷ lines) ≡ a ∷ noted_atoms lines
+named_by (atoms.Term t) lines = refl
+named_by (atoms.AtMost b) lines = refl
+
+begun_noted : (all : List log.Atom) (ids ks : List ℕ) → noted_atoms (atom_lines all ids ++ form_lines ks) ≡ map (atom_at all) ids
+begun_noted all [] ks = forms_noted ks
+begun_noted all (i ∷ ids) ks = named_by (atom_at all i) (atom_lines all ids ++ form_lines ks) ∙ ap (λ (xs : List log.Atom). atom_at all i ∷ xs) (begun_noted all ids ks)
+
+-- they are beginnings
+beginning : (a : log.Atom) → IsBeginning (NoteLine (note_of a))
+beginning (atoms.Term t) = tt
+beginning (atoms.AtMost b) = tt
+
+beginnings : (all : List log.Atom) (ids ks : List ℕ) → AreBeginnings (atom_lines all ids ++ form_lines ks)
+beginnings all [] [] = tt
+beginnings all [] (k ∷ ks) = (tt, beginnings all [] ks)
+beginnings all (i ∷ ids) ks = (beginning (atom_at all i), beginnings all ids ks)
+
+there_all : (all : List log.Atom) (ids : List ℕ) → AllByRecursion (λ i. i < length all) ids → map (slice_get all) ids ≡ map Some (map (atom_at all) ids)
+there_all all [] h = refl
+there_all all (i ∷ ids) h =
+    let first : slice_get all i ≡ Some (atom_at all i) = slice_get-get_or all i (atoms.Term 0) h.0 in
+    let rest = there_all all ids h.1 in
+    λ k. first k ∷ rest k
+
+-- a start, the atoms, and then forms
+pub notes_all : (all : List log.Atom) (ids ks : List ℕ) (start : code.StartNote) (work : WorkList Note) → All (λ i. i < length all) ids
+    → work.lines ≡ NoteLine (Start start) ∷ (atom_lines all ids ++ form_lines ks) → NotesAll all ids work
+notes_all all ids ks start work within lines =
+    record {
+      noted = there_all all ids (recursion_from_All (λ i. i < length all) ids within) ∙ ap (map Some) (sym (ap noted_atoms lines ∙ begun_noted all ids ks));
+      beginnings = subst AreBeginnings (sym lines) (tt, beginnings all ids ks);
+    }
+
+-- ---- Lines of a search that begins
+
+-- one atom more is noted
+pub notes_more : (all : List log.Atom) (ids : List ℕ) (n d : ℕ) (old work new : WorkList Note) (note : Note) → n < length ids
+    → work ≡ record old { lines = old.lines ++ atom_lines all (take n ids) } → note ≡ note_of (atom_at all (get_or ids n d)) → new ≡ with_line work (NoteLine note)
+    → new ≡ record old { lines = old.lines ++ atom_lines all (take (n + 1) ids) }
+notes_more all ids n d old work new note below before is step =
+    let line = λ (i : ℕ). NoteLine (note_of (atom_at all i)) in
+    step ∙ ap (λ (w : WorkList Note). with_line w (NoteLine note)) before
+    ∙ ap (λ (ls : List (WorkLine Note)). record old { lines = ls })
+    (append_assoc old.lines (atom_lines all (take n ids)) (NoteLine note ∷ [])
+    ∙ ap (λ (ls : List (WorkLine Note)). old.lines ++ ls)
+    (ap (λ (m : Note). atom_lines all (take n ids) ++ NoteLine m ∷ []) is ∙ sym (map-append line (take n ids) (get_or ids n d ∷ [])) ∙ ap (atom_lines all) (sym (take_more ids n d below))))
+
+-- ---- Stops
+
+pub ends_stopped : (A : Type 0) (IsThere : Standing) (ns : List Node) (q : Task) (work : WorkList Note) (e : Stop) → Ends {A = A} IsThere ns q work (Err e) → EndsWith ns q work e
+ends_stopped A IsThere ns q work (Wide place) h = h
+ends_stopped A IsThere ns q work Spent h = h
+ends_stopped A IsThere ns q work Memory h = h
+
+stopped_ends : (A : Type 0) (IsThere : Standing) (ns : List Node) (q : Task) (work : WorkList Note) (e : Stop) → EndsWith ns q work e → Ends {A = A} IsThere ns q work (Err e)
+stopped_ends A IsThere ns q work (Wide place) h = h
+stopped_ends A IsThere ns q work Spent h = h
+stopped_ends A IsThere ns q work Memory h = h
+
+pub err_ends : (A : Type 0) (IsThere : Standing) (ns : List Node) (q : Task) (work : WorkList Note) (e : Stop) (r : Result A Stop) → Err e ≡ r → EndsWith ns q work e → Ends {A = A} IsThere ns q work r
+err_ends A IsThere ns q work e r same h = subst (Ends {A = A} IsThere ns q work) same (stopped_ends A IsThere ns q work e h)
+
+-- whatever comes of a call, the lines are legal
+pub ends_legal : {A : Type 0} (IsThere : Standing) (ns : List Node) (q : Task) (work : WorkList Note) (r : Result A Stop) → Ends IsThere ns q work r → AreLegal q (noted_list ns work).lines
+ends_legal IsThere ns q work (Ok x) h = (h.point, h.legal)
+ends_legal IsThere ns q work (Err (Wide place)) h = (h.point, h.legal)
+ends_legal IsThere ns q work (Err Spent) h = h
+ends_legal IsThere ns q work (Err Memory) h = h
+
+-- ---- None is noted twice
+
+pub once_from_pairs : (ids : List ℕ) → AllPairs (λ t u. t ≢ u) ids → StandOnce ids
+once_from_pairs ids pairs i j t e k =
+    let first = slice_get_within ids i t e in
+    let second = slice_get_within ids j t k in
+    let same : get_or ids i 0 ≡ get_or ids j 0 = get_or_from_slice_get ids i t 0 e ∙ sym (get_or_from_slice_get ids j t 0 k) in
+    elim (lower_or_not i j) [
+      | inl below ↦ absurd (pairs i j 0 below second same)
+      | inr past ↦ elim (lower_or_not j i) [
+        | inl above ↦ absurd (pairs j i 0 above first (sym same))
+        | inr other ↦ omega (arith, past, other)
+      ]
+    ]
+
+-- ---- What a search is asked lists what the atoms are
+
+mutual
+  part_of : (t u : Term) → Contains (post_order t) u → Contains (listing_order t) u
+  part_of (apply h ts) u c =
+      let last = apply h ts ∷ [] in
+      elim (Contains-append_cases (post_orders ts) last u c) [
+        | inl part ↦ Contains-append_left (listing_orders ts ++ companions h ts) last u (Contains-append_left (listing_orders ts) (companions h ts) u (parts_of ts u part))
+        | inr whole ↦ Contains-append_right (listing_orders ts ++ companions h ts) last u whole
+      ]
+
+  parts_of : (ts : Terms) (u : Term) → Contains (post_orders ts) u → Contains (listing_orders ts) u
+  parts_of no_terms u c = c
+  parts_of (terms t ts) u c =
+      elim (Contains-append_cases (post_order t) (post_orders ts) u c) [
+        | inl first ↦ Contains-append_left (listing_order t) (listing_orders ts) u (part_of t u first)
+        | inr other ↦ Contains-append_right (listing_order t) (listing_orders ts) u (parts_of ts u other)
+      ]
+
+each_listed : (ts : List Term) (u : Term) → Contains (flat_map post_order ts) u → Contains (flat_map listing_order ts) u
+each_listed [] u c = c
+each_listed (t ∷ ts) u c =
+    elim (Contains-append_cases (post_order t) (flat_map post_order ts) u c) [
+      | inl first ↦ Contains-append_left (listing_order t) (flat_map listing_order ts) u (part_of t u first)
+      | inr other ↦ Contains-append_right (listing_order t) (flat_map listing_order ts) u (each_listed ts u other)
+    ]
+
+named_terms : (ns : List Node) (ls : List TermLit) → map (term_in ns) (terms_named ls) ≡ map (λ (l : TermLit). term_in ns l.term) ls
+named_terms ns [] = refl
+named_terms ns (l ∷ ls) = ap (λ ts. term_in ns l.term ∷ ts) (named_terms ns ls)
+
+-- what one of the roots is made of is listed
+each_root : (f : ℕ → Term) (rs : List ℕ) → AllByRecursion (λ r. (u : Term) → Contains (post_order (f r)) u → Contains (flat_map post_order (map f rs)) u) rs
+each_root f [] = tt
+each_root f (r ∷ rs) =
+    let rest = flat_map post_order (map f rs) in (
+      (λ u c. Contains-append_left (post_order (f r)) rest u c),
+      AllByRecursion-weaker (λ s. (u : Term) → Contains (post_order (f s)) u → Contains rest u) (λ s. (u : Term) → Contains (post_order (f s)) u → Contains (post_order (f r) ++ rest) u)
+          (λ s h u c. Contains-append_right (post_order (f r)) rest u (h u c)) rs (each_root f rs),
+    )
+
+part_of_roots : (f : ℕ → Term) (rs : List ℕ) (r : ℕ) → Contains rs r → (u : Term) → Contains (post_order (f r)) u → Contains (flat_map post_order (map f rs)) u
+part_of_roots f rs r has =
+    let P : ℕ → Type 0 = λ s. (u : Term) → Contains (post_order (f s)) u → Contains (flat_map post_order (map f rs)) u in
+    All-contains P rs r (All-from_recursion P rs (each_root f rs)) has
+
+-- what a root is made of is listed in what is asked
+pub listed_part : (ns : List Node) (levels : List (List ℕ)) (assumed : List TermLit) (r : ℕ) → Contains (asserted_numbers levels ++ terms_named assumed) r → (u : Term)
+    → Contains (post_order (term_in ns r)) u → Contains (task_in ns levels assumed []).listed u
+listed_part ns levels assumed r has u part =
+    let roots = asserted_numbers levels ++ terms_named assumed in
+    let same : map (term_in ns) roots ≡ asserted_terms ns levels ++ map (λ (l : TermLit). term_in ns l.term) assumed =
+    map-append (term_in ns) (asserted_numbers levels) (terms_named assumed) ∙ ap (λ us. asserted_terms ns levels ++ us) (named_terms ns assumed) in
+    subst (λ (us : List Term). Contains (flat_map listing_order us) u) same
+    (each_listed (map (term_in ns) roots) u (part_of_roots (term_in ns) roots r has u part))

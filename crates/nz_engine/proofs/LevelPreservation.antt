@@ -1,0 +1,406 @@
+-- What is prepared stays so when levels go on, when a level is put above them, when the table grows, and when levels are cut.
+use Rattle.std.proofs.Common.{◌≡◌, ℕ, suc, ◌<◌, ◌≤◌, ◌⊎◌, inl, inr, Bool, true, false, true≢false, List, [], ◌∷◌, ◌++◌, length, get_or, take, Option, Some, None, refl, sym, ap, subst, ◌∙◌, arith, cond}
+use Rattle.std.specs.Prelude.{All, Contains, IsSome, IsSomeAnd, filter, is_some, nat_le, unwrap_or, option_map, slice_get, if◌then◌else◌}
+use Rattle.std.specs.List.{AllByRecursion}
+use Rattle.std.proofs.lemmas.Bool.{leb-true, le-leb}
+use Rattle.std.proofs.lemmas.List.{length-append, take-append-le}
+use Rattle.std.proofs.lemmas.List.Elements.{All-contains, All-contains_itself, All-from_recursion, All-weaker, Contains-append_right, recursion_from_All}
+use Rattle.nz_lists.proofs.Elements.{AllByRecursion-weaker}
+use Rattle.nz_lists.proofs.Members.{has_cases, has_none, has_found}
+use Rattle.nz_lists.proofs.Options.{kept_if}
+use Rattle.nz_spec.specs.terms.Table.{Node, IsTable, TermStays, term_in}
+use Rattle.nz_spec.specs.terms.Order.{post_order}
+use Rattle.nz_spec.specs.search.Decide.{asserted_numbers}
+use Rattle.nz_spec.specs.clauses.Gates.{is_boolean_term}
+use Rattle.nz_spec.specs.terms.Taken.{IsTaken}
+use Rattle.nz_log.specs.declared.atoms.Atom.{Atom}
+use Rattle.nz_log.specs.declared.atoms.Atom.TheVariants.{Term, AtMost}
+use Rattle.nz_log.specs.declared.lits.Lit.{Lit}
+use Rattle.nz_log.specs.Atoms.{HasTerm, lit_of, terms_of}
+use Rattle.nz_log.specs.Leveled.{IsToldWithin, LogsStayLeveled}
+use Rattle.nz_log.specs.Logs.{Origin, Entry, entry_at, IsLive, level_at, literals_at, told_of, told_level, kept_below, told_below}
+use Rattle.nz_log.specs.Sound.{live_at, LogsStay}
+use Rattle.nz_term.specs.TermLits.{yes}
+use Rattle.nz_cform.specs.Covering.{IsRowAt}
+use Rattle.nz_cform.specs.Forms.{covered_at}
+use Rattle.nz_cform.specs.Listings as listings
+use Rattle.nz_cform.specs.Listings.{ListingState, listed_at}
+use Rattle.nz_cform.specs.Laws.{CoversStay}
+use Rattle.nz_sat.specs.declared.clauses.Held.{Held}
+use Rattle.nz_sat.specs.Sats.{AreHeld, held_of, held_up_to}
+use Rattle.nz_engine.specs.Levels.{count_in, count_of}
+use Rattle.nz_engine.specs.Preparing.{PreparedState, AreSearched, HoldsUnit, IsMadeOf, IsOfForm, IsPrepared, IsSearched, IsStanding, CutsTo, KeepsBounds}
+use Rattle.nz_engine.proofs.AssertionPlaces.{GoOn, count_all, count_cut, count_more, in_all, live_cut, longer_cut, lower_or_not, place_of}
+
+pub none_or_some : {X : Type 0} (o : Option X) → (o ≡ None) ⊎ ((x : X) × (o ≡ Some x))
+none_or_some None = inl refl
+none_or_some (Some x) = inr (x, refl)
+
+-- what a level told is, where none is
+pub told_or : (o : Option ℕ) → (unwrap_or o 0 ≡ 0) ⊎ (o ≡ Some (unwrap_or o 0))
+told_or None = inl refl
+told_or (Some n) = inr refl
+
+-- what is kept of a level was told, at or below it
+told_parts : (level : ℕ) (o : Option ℕ) (n : ℕ) → told_below level o ≡ Some n → (o ≡ Some n) × (n ≤ level)
+told_parts level None n at = cc
+told_parts level (Some m) n at =
+    let k = kept_if (nat_le m level) m n at in
+    (ap Some k.0, subst (λ i. i ≤ level) k.0 (leb-true m level k.1))
+
+-- what one of some roots has is what one of more has
+pub made_of_more : (ns : List Node) (xs ys : List ℕ) (t : ℕ) → ((r : ℕ) → Contains xs r → Contains ys r) → IsMadeOf ns xs t → IsMadeOf ns ys t
+made_of_more ns xs ys t more h = record { root = h.root; has = more h.root h.has; within = h.within; part = h.part }
+
+pub some_of : {X : Type 0} (o : Option X) → IsSome o → (x : X) × (o ≡ Some x)
+some_of None h = absurd (true≢false (sym h))
+some_of (Some x) h = (x, refl)
+
+-- a level within another one is one
+pub some_within : (o : Option ℕ) (n : ℕ) → IsSomeAnd o (λ m. m ≤ n) → IsSome o
+some_within None n h = absurd h
+some_within (Some m) n h = refl
+
+-- a literal that was searched for is so still, where its atom is of the form still
+pub still_searched : (ns more : List Node) (p q : PreparedState) (i : ℕ) → ((a : Atom) → slice_get p.log.atoms i ≡ Some a → slice_get q.log.atoms i ≡ Some a)
+    → ((a : Atom) → slice_get p.log.atoms i ≡ Some a → IsOfForm ns p.form i a → IsOfForm more q.form i a) → IsSearched ns p.log p.form i → IsSearched more q.log q.form i
+still_searched ns more p q i stay of s = record { atom = s.atom; at = stay s.atom s.at; of = of s.atom s.at s.of }
+
+-- ---- Nothing yet
+
+-- ---- Levels go on
+
+module _ (ns : List Node) (old new : List (List ℕ)) (p : PreparedState) (on : GoOn old new) (h : IsPrepared ns old old p) where
+  -- a unit's level is one of the old ones
+  unit_below : (k t : ℕ) → k < p.given → (u : HoldsUnit old p k t) → u.held.level < length old
+  unit_below k t below u =
+      elim (lower_or_not u.held.level (length old)) [
+        | inl low ↦ low
+        | inr past ↦
+            let all = count_all old u.held.level past in
+            let behind = u.behind in
+            let within = h.within in
+            absurd (omega (arith, all, behind, within, below))
+      ]
+
+  goes_units : (k t : ℕ) → k < p.given → slice_get (asserted_numbers new) k ≡ Some t → HoldsUnit new p k t
+  goes_units k t below at =
+      let within = h.within in
+      let u = h.units k t below (on.front k t (omega (arith, below, within)) at) in
+      record {
+        held = u.held;
+        there = u.there;
+        named = u.named;
+        literals = u.literals;
+        behind = subst (λ n. n ≤ k) (sym (on.counts u.held.level (unit_below k t below u))) u.behind;
+      }
+
+  goes_lower : (t : ℕ) → count_in new (told_level p.log t) ≤ p.given
+  goes_lower t =
+      elim (told_or (told_of p.log t)) [
+        | inl none ↦ subst (λ n. count_in new n ≤ p.given) (sym none) (omega arith)
+        | inr some ↦
+            let below : told_level p.log t < length old = h.below t (told_level p.log t) (sym (h.covers.rows.told t) ∙ some) in
+            subst (λ n. n ≤ p.given) (sym (on.counts (told_level p.log t) below)) (h.lower t)
+      ]
+
+  pub goes_on : LogsStay → IsPrepared ns new new p
+  goes_on stay =
+      record {
+        order = stay.asserted ns old new p.log on.more h.order;
+        covers = h.covers;
+        below = λ t n at. let low = h.below t n at in let longer = on.longer in omega (arith, low, longer);
+        made = λ t n at. made_of_more ns (live_at old n) (live_at new n) t
+            (λ r has. let place = place_of (live_at old n) r has in has_found (live_at new n) place.0 r (on.more n place.0 r place.1)) (h.made t n at);
+        taken = h.taken;
+        leveled = h.leveled;
+        held = h.held;
+        searched = h.searched;
+        rows = h.rows;
+        units = goes_units;
+        within = let within = h.within in let total = on.total in omega (arith, within, total);
+        lower = goes_lower;
+      }
+
+-- ---- A level above
+
+pub raised : (ns : List Node) (levels : List (List ℕ)) (more : List ℕ) (p : PreparedState) → IsPrepared ns levels levels p → IsPrepared ns levels (levels ++ more ∷ []) p
+raised ns levels more p h =
+    record {
+      order = h.order;
+      covers = h.covers;
+      below = λ t n at. let low = h.below t n at in let long = length-append levels (more ∷ []) in omega (arith, low, long);
+      made = λ t n at.
+          let low = h.below t n at in
+          subst (λ ls. IsMadeOf ns ls t) (sym (ap asserted_numbers (take-append-le (suc n) levels (more ∷ []) (omega (arith, low))))) (h.made t n at);
+      taken = h.taken;
+      leveled = h.leveled;
+      held = h.held;
+      searched = h.searched;
+      rows = h.rows;
+      units = h.units;
+      within = h.within;
+      lower = h.lower;
+    }
+
+pub standing : (ns : List Node) (levels : List (List ℕ)) (more : List ℕ) (p : PreparedState) → IsPrepared ns levels levels p → IsStanding ns levels more p
+standing ns levels more p h = record { raised = raised ns levels more p h; plain = λ e. h }
+
+-- ---- The table grows
+
+-- what is of the form over a table is so over one that goes on
+grown_of : TermStays → (ns more : List Node) (p : PreparedState) → ((t n : ℕ) → covered_at p.form t ≡ Some n → t < length ns) → (i : ℕ) (a : Atom)
+    → IsOfForm ns p.form i a → IsOfForm (ns ++ more) p.form i a
+grown_of terms ns more p within i (Term t) of =
+    let n = some_of (covered_at p.form t) of.0 in
+    (of.0, ap is_boolean_term (terms ns more t (within t n.0 n.1)) ∙ of.1)
+grown_of terms ns more p within i (AtMost b) of = of
+
+pub grown : TermStays → LogsStay → CoversStay → (ns more : List Node) (levels roots : List (List ℕ)) (p : PreparedState) → IsTable ns → IsPrepared ns levels roots p
+    → IsPrepared (ns ++ more) levels roots p
+grown terms stay covers ns more levels roots p table h =
+    record {
+      order = stay.table ns more levels p.log h.order;
+      covers = covers.table ns more p.log p.form table h.covers;
+      below = h.below;
+      made = λ t n at.
+          let of = h.made t n at in
+          let inside = h.covers.within t n at in
+          let there = of.within in
+          let part = subst (λ u. Contains (post_order (term_in ns of.root)) u) (sym (terms ns more t inside)) of.part in
+          record {
+            root = of.root;
+            has = of.has;
+            within = let long = length-append ns more in omega (arith, long, there);
+            part = subst (λ u. Contains (post_order u) (term_in (ns ++ more) t)) (sym (terms ns more of.root there)) part;
+          };
+      taken = λ t some.
+          let n = some_of (covered_at p.form t) some in
+          subst IsTaken (sym (terms ns more t (h.covers.within t n.0 n.1))) (h.taken t some);
+      leveled = h.leveled;
+      held = h.held;
+      searched = λ k d inside.
+          let x = get_or p.sat.clauses k d in
+          All-weaker (λ (l : Lit). IsSearched ns p.log p.form l.atom) (λ (l : Lit). IsSearched (ns ++ more) p.log p.form l.atom)
+          (λ l s. still_searched ns (ns ++ more) p p l.atom (λ a at. at) (λ a at of. grown_of terms ns more p h.covers.within l.atom a of) s)
+          (literals_at p.log x.id) (h.searched k d inside);
+      rows = h.rows;
+      units = h.units;
+      within = h.within;
+      lower = h.lower;
+    }
+
+-- ---- Levels are cut
+
+-- what holds of the clauses up to a level
+filter_step : (Q : Held → Type 0) (h : Held) (hs : List Held) (b : Bool) → (b ≡ true → Q h) → AllByRecursion Q hs → AllByRecursion Q (cond b (h ∷ hs) hs)
+filter_step Q h hs true own rest = (own refl, rest)
+filter_step Q h hs false own rest = rest
+
+up_to : (P Q : Held → Type 0) (m : ℕ) → ((h : Held) → h.level ≤ m → P h → Q h) → (hs : List Held) → AllByRecursion P hs → AllByRecursion Q (held_up_to m hs)
+up_to P Q m f [] all = tt
+up_to P Q m f (h ∷ hs) all =
+    filter_step Q h (held_up_to m hs) (nat_le h.level m) (λ e. f h (leb-true h.level m e) all.0) (up_to P Q m f hs all.1)
+
+-- and a clause up to it is one of them
+keep_first : (h : Held) (hs : List Held) (b : Bool) → b ≡ true → Contains (cond b (h ∷ hs) hs) h
+keep_first h hs true e = (0, omega arith, refl)
+keep_first h hs false e = absurd (true≢false (sym e))
+
+keep_other : (h x : Held) (hs : List Held) (b : Bool) → Contains hs x → Contains (cond b (h ∷ hs) hs) x
+keep_other h x hs true c = Contains-append_right (h ∷ []) hs x c
+keep_other h x hs false c = c
+
+kept_at : (m : ℕ) (hs : List Held) → AllByRecursion (λ (x : Held). x.level ≤ m → Contains (held_up_to m hs) x) hs
+kept_at m [] = tt
+kept_at m (h ∷ hs) = (
+  (λ low. keep_first h (held_up_to m hs) (nat_le h.level m) (le-leb h.level m low)),
+  AllByRecursion-weaker (λ (x : Held). x.level ≤ m → Contains (held_up_to m hs) x) (λ (x : Held). x.level ≤ m → Contains (held_up_to m (h ∷ hs)) x)
+      (λ x f low. keep_other h x (held_up_to m hs) (nat_le h.level m) (f low)) hs (kept_at m hs),
+)
+
+pub kept_up_to : (m : ℕ) (hs : List Held) (x : Held) → Contains hs x → x.level ≤ m → Contains (held_up_to m hs) x
+kept_up_to m hs x has =
+    All-contains (λ (y : Held). y.level ≤ m → Contains (held_up_to m hs) y) hs x
+    (All-from_recursion (λ (y : Held). y.level ≤ m → Contains (held_up_to m hs) y) hs (kept_at m hs)) has
+
+-- clauses that are kept
+entry_kept : (m : ℕ) (o : Option Entry) → IsSome o → elim o [ None ↦ 0 | Some e ↦ e.level ] ≤ m → kept_below m o ≡ o
+entry_kept m None live low = refl
+entry_kept m (Some e) live low = ap (λ b. if b then Some e else None) (le-leb e.level m low)
+
+test_kept : (m : ℕ) (o : Origin) (e : Entry) (b : Bool) → nat_le e.level m ≡ b → option_map (λ (x : Entry). x.origin) (if b then Some e else None) ≡ Some o
+    → (e.level ≤ m) × (Some e.origin ≡ Some o)
+test_kept m o e true t at = (leb-true e.level m t, at)
+test_kept m o e false t at = cc
+
+origin_kept : (m : ℕ) (o : Origin) (x : Option Entry) → option_map (λ (e : Entry). e.origin) (kept_below m x) ≡ Some o
+    → IsSome x × (elim x [ None ↦ 0 | Some e ↦ e.level ] ≤ m) × (option_map (λ (e : Entry). e.origin) x ≡ Some o)
+origin_kept m o None at = cc
+origin_kept m o (Some e) at = let k = test_kept m o e (nat_le e.level m) refl at in (refl, k.0, k.1)
+
+-- no level told is raised
+told_test : (m n : ℕ) (b : Bool) → nat_le n m ≡ b → (unwrap_or (if b then Some n else None) 0 ≤ m) × (unwrap_or (if b then Some n else None) 0 ≤ n)
+told_test m n true e = (leb-true n m e, omega arith)
+told_test m n false e = (omega arith, omega arith)
+
+told_low : (m : ℕ) (o : Option ℕ) → (unwrap_or (told_below m o) 0 ≤ m) × (unwrap_or (told_below m o) 0 ≤ unwrap_or o 0)
+told_low m None = (omega arith, omega arith)
+told_low m (Some n) = told_test m n (nat_le n m) refl
+
+module _ (ns : List Node) (levels roots : List (List ℕ)) (p q : PreparedState) (m : ℕ) (c : CutsTo p m (count_of (take (suc m) levels)) q) (h : IsPrepared ns levels roots p) where
+  c_terms : (t : ℕ) → covered_at q.form t ≡ told_below m (covered_at p.form t)
+  c_terms t = c.form.terms.levels t
+
+  same_entry : (i : ℕ) → IsLive p.log i → level_at p.log i ≤ m → entry_at q.log i ≡ entry_at p.log i
+  same_entry i live low = c.log.entries i ∙ entry_kept m (entry_at p.log i) live low
+
+  held_of_same : (i : ℕ) → IsLive p.log i → level_at p.log i ≤ m → held_of q.log i ≡ held_of p.log i
+  held_of_same i live low = ap (λ (o : Option Entry). let x : Held = record { id = i; level = elim o [ None ↦ 0 | Some e ↦ e.level ] } in x) (same_entry i live low)
+
+  cut_held : AreHeld q.log q.sat.clauses
+  cut_held =
+      let P = λ (x : Held). IsLive p.log x.id × (level_at p.log x.id ≡ x.level) in
+      let Q = λ (x : Held). IsLive q.log x.id × (level_at q.log x.id ≡ x.level) in
+      subst (AreHeld q.log) (sym c.clauses)
+      (All-from_recursion Q (held_up_to m p.sat.clauses)
+      (up_to P Q m
+      (λ x low k.
+      let same = same_entry x.id k.0 (subst (λ n. n ≤ m) (sym k.1) low) in
+      (subst (λ o. IsSome o) (sym same) k.0, ap (λ (o : Option Entry). elim o [ None ↦ 0 | Some e ↦ e.level ]) same ∙ k.1))
+      p.sat.clauses (recursion_from_All P p.sat.clauses h.held)))
+
+  -- a term that a clause below the level names is covered still
+  cut_covered : (x : Held) → IsLive p.log x.id → level_at p.log x.id ≤ m → (l : Lit) → Contains (literals_at p.log x.id) l → (t : ℕ) → slice_get p.log.atoms l.atom ≡ Some (Term t)
+      → IsSome (covered_at q.form t)
+  cut_covered x live low l has t at = of_entry (entry_at p.log x.id) refl live low has
+    where
+      told_stays : (o : Option ℕ) (k : ℕ) → k ≤ m → IsSomeAnd o (λ n. n ≤ k) → IsSome (told_below m o)
+      told_stays None k few h = absurd h
+      told_stays (Some n) k few h = subst (λ (b : Bool). IsSome (if b then Some n else None)) (sym (le-leb n m (omega (arith, few, h)))) refl
+
+      of_entry : (o : Option Entry) → entry_at p.log x.id ≡ o → IsSome o → elim o [ None ↦ 0 | Some e ↦ e.level ] ≤ m → Contains (elim o [ None ↦ [] | Some e ↦ e.literals ]) l → IsSome (covered_at q.form t)
+      of_entry None is some few c = absurd (true≢false (sym some))
+      of_entry (Some e) is some few c =
+          let names = h.leveled x.id e is l c in
+          let both : Some names.atom ≡ Some (Term t) = sym names.at ∙ at in
+          let one : names.atom ≡ Term t = cc in
+          let told : IsToldWithin p.log e.level t = (subst (λ (a : Atom). AllByRecursion (IsToldWithin p.log e.level) (terms_of a)) one names.terms).0 in
+          subst (λ (o : Option ℕ). IsSome o) (sym (c_terms t)) (subst (λ (o : Option ℕ). IsSome (told_below m o)) (h.covers.rows.told t) (told_stays (told_of p.log t) e.level few told))
+
+  cut_of : KeepsBounds p.form q.form → (x : Held) → IsLive p.log x.id → level_at p.log x.id ≤ m → (l : Lit) → Contains (literals_at p.log x.id) l → (a : Atom) → slice_get p.log.atoms l.atom ≡ Some a
+      → IsOfForm ns p.form l.atom a → IsOfForm ns q.form l.atom a
+  cut_of keeps x live low l has (Term t) at of = (cut_covered x live low l has t at, of.1)
+  cut_of keeps x live low l has (AtMost b) at of = keeps l.atom of
+
+  cut_searched : KeepsBounds p.form q.form → AreSearched ns q.log q.form q.sat.clauses
+  cut_searched keeps =
+      let P = λ (x : Held). (IsLive p.log x.id × (level_at p.log x.id ≡ x.level)) × All (λ (l : Lit). IsSearched ns p.log p.form l.atom) (literals_at p.log x.id) in
+      let Q = λ (x : Held). All (λ (l : Lit). IsSearched ns q.log q.form l.atom) (literals_at q.log x.id) in
+      subst (AreSearched ns q.log q.form) (sym c.clauses)
+      (All-from_recursion Q (held_up_to m p.sat.clauses)
+      (up_to P Q m
+      (λ x low k.
+      let below : level_at p.log x.id ≤ m = subst (λ n. n ≤ m) (sym k.0.1) low in
+      let lits = literals_at p.log x.id in
+      let same : literals_at q.log x.id ≡ lits = ap (λ (o : Option Entry). elim o [ None ↦ [] | Some e ↦ e.literals ]) (same_entry x.id k.0.0 below) in
+      subst (All (λ (l : Lit). IsSearched ns q.log q.form l.atom)) (sym same)
+      (All-weaker (Contains lits) (λ (l : Lit). IsSearched ns q.log q.form l.atom)
+      (λ l has.
+      still_searched ns ns p q l.atom (λ a at. ap (λ (atoms : List Atom). slice_get atoms l.atom) c.log.atoms ∙ at)
+      (λ a at of. cut_of keeps x k.0.0 below l has a at of) (All-contains (λ (y : Lit). IsSearched ns p.log p.form y.atom) lits l k.1 has))
+      lits (All-contains_itself lits)))
+      p.sat.clauses (recursion_from_All P p.sat.clauses (λ k d inside. (h.held k d inside, h.searched k d inside)))))
+
+  cut_rows : (i t : ℕ) → IsRowAt q.log i t → Contains q.sat.clauses (held_of q.log i)
+  cut_rows i t row =
+      let was = origin_kept m row.0 (entry_at p.log i) (ap (option_map (λ (e : Entry). e.origin)) (sym (c.log.entries i)) ∙ row.1) in
+      subst (λ x. Contains q.sat.clauses x) (sym (held_of_same i was.0 was.1))
+      (subst (λ hs. Contains hs (held_of p.log i)) (sym c.clauses) (kept_up_to m p.sat.clauses (held_of p.log i) (h.rows i t (row.0, was.2, row.2)) was.1))
+
+  cut_units : (k t : ℕ) → k < q.given → slice_get (asserted_numbers (take (suc m) levels)) k ≡ Some t → HoldsUnit (take (suc m) levels) q k t
+  cut_units k t below at =
+      let count = c.given in
+      let inside : k < p.given = omega (arith, count, below) in
+      let few : k < count_in levels (suc m) = omega (arith, count, below) in
+      let u = h.units k t inside (in_all levels (suc m) k t at) in
+      let behind : count_in levels u.held.level ≤ k = u.behind in
+      let low : u.held.level ≤ m = elim (lower_or_not m u.held.level) [
+        | inl high ↦ let more = count_more levels (suc m) u.held.level (omega (arith, high)) in absurd (omega (arith, more, behind, few))
+        | inr fine ↦ fine
+      ] in
+      let own = All-contains (λ (x : Held). IsLive p.log x.id × (level_at p.log x.id ≡ x.level)) p.sat.clauses u.held h.held u.there in
+      let same = same_entry u.held.id own.0 (subst (λ n. n ≤ m) (sym own.1) low) in
+      record {
+        held = u.held;
+        there = subst (λ hs. Contains hs u.held) (sym c.clauses) (kept_up_to m p.sat.clauses u.held u.there low);
+        named = subst (λ (atoms : List Atom). HasTerm atoms t) (sym c.log.atoms) u.named;
+        literals = ap (λ (o : Option Entry). elim o [ None ↦ [] | Some e ↦ e.literals ]) same ∙ u.literals
+            ∙ ap (λ (atoms : List Atom). lit_of atoms (yes t) ∷ []) (sym c.log.atoms);
+        behind = subst (λ n. n ≤ k) (sym (count_cut levels m u.held.level (omega (arith, low)))) behind;
+      }
+
+  cut_lower : (t : ℕ) → count_in (take (suc m) levels) (told_level q.log t) ≤ q.given
+  cut_lower t =
+      let n = told_level q.log t in
+      let low : (n ≤ m) × (n ≤ told_level p.log t) = subst (λ o. (unwrap_or o 0 ≤ m) × (unwrap_or o 0 ≤ told_level p.log t)) (sym (c.log.told t)) (told_low m (told_of p.log t)) in
+      let most = low.0 in
+      let same = count_cut levels m n (omega (arith, most)) in
+      let first = count_more levels n (told_level p.log t) low.1 in
+      let second = count_more levels n (suc m) (omega (arith, most)) in
+      let was = h.lower t in
+      let count = c.given in
+      omega (arith, same, first, second, was, count)
+
+  pub cut_prepared : CoversStay → LogsStayLeveled → KeepsBounds p.form q.form → IsPrepared ns (take (suc m) levels) (take (suc m) roots) q
+  cut_prepared covers leveled keeps =
+      record {
+        order = c.sound ns levels h.order;
+        covers = covers.dropped ns p.log q.log p.form q.form m c.log c.form h.covers;
+        below = λ t n at.
+            let was = told_parts m (covered_at p.form t) n (sym (c_terms t) ∙ at) in
+            longer_cut roots m n was.1 (h.below t n was.0);
+        made = λ t n at.
+            let was = told_parts m (covered_at p.form t) n (sym (c_terms t) ∙ at) in
+            subst (λ ls. IsMadeOf ns ls t) (sym (live_cut roots m n was.1)) (h.made t n was.0);
+        taken = λ t some.
+            let n = some_of (covered_at q.form t) some in
+            let was = told_parts m (covered_at p.form t) n.0 (sym (c_terms t) ∙ n.1) in
+            h.taken t (subst (λ (o : Option ℕ). IsSome o) (sym was.0) refl);
+        leveled = leveled.dropped p.log q.log m c.log h.leveled;
+        held = cut_held;
+        searched = cut_searched keeps;
+        rows = cut_rows;
+        units = cut_units;
+        within = let count = c.given in omega (arith, count);
+        lower = cut_lower;
+      }
+
+-- ---- Nothing is taken off
+
+filter_short : (f : ℕ → Bool) (xs : List ℕ) → length (filter f xs) ≤ length xs
+filter_short f [] = omega arith
+filter_short f (x ∷ xs) = by_test (f x) (filter_short f xs)
+  where
+    by_test : (b : Bool) → length (filter f xs) ≤ length xs → length (cond b (x ∷ filter f xs) (filter f xs)) ≤ suc (length xs)
+    by_test true rest = omega (arith, rest)
+    by_test false rest = omega (arith, rest)
+
+-- where no element is left out, each passes the test
+filter_all : (f : ℕ → Bool) (xs : List ℕ) → length (filter f xs) ≡ length xs → (y : ℕ) → Contains xs y → f y ≡ true
+filter_all f [] e y c = absurd (has_none y c)
+filter_all f (x ∷ xs) e y c = by_test (f x) refl e (λ k more. filter_all f xs k y more)
+  where
+    by_test : (b : Bool) → f x ≡ b → length (cond b (x ∷ filter f xs) (filter f xs)) ≡ suc (length xs) → (length (filter f xs) ≡ length xs → Contains xs y → f y ≡ true) → f y ≡ true
+    by_test true t k rest =
+        elim (has_cases x y xs c) [
+          | inl same ↦ ap f (sym same) ∙ t
+          | inr more ↦ rest (omega (arith, k)) more
+        ]
+    by_test false t k rest = let short = filter_short f xs in absurd (omega (arith, short, k))
+
+-- so what is cut to as many has all that there were
+pub all_kept : (old new : ListingState) (level : ℕ) → ((i : ℕ) → IsSome (listed_at old i) → Contains old.ids i) → listings.Cuts old level new → length new.ids ≡ length old.ids → (i : ℕ) → IsSome (listed_at old i)
+    → IsSome (listed_at new i)
+all_kept old new level listed cuts long i some =
+    filter_all (λ k. is_some (listed_at new k)) old.ids (ap length (sym cuts.ids) ∙ long) i (listed i some)

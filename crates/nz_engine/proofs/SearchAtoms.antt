@@ -1,0 +1,593 @@
+-- A search over what is prepared: its atoms, what they say, and what stays when it has learned.
+use Rattle.std.proofs.Common.{◌≡◌, inl, inr, ℕ, suc, Bool, true, false, not, List, [], ◌∷◌, ◌++◌, get_or, map, Option, Some, None, option_map, Result, Ok, Err, IfOk, refl, sym, ap, subst, ◌∙◌}
+use Rattle.std.specs.Prelude.{All, Contains, IsSome, slice_get}
+use Rattle.std.specs.List.{AllByRecursion}
+use Rattle.std.proofs.lemmas.Option.{get_or_from_slice_get, slice_get_within}
+use Rattle.std.proofs.lemmas.List.Elements.{All-append, All-contains, All-contains_itself, All-from_recursion, All-head, All-map, All-tail, All-weaker, Contains-append_left, Contains-append_right, Contains-get_or}
+use Rattle.nz_lists.proofs.Members.{has_found, map_has}
+use Rattle.nz_lists.proofs.Elements.{AllByRecursion-weaker}
+use Rattle.nz_fractions.specs.Fraction.{Fraction, neg_ℚ}
+use Rattle.nz_fractions.proofs.Identities.{neg-back, neg-nonzero}
+use Rattle.nz_spec.specs.search.Decide.{asserted_numbers}
+use Rattle.nz_spec.specs.terms.Form as spec
+use Rattle.nz_spec.specs.terms.Form.{negated_part}
+use Rattle.nz_spec.specs.terms.FormOf.{number_in}
+use Rattle.nz_spec.specs.clauses.Gates.{is_boolean_term}
+use Rattle.nz_spec.specs.search.Legal.{Task, IsAtom, IsTabled, terms_known, told_literals}
+use Rattle.nz_spec.specs.clauses.Literal.{term_literal, is_at_most, StandOnce}
+use Rattle.nz_spec.specs.terms.Table.{Node, IsTable, term_in}
+use Rattle.nz_spec.specs.terms.Taken.{IsTakenBoolean}
+use Rattle.nz_spec.specs.terms.Term as Term
+use Rattle.nz_spec.specs.search.Work.{WorkList}
+use Rattle.nz_spec.specs.terms.Term.{is_zero}
+use Rattle.nz_lin.specs.declared.bound.Bound.{Bound}
+use Rattle.nz_lin.specs.declared.form.Part.{Part}
+use Rattle.nz_lin.specs.Bounds.{bounded}
+use Rattle.nz_lin.specs.Forms.{parts_over}
+use Rattle.nz_log.specs.declared.atoms.Atom.{Atom}
+use Rattle.nz_log.specs.declared.atoms.Atom.TheVariants.{Term, AtMost}
+use Rattle.nz_log.specs.declared.lits.Lit.{Lit}
+use Rattle.nz_term.specs.declared.term_lits.TermLit.{TermLit}
+use Rattle.nz_log.specs.Atoms.{AreAtoms, AtomsOfTerms, HasTerm, IsAtomIn, IsLitIn, IsNormal, Stay, atom_in, lit_of, literal_in, lits_of, term_place, terms_of, with_sign}
+use Rattle.nz_log.specs.Leveled.{AreToldAtoms, IsToldWithin, LogsStayLeveled, Names}
+use Rattle.nz_log.specs.Lits.{negated_lit}
+use Rattle.nz_log.specs.Logs.{Entry, JoinsAtoms, LogState, entry_at, literals_at, told_of}
+use Rattle.nz_log.specs.Sound.{IsLog, LogsStay, live_at}
+use Rattle.nz_search.specs.Standing.{Ends, Stands, search_after}
+use Rattle.nz_search.specs.declared.note.Note.{Note}
+use Rattle.nz_search.specs.declared.stop.Stop.{Stop}
+use Rattle.nz_term.specs.TermLits.{AreConsistent, literal_of}
+use Rattle.nz_log.specs.Growth as growth
+use Rattle.nz_search.specs.Verdicts.{task_in}
+use Rattle.nz_cform.specs.Covering.{HasBound}
+use Rattle.nz_cform.specs.Forms.{FormState, covered_at}
+use Rattle.nz_cform.specs.Laws.{CoversStay}
+use Rattle.nz_cform.specs.Listings.{IsListing, listed_at}
+use Rattle.nz_reals.specs.Knowing.{of_stays}
+use Rattle.nz_reals.specs.Stands.{HasTold, IsAt, IsFeasible, IsOf, IsOver}
+use Rattle.nz_reals.specs.Starts.{MayRestart, TheoriesRestart}
+use Rattle.nz_reals.specs.State.{Theory}
+use Rattle.nz_reals.specs.Sums.{AreNonzero}
+use Rattle.nz_sat.specs.Numbers.{IsAtomAt, atom_literal}
+use Rattle.nz_sat.specs.Sats as sat
+use Rattle.nz_sat.specs.Sats.{AreNamed, AreOn, HoldsMore, IsAsked, IsSatisfied, IsTheoryMet, truth_of}
+use Rattle.nz_engine.specs.Checking.{AreHanded, AreLearnable, HasFound, HaveAtoms, IsLearnable, IsNonzero, IsPosed, IsReady, MayBegin, terms_named, truth_in}
+use Rattle.nz_engine.specs.Preparing.{PreparedState, AreSearched, IsOfForm, IsPrepared, IsSearched, atoms_of, boolean_terms}
+use Rattle.nz_engine.specs.SearchLaws.{RowLaws, SearchLaws}
+use Rattle.nz_engine.proofs.LevelPreservation.{made_of_more, some_of, some_within, still_searched}
+use Rattle.nz_engine.proofs.AtomNotes.{listed_part, once_from_pairs}
+use Rattle.nz_engine.proofs.Onces.{boolean_there, boolean_was, once_append, once_booleans, once_from_stand, once_map, stand_from_once}
+use Rattle.nz_engine.proofs.AssertionPlaces.{all_roots, in_all, place_of}
+use Rattle.nz_engine.proofs.ClausePreservation.{from_lits, joined_prepared, learned, literal_at_atom}
+use Rattle.nz_engine.proofs.RowFacts.{AreNonzeroParts, IsOfRow, IsRowLiteral, of_row}
+
+-- ---- Atoms of terms
+
+-- a term's atom tells it
+pub same_terms : (atoms : List Atom) (t u : ℕ) → HasTerm atoms t → HasTerm atoms u → term_place atoms t ≡ term_place atoms u → t ≡ u
+same_terms atoms t u has_t has_u same =
+    let both : Some (Term t) ≡ Some (Term u) = sym has_t ∙ ap (slice_get atoms) same ∙ has_u in
+    let is : Term t ≡ Term u = cc in
+    cc
+
+-- the truth of a term whose atom is there
+pub truth_there : (p : PreparedState) (t : ℕ) → HasTerm p.log.atoms t → truth_in p t ≡ truth_of p.sat (term_place p.log.atoms t)
+truth_there p t has = ap (λ (o : Option Atom). elim o [ None ↦ None | Some a ↦ truth_of p.sat (term_place p.log.atoms t) ]) has
+
+-- where atoms join, these stay
+pub places_stay : (own : AtomsOfTerms) (old new : List Atom) → Stay old new → (ts : List ℕ) → All (HasTerm old) ts → map (term_place new) ts ≡ map (term_place old) ts
+places_stay own old new stay [] has = refl
+places_stay own old new stay (t ∷ ts) has =
+    let first = (own.keep old new stay t (All-head (HasTerm old) t ts has)).1 in
+    let rest = places_stay own old new stay ts (All-tail (HasTerm old) t ts has) in
+    λ i. first i ∷ rest i
+
+pub terms_stay : (own : AtomsOfTerms) (old new : List Atom) → Stay old new → (ts : List ℕ) → All (HasTerm old) ts → All (HasTerm new) ts
+terms_stay own old new stay ts has = All-weaker (HasTerm old) (HasTerm new) (λ t h. (own.keep old new stay t h).0) ts has
+
+pub lits_stay : (own : AtomsOfTerms) (old new : List Atom) → Stay old new → (c : List TermLit) → All (λ (l : TermLit). HasTerm old l.term) c → lits_of new c ≡ lits_of old c
+lits_stay own old new stay [] has = refl
+lits_stay own old new stay (l ∷ c) has =
+    let P : TermLit → Type 0 = λ m. HasTerm old m.term in
+    let first : lit_of new l ≡ lit_of old l = ap (λ (n : ℕ). record { atom = n; sign = l.sign }) (own.keep old new stay l.term (All-head P l c has)).1 in
+    let rest = lits_stay own old new stay c (All-tail P l c has) in
+    λ i. first i ∷ rest i
+
+pub lit_terms_stay : (own : AtomsOfTerms) (old new : List Atom) → Stay old new → (c : List TermLit) → All (λ (l : TermLit). HasTerm old l.term) c → All (λ (l : TermLit). HasTerm new l.term) c
+lit_terms_stay own old new stay c has =
+    All-weaker (λ (l : TermLit). HasTerm old l.term) (λ (l : TermLit). HasTerm new l.term) (λ l h. (own.keep old new stay l.term h).0) c has
+
+-- what literals on terms say
+pub says : (ns : List Node) (atoms : List Atom) (c : List TermLit) → All (λ (l : TermLit). HasTerm atoms l.term) c → map (literal_in ns atoms) (lits_of atoms c) ≡ map (literal_of ns) c
+says ns atoms [] has = refl
+says ns atoms (l ∷ c) has =
+    let P : TermLit → Type 0 = λ m. HasTerm atoms m.term in
+    let first : literal_in ns atoms (lit_of atoms l) ≡ literal_of ns l =
+    ap (λ (o : Option Atom). elim o [ None ↦ term_literal (term_in ns 0) l.sign | Some a ↦ with_sign l.sign (atom_in ns a) ]) (All-head P l c has) ∙ signed (term_in ns l.term) l.sign in
+    let rest = says ns atoms c (All-tail P l c has) in
+    λ i. first i ∷ rest i
+  where
+    signed : (u : Term.Term) (sign : Bool) → with_sign sign (term_literal u true) ≡ term_literal u sign
+    signed u true = refl
+    signed u false = refl
+
+-- no assumed literal is the negation of another
+pub consistent_lits : (atoms : List Atom) (ls : List TermLit) → All (λ (l : TermLit). HasTerm atoms l.term) ls → AreConsistent ls → sat.AreConsistent (lits_of atoms ls)
+consistent_lits atoms ls has apart =
+    All-map (λ (l : Lit). Contains (lits_of atoms ls) (negated_lit l) → ⊥) (lit_of atoms) ls
+    (λ k d below c.
+    let m = get_or ls k d in
+    let from = from_lits atoms ls (negated_lit (lit_of atoms m)) c in
+    let there = All-contains (λ (l : TermLit). HasTerm atoms l.term) ls from.0 has from.1 in
+    let term : from.0.term ≡ m.term = same_terms atoms from.0.term m.term there (has k d below) (ap (λ (l : Lit). l.atom) from.2) in
+    let sign : from.0.sign ≡ not m.sign = ap (λ (l : Lit). l.sign) from.2 in
+    apart k d below (subst (Contains ls) (λ i. record { term = term i; sign = sign i }) from.1))
+
+-- ---- Sums without a coefficient 0
+
+unnegated : (ps : List spec.Part) → AreNonzeroParts (map negated_part ps) → AreNonzeroParts ps
+unnegated [] h = tt
+unnegated (p ∷ ps) h = (subst (λ (q : Fraction). is_zero q ≡ false) (neg-back p.coefficient) (neg-nonzero (neg_ℚ p.coefficient) h.0), unnegated ps h.1)
+
+by_sign : (ps : List spec.Part) (b : Fraction) (sign : Bool) → IsRowLiteral (with_sign sign (is_at_most ps b)) → AreNonzeroParts ps
+by_sign ps b true h = h
+by_sign ps b false h = unnegated ps h
+
+by_number : (ns : List Node) (ps : List Part) → AreNonzeroParts (parts_over ns ps) → AreNonzero ps
+by_number ns [] h = tt
+by_number ns (p ∷ ps) h = (h.0, by_number ns ps h.1)
+
+tabled_by : (ns : List Node) (q : Task) (t : Term.Term) (ps : List spec.Part) (b : Fraction) (sign : Bool) → Contains q.listed t → IsOfRow (number_in ns) t (with_sign sign (is_at_most ps b))
+    → IsTabled q.listed (is_at_most ps b)
+tabled_by ns q t ps b true listed h =
+    let k = h.bound refl in
+    record { number = number_in ns; term = t; listed = listed; row = k.row; tabled = k.tabled; has = inl k.has }
+tabled_by ns q t ps b false listed h =
+    let k = h.bound refl in
+    record { number = number_in ns; term = t; listed = listed; row = k.row; tabled = k.tabled; has = inr k.has }
+
+-- the atom of a bound is of no strict one
+normal_bound : (atoms : List Atom) (i : ℕ) (b : Bound) → AreAtoms atoms → slice_get atoms i ≡ Some (AtMost b) → b.strict ≡ false
+normal_bound atoms i b are at =
+    All-contains IsNormal atoms (AtMost b) (All-from_recursion IsNormal atoms are.normal) (i, slice_get_within atoms i (AtMost b) at, get_or_from_slice_get atoms i (AtMost b) (AtMost b) at)
+
+-- what a literal on it says
+bound_in_log : (ns : List Node) (atoms : List Atom) (l : Lit) (b : Bound) → slice_get atoms l.atom ≡ Some (AtMost b) → b.strict ≡ false
+    → literal_in ns atoms l ≡ with_sign l.sign (is_at_most (parts_over ns b.sides.parts) b.sides.offset)
+bound_in_log ns atoms l b at normal =
+    literal_at_atom ns atoms l (AtMost b) at ∙ ap (λ (s : Bool). with_sign l.sign (bounded s (parts_over ns b.sides.parts) b.sides.offset)) normal
+
+entry_of : {X Y : Type 0} (f : X → Y) (o : Option X) (y : Y) → option_map f o ≡ Some y → (x : X) × (o ≡ Some x)
+entry_of f None y e = absurd cc
+entry_of f (Some x) y e = (x, refl)
+
+-- ---- What is searched for
+
+module _ (laws : RowLaws) (ns : List Node) (table : IsTable ns) (levels roots : List (List ℕ)) (p : PreparedState) (ready : IsPrepared ns levels roots p) where
+  -- A bound that is listed is of a row in the log.
+  record IsBoundOf (i : ℕ) (b : Bound) : Type 0 where
+    clause : ℕ
+    bound : HasBound p.log clause i
+    entry : Entry
+    here : entry_at p.log clause ≡ Some entry
+    has : Contains entry.literals bound.literal
+    at : slice_get p.log.atoms bound.literal.atom ≡ Some (AtMost b)
+    covered : IsSome (covered_at p.form bound.term)
+    fact : IsOfRow (number_in ns) (term_in ns bound.term) (with_sign bound.literal.sign (is_at_most (parts_over ns b.sides.parts) b.sides.offset))
+
+  bound_of_row : (i : ℕ) (b : Bound) → slice_get p.log.atoms i ≡ Some (AtMost b) → IsSome (listed_at p.form.bounds i) → IsBoundOf i b
+  bound_of_row i b at some =
+      let n = some_of (listed_at p.form.bounds i) some in
+      let of = ready.covers.bounds.tabled i n.0 n.1 in
+      let x = of.1 in
+      let e = entry_of (λ (y : Entry). y.origin) (entry_at p.log of.0) x.row.0 x.row.1 in
+      let own : slice_get p.log.atoms x.literal.atom ≡ Some (AtMost b) = ap (slice_get p.log.atoms) x.on ∙ at in
+      let some_term : IsSome (covered_at p.form x.term) = subst (λ (o : Option ℕ). IsSome o) (sym (ready.covers.rows.of_covered of.0 x.term x.row)) refl in
+      record {
+        clause = of.0;
+        bound = x;
+        entry = e.0;
+        here = e.1;
+        has = subst (λ (o : Option Entry). Contains (elim o [ None ↦ [] | Some y ↦ y.literals ]) x.literal) e.1 x.has;
+        at = own;
+        covered = some_term;
+        fact = subst (IsOfRow (number_in ns) (term_in ns x.term)) (bound_in_log ns p.log.atoms x.literal b own (normal_bound p.log.atoms i b ready.order.atoms at))
+            (of_row laws ns table levels p.log ready.order of.0 x.term x.row (ready.taken x.term some_term) x.literal x.has);
+      }
+
+  -- the atom is over the table
+  pub searched_within : (i : ℕ) → IsSearched ns p.log p.form i → IsAtomAt ns p.log.atoms i
+  searched_within i s = record { atom = s.atom; at = s.at; within = by_atom s.atom s.at s.of }
+    where
+      by_atom : (a : Atom) → slice_get p.log.atoms i ≡ Some a → IsOfForm ns p.form i a → IsAtomIn ns a
+      by_atom (Term t) at of = let n = some_of (covered_at p.form t) of.0 in ready.covers.within t n.0 n.1
+      by_atom (AtMost b) at of =
+          let x = bound_of_row i b at of in
+          let l = x.bound.literal in
+          let there = All-contains (IsLitIn ns p.log.atoms) x.entry.literals l (All-from_recursion (IsLitIn ns p.log.atoms) x.entry.literals (ready.order.clauses x.clause x.entry x.here).within) x.has in
+          let both : Some there.atom ≡ Some (AtMost b) = sym there.at ∙ x.at in
+          let one : there.atom ≡ AtMost b = cc in
+          subst (IsAtomIn ns) one there.within
+
+  -- a level was told of each term that it names
+  pub searched_told : (i : ℕ) → IsSearched ns p.log p.form i → Names (λ t. IsSome (told_of p.log t)) p.log.atoms (record { atom = i; sign = true })
+  searched_told i s = record { atom = s.atom; at = s.at; terms = by_atom s.atom s.at s.of }
+    where
+      by_atom : (a : Atom) → slice_get p.log.atoms i ≡ Some a → IsOfForm ns p.form i a → AllByRecursion (λ t. IsSome (told_of p.log t)) (terms_of a)
+      by_atom (Term t) at of = (subst (λ (o : Option ℕ). IsSome o) (sym (ready.covers.rows.told t)) of.0, tt)
+      by_atom (AtMost b) at of =
+          let x = bound_of_row i b at of in
+          let names = ready.leveled x.clause x.entry x.here x.bound.literal x.has in
+          let both : Some names.atom ≡ Some (AtMost b) = sym names.at ∙ x.at in
+          let one : names.atom ≡ AtMost b = cc in
+          subst (λ (a : Atom). AllByRecursion (λ t. IsSome (told_of p.log t)) (terms_of a)) one
+          (AllByRecursion-weaker (IsToldWithin p.log x.entry.level) (λ t. IsSome (told_of p.log t)) (λ t told. some_within (told_of p.log t) x.entry.level told) (terms_of names.atom) names.terms)
+
+  -- the theory may learn of it
+  pub searched_learnable : (i : ℕ) → IsSearched ns p.log p.form i → IsLearnable ns p.log.atoms i
+  searched_learnable i s =
+      record {
+        within = searched_within i s;
+        nonzero = subst IsNonzero (sym (get_or_from_slice_get p.log.atoms i s.atom (Term 0) s.at)) (by_atom s.atom s.at s.of);
+      }
+    where
+      by_atom : (a : Atom) → slice_get p.log.atoms i ≡ Some a → IsOfForm ns p.form i a → IsNonzero a
+      by_atom (Term t) at of = tt
+      by_atom (AtMost b) at of =
+          let x = bound_of_row i b at of in
+          by_number ns b.sides.parts (by_sign (parts_over ns b.sides.parts) b.sides.offset x.bound.literal.sign x.fact.literal)
+
+  -- and it may be named, where what is covered is listed
+  module _ (q : Task) (listed : (t : ℕ) → IsSome (covered_at p.form t) → Contains q.listed (term_in ns t)) where
+    pub searched_nameable : (i : ℕ) → IsSearched ns p.log p.form i → IsAtom q (atom_literal ns p.log.atoms i)
+    searched_nameable i s = by_atom s.atom s.at s.of
+      where
+        by_atom : (a : Atom) → slice_get p.log.atoms i ≡ Some a → IsOfForm ns p.form i a → IsAtom q (atom_literal ns p.log.atoms i)
+        by_atom (Term t) at of =
+            let is : atom_literal ns p.log.atoms i ≡ term_literal (term_in ns t) true = literal_at_atom ns p.log.atoms (record { atom = i; sign = true }) (Term t) at in
+            subst (IsAtom q) (sym is) (refl, of.1, listed t of.0)
+        by_atom (AtMost b) at of =
+            let x = bound_of_row i b at of in
+            subst (IsAtom q) (sym (bound_in_log ns p.log.atoms (record { atom = i; sign = true }) b at (normal_bound p.log.atoms i b ready.order.atoms at)))
+            (tabled_by ns q (term_in ns x.bound.term) (parts_over ns b.sides.parts) b.sides.offset x.bound.literal.sign (listed x.bound.term x.covered) x.fact)
+
+-- ---- The atoms of a search
+
+module _ (ns : List Node) (p : PreparedState) (own : AtomsOfTerms) (are : AreAtoms p.log.atoms) (terms : IsListing p.form.terms) (bounds : IsListing p.form.bounds)
+    (has : All (HasTerm p.log.atoms) (boolean_terms ns p.form.terms.ids)) where
+  abbrev booleans : List ℕ
+  booleans = boolean_terms ns p.form.terms.ids
+
+  abbrev places : List ℕ
+  places = map (term_place p.log.atoms) booleans
+
+  -- what is searched for is among them
+  pub searched_in : (i : ℕ) → IsSearched ns p.log p.form i → Contains (atoms_of ns p) i
+  searched_in i s = by_atom s.atom s.at s.of
+    where
+      by_atom : (a : Atom) → slice_get p.log.atoms i ≡ Some a → IsOfForm ns p.form i a → Contains (atoms_of ns p) i
+      by_atom (Term t) at of =
+          let there : Contains booleans t = boolean_there ns p.form.terms.ids t ((terms.listed t).1 of.0) of.1 in
+          subst (Contains (atoms_of ns p)) (sym (own.one p.log.atoms are i t at))
+          (Contains-append_left places p.form.bounds.ids (term_place p.log.atoms t) (map_has (term_place p.log.atoms) booleans t there))
+      by_atom (AtMost b) at of = Contains-append_right places p.form.bounds.ids i ((bounds.listed i).1 of)
+
+  from_places : (i : ℕ) → Contains places i → (t : ℕ) × Contains booleans t × (term_place p.log.atoms t ≡ i)
+  from_places i c =
+      let P = λ (j : ℕ). j ≡ i → (t : ℕ) × Contains booleans t × (term_place p.log.atoms t ≡ i) in
+      All-contains P places i
+      (All-map P (term_place p.log.atoms) booleans (All-weaker (Contains booleans) (λ t. P (term_place p.log.atoms t)) (λ t there e. (t, there, e)) booleans (All-contains_itself booleans))) c refl
+
+  term_here : (t : ℕ) → Contains booleans t → HasTerm p.log.atoms t
+  term_here t c = All-contains (HasTerm p.log.atoms) booleans t has c
+
+  -- a place of a term is searched for
+  place_searched : (i : ℕ) → Contains places i → IsSearched ns p.log p.form i
+  place_searched i c =
+      let of = from_places i c in
+      let was = boolean_was ns p.form.terms.ids of.0 of.1 in
+      record { atom = Term of.0; at = ap (slice_get p.log.atoms) (sym of.2) ∙ term_here of.0 of.1; of = ((terms.listed of.0).0 was.0, was.1) }
+
+  module _ (bound_at : (i : ℕ) → IsSome (listed_at p.form.bounds i) → (b : Bound) × (slice_get p.log.atoms i ≡ Some (AtMost b))) where
+    -- each of them is searched for
+    pub atoms_searched : All (IsSearched ns p.log p.form) (atoms_of ns p)
+    atoms_searched =
+        All-append (IsSearched ns p.log p.form) places p.form.bounds.ids
+        (All-weaker (Contains places) (IsSearched ns p.log p.form) place_searched places (All-contains_itself places))
+        (All-weaker (Contains p.form.bounds.ids) (IsSearched ns p.log p.form)
+        (λ i c. let some = (bounds.listed i).0 c in let b = bound_at i some in record { atom = AtMost b.0; at = b.1; of = some })
+        p.form.bounds.ids (All-contains_itself p.form.bounds.ids))
+
+    -- none stands twice
+    pub atoms_once : StandOnce (atoms_of ns p)
+    atoms_once =
+        stand_from_once (atoms_of ns p)
+        (once_append places p.form.bounds.ids
+        (once_map (term_place p.log.atoms) booleans (λ t u c d same. same_terms p.log.atoms t u (term_here t c) (term_here u d) same)
+        (once_booleans ns p.form.terms.ids (once_from_stand p.form.terms.ids (once_from_pairs p.form.terms.ids terms.once))))
+        (once_from_stand p.form.bounds.ids (once_from_pairs p.form.bounds.ids bounds.once))
+        (λ i c d.
+        let of = from_places i c in
+        let b = bound_at i ((bounds.listed i).0 d) in
+        let both : Some (Term of.0) ≡ Some (AtMost b.0) = sym (term_here of.0 of.1) ∙ ap (slice_get p.log.atoms) of.2 ∙ b.1 in
+        let one : Term of.0 ≡ AtMost b.0 = cc in
+        absurd cc))
+
+-- ---- A search that is handed its atoms
+
+module _ (laws : RowLaws) (own : AtomsOfTerms) {ns : List Node} {levels : List (List ℕ)} {assumed : List TermLit} {p : PreparedState} (posed : IsPosed ns levels assumed p)
+    {ids : List ℕ} {lits : List Lit} (n : AreHanded ns p assumed ids lits) where
+  abbrev ready : IsPrepared ns levels (levels ++ terms_named assumed ∷ []) p
+  ready = posed.standing.raised
+
+  -- what is covered is listed in what is asked
+  covered_listed : (t : ℕ) → IsSome (covered_at p.form t) → Contains (task_in ns levels assumed []).listed (term_in ns t)
+  covered_listed t some =
+      let k = some_of (covered_at p.form t) some in
+      let roots = asserted_numbers levels ++ terms_named assumed in
+      let all = asserted_numbers (levels ++ terms_named assumed ∷ []) in
+      let into : (r : ℕ) → Contains (live_at (levels ++ terms_named assumed ∷ []) k.0) r → Contains roots r = λ r has.
+      let place = place_of (live_at (levels ++ terms_named assumed ∷ []) k.0) r has in
+      subst (λ xs. Contains xs r) (all_roots levels (terms_named assumed))
+      (has_found all place.0 r (in_all (levels ++ terms_named assumed ∷ []) (suc k.0) place.0 r place.1)) in
+      let of = made_of_more ns (live_at (levels ++ terms_named assumed ∷ []) k.0) roots t into (ready.made t k.0 k.1) in
+      listed_part ns levels assumed of.root of.has (term_in ns t) of.part
+
+  bound_at : (i : ℕ) → IsSome (listed_at p.form.bounds i) → (b : Bound) × (slice_get p.log.atoms i ≡ Some (AtMost b))
+  bound_at i some =
+      let k = some_of (listed_at p.form.bounds i) some in
+      let of = ready.covers.bounds.tabled i k.0 k.1 in
+      (of.1.bound, of.1.is_bound)
+
+  pub ids_searched : All (IsSearched ns p.log p.form) ids
+  ids_searched = subst (All (IsSearched ns p.log p.form)) (sym n.numbers) (atoms_searched ns p own ready.order.atoms n.terms n.bounds n.there.covered bound_at)
+
+  pub ids_within : All (IsAtomAt ns p.log.atoms) ids
+  ids_within = All-weaker (IsSearched ns p.log p.form) (IsAtomAt ns p.log.atoms) (searched_within laws ns posed.table levels (levels ++ terms_named assumed ∷ []) p ready) ids ids_searched
+
+  pub ids_learnable : AreLearnable p.sat.theory p.log.atoms ids
+  ids_learnable =
+      record {
+        table = ns;
+        over = posed.over;
+        each = All-weaker (IsSearched ns p.log p.form) (IsLearnable ns p.log.atoms) (searched_learnable laws ns posed.table levels (levels ++ terms_named assumed ∷ []) p ready) ids ids_searched;
+      }
+
+  pub ids_told : AreToldAtoms p.log ids
+  ids_told =
+      let T = λ (l : Lit). Names (λ t. IsSome (told_of p.log t)) p.log.atoms l in
+      All-map T (λ (i : ℕ). record { atom = i; sign = true }) ids
+      (All-weaker (IsSearched ns p.log p.form) (λ i. T (record { atom = i; sign = true })) (searched_told laws ns posed.table levels (levels ++ terms_named assumed ∷ []) p ready) ids ids_searched)
+
+  pub ids_once : StandOnce ids
+  ids_once = subst StandOnce (sym n.numbers) (atoms_once ns p own ready.order.atoms n.terms n.bounds n.there.covered bound_at)
+
+  pub may_begin : TheoriesRestart → (ts : List Term.Term) → MayRestart p.sat.theory ns ts → MayBegin p.sat.theory ns (task_in ns levels assumed ts) p.log.atoms ids
+  may_begin restart ts rest =
+      let q = task_in ns levels assumed ts in
+      record {
+        over = posed.over;
+        rest = restart.more p.sat.theory ns ts (terms_known q) (λ t c. Contains-append_left ts q.listed t c) rest;
+        within = ids_within;
+        nameable = All-weaker (IsSearched ns p.log p.form) (λ i. IsAtom q (atom_literal ns p.log.atoms i))
+            (searched_nameable laws ns posed.table levels (levels ++ terms_named assumed ∷ []) p ready q covered_listed) ids ids_searched;
+        once = ids_once;
+        atoms = ready.order.atoms;
+      }
+
+  -- the assumed literals are on them
+  lits_among : All (λ (l : Lit). Contains ids l.atom) lits
+  lits_among =
+      let A = λ (l : Lit). Contains ids l.atom in
+      subst (All A) (sym n.on_atoms)
+      (All-map A (lit_of p.log.atoms) assumed
+      (λ k d below.
+      let l : TermLit = get_or assumed k d in
+      let has : Contains (terms_named assumed) l.term = map_has (λ (m : TermLit). m.term) assumed l (Contains-get_or assumed k d below) in
+      let boolean : is_boolean_term (term_in ns l.term) ≡ true = (All-contains (λ t. IsTakenBoolean (term_in ns t)) (terms_named assumed) l.term posed.assumed_taken has).boolean in
+      subst (λ (is : List ℕ). Contains is (term_place p.log.atoms l.term)) (sym n.numbers)
+      (searched_in ns p own ready.order.atoms n.terms n.bounds n.there.covered (term_place p.log.atoms l.term)
+      (record { atom = Term l.term; at = n.there.named k d below; of = (posed.assumed_covered k d below, boolean) }))))
+
+  pub are_named : AreNamed p.log p.sat.clauses lits ids
+  are_named =
+      record {
+        clauses = λ k d below.
+            let x = get_or p.sat.clauses k d in
+            All-weaker (λ (l : Lit). IsSearched ns p.log p.form l.atom) (λ (l : Lit). Contains ids l.atom)
+            (λ l s. subst (λ (is : List ℕ). Contains is l.atom) (sym n.numbers) (searched_in ns p own ready.order.atoms n.terms n.bounds n.there.covered l.atom s))
+            (literals_at p.log x.id) (ready.searched k d below);
+        assumed_named = lits_among;
+        once = ids_once;
+      }
+
+  pub are_consistent : AreConsistent assumed → sat.AreConsistent lits
+  are_consistent apart = subst sat.AreConsistent (sym n.on_atoms) (consistent_lits p.log.atoms assumed n.there.named apart)
+
+  pub is_asked : (ts : List Term.Term) → IsAsked ns levels p.log ids lits (task_in ns levels assumed ts)
+  is_asked ts =
+      record {
+        table = posed.table;
+        within = ids_within;
+        named = lits_among;
+        order = ready.order;
+        asserted = refl;
+        assumed_literals = sym (says ns p.log.atoms assumed n.there.named) ∙ ap (map (literal_in ns p.log.atoms)) (sym n.on_atoms);
+      }
+
+  -- ---- In a log that grows
+
+  module _ (q : PreparedState) (grows : growth.Grows p.log q.log) (form : q.form ≡ p.form) where
+    pub named_have : HaveAtoms ns q assumed
+    named_have =
+        record {
+          covered = subst (λ (f : FormState). All (HasTerm q.log.atoms) (boolean_terms ns f.terms.ids)) (sym form)
+              (terms_stay own p.log.atoms q.log.atoms grows.atoms (boolean_terms ns p.form.terms.ids) n.there.covered);
+          named = lit_terms_stay own p.log.atoms q.log.atoms grows.atoms assumed n.there.named;
+        }
+
+    pub named_lits : lits ≡ lits_of q.log.atoms assumed
+    named_lits = n.on_atoms ∙ sym (lits_stay own p.log.atoms q.log.atoms grows.atoms assumed n.there.named)
+
+    pub named_ids : ids ≡ atoms_of ns q
+    named_ids =
+        n.numbers
+        ∙ ap (λ (is : List ℕ). is ++ p.form.bounds.ids) (sym (places_stay own p.log.atoms q.log.atoms grows.atoms (boolean_terms ns p.form.terms.ids) n.there.covered))
+        ∙ ap (λ (f : FormState). map (term_place q.log.atoms) (boolean_terms ns f.terms.ids) ++ f.bounds.ids) (sym form)
+
+    pub named_searched : AreOn q.log ids q.sat.clauses → AreSearched ns q.log q.form q.sat.clauses
+    named_searched on k d below =
+        let x = get_or q.sat.clauses k d in
+        All-weaker (λ (l : Lit). Contains ids l.atom) (λ (l : Lit). IsSearched ns q.log q.form l.atom)
+        (λ l c.
+        still_searched ns ns p q l.atom (λ a at. grows.atoms l.atom a at) (λ a at of. subst (λ (f : FormState). IsOfForm ns f l.atom a) (sym form) of)
+        (All-contains (IsSearched ns p.log p.form) ids l.atom ids_searched c))
+        (literals_at q.log x.id) (on k d below)
+
+    -- what a search found, where its theory stands where its list leads
+    pub search_finds : IsOf q.sat.theory p.log.atoms ids → IsSatisfied q.log q.sat lits ids → IsTheoryMet q.log (HasTold q.sat.theory) (IsFeasible q.sat.theory) q.sat ids
+        → (task : Task) (work : WorkList Note) → Stands (IsAt q.sat.theory ns) ns task work → HasFound ns assumed q
+    search_finds of satisfied met task work stands =
+        let of_here : IsOf q.sat.theory q.log.atoms ids = of_stays q.sat.theory p.log.atoms q.log.atoms ids of grows.atoms in
+        record {
+          handed = record {
+            terms = subst (λ (f : FormState). IsListing f.terms) (sym form) n.terms;
+            bounds = subst (λ (f : FormState). IsListing f.bounds) (sym form) n.bounds;
+            numbers = refl;
+            on_atoms = refl;
+            there = named_have;
+          };
+          truths = subst (λ (ls : List Lit). IsSatisfied q.log q.sat ls (atoms_of ns q)) named_lits (subst (λ (is : List ℕ). IsSatisfied q.log q.sat lits is) named_ids satisfied);
+          bounds = subst (λ (is : List ℕ). IsTheoryMet q.log (HasTold q.sat.theory) (IsFeasible q.sat.theory) q.sat is) named_ids met;
+          of = subst (λ (is : List ℕ). IsOf q.sat.theory q.log.atoms is) named_ids of_here;
+          forms = (search_after ns work).forms;
+          told = told_literals (search_after ns work);
+          point = stands.point;
+          at = stands.at;
+        }
+
+    pub found_of : IsOf q.sat.theory p.log.atoms ids → (task : Task) (work : WorkList Note) (r : Result (Option ℕ) Stop) → IfOk r (λ o. o ≡ None → IsSatisfied q.log q.sat lits ids)
+        → IfOk r (λ o. o ≡ None → IsTheoryMet q.log (HasTold q.sat.theory) (IsFeasible q.sat.theory) q.sat ids) → Ends (IsAt q.sat.theory ns) ns task work r
+        → IfOk r (λ o. o ≡ None → HasFound ns assumed q)
+    found_of of task work (Ok o) s f e = λ none. search_finds of (s none) (f none) task work e
+    found_of of task work (Err x) s f e = tt
+
+-- ---- What stays
+
+module _ (own : AtomsOfTerms) (covers : CoversStay) (ns : List Node) (levels : List (List ℕ)) (assumed : List TermLit) (p q : PreparedState) (form : q.form ≡ p.form)
+    (given : q.given ≡ p.given) (above : q.above ≡ p.above) where
+  posed_with : ((roots : List (List ℕ)) → IsPrepared ns levels roots p → IsPrepared ns levels roots q) → (IsOver p.sat.theory ns → IsOver q.sat.theory ns) → IsPosed ns levels assumed p
+      → IsPosed ns levels assumed q
+  posed_with stays over h =
+      record {
+        table = h.table;
+        over = over h.over;
+        standing = record {
+          raised = stays (levels ++ terms_named assumed ∷ []) h.standing.raised;
+          plain = λ e. stays levels (h.standing.plain (sym above ∙ e));
+        };
+        all_given = h.all_given ∙ sym given;
+        assumed_covered = subst (λ f. All (λ (l : TermLit). IsSome (covered_at f l.term)) assumed) (sym form) h.assumed_covered;
+        taken = h.taken;
+        assumed_taken = h.assumed_taken;
+        assumed_within = h.assumed_within;
+      }
+
+  -- a search has learned
+  pub posed_on : growth.Grows p.log q.log → HoldsMore q.log p.sat.clauses q.sat.clauses → AreSearched ns q.log q.form q.sat.clauses → (IsLog ns levels p.log → IsLog ns levels q.log)
+      → (IsOver p.sat.theory ns → IsOver q.sat.theory ns) → IsPosed ns levels assumed p → IsPosed ns levels assumed q
+  posed_on grows more on sound over h = posed_with (λ roots r. learned ns levels roots p q grows form given more r own covers on (sound h.standing.raised.order)) over h
+
+  -- atoms have joined
+  pub posed_joined : LogsStay → LogsStayLeveled → JoinsAtoms p.log q.log → AreAtoms q.log.atoms → q.sat ≡ p.sat → IsPosed ns levels assumed p → IsPosed ns levels assumed q
+  posed_joined stay leveled joins all same h =
+      posed_with (λ roots r. joined_prepared own stay leveled covers ns levels roots p q joins all form given (ap (λ (s : sat.SatState Theory). s.clauses) same) r)
+      (subst (λ (s : sat.SatState Theory). IsOver s.theory ns) (sym same)) h
+
+-- a search may go on where atoms have joined
+pub posed_named : AtomsOfTerms → CoversStay → LogsStay → LogsStayLeveled → (ns : List Node) (levels : List (List ℕ)) (assumed : List TermLit) (p q : PreparedState)
+    → q ≡ record p { log = q.log } → JoinsAtoms p.log q.log → AreAtoms q.log.atoms → IsPosed ns levels assumed p → IsPosed ns levels assumed q
+posed_named own covers stay leveled ns levels assumed p q rest joins all posed =
+    posed_joined own covers ns levels assumed p q (ap (λ (s : PreparedState). s.form) rest) (ap (λ (s : PreparedState). s.given) rest) (ap (λ (s : PreparedState). s.above) rest) stay leveled
+    joins all (ap (λ (s : PreparedState). s.sat) rest) posed
+
+-- ---- What is known before a search
+
+pub ready_named : SearchLaws → LogsStay → LogsStayLeveled → {ns : List Node} {assumed : List TermLit} (old : PreparedState) {q : PreparedState} {ids : List ℕ} {lits : List Lit}
+    → q ≡ record old { log = q.log } → JoinsAtoms old.log q.log → AreAtoms q.log.atoms → AreHanded ns q assumed ids lits
+    → (levels : List (List ℕ)) × IsPosed ns levels assumed old → IsReady ns assumed old q ids lits
+ready_named laws stay leveled {ns} {assumed} old {q} rest joins all handed begun =
+    let posed : (levels : List (List ℕ)) → IsPosed ns levels assumed old → IsPosed ns levels assumed q = λ levels h.
+    posed_named laws.atoms laws.covers stay leveled ns levels assumed old q rest joins all h in
+    record { handed = handed; posed = posed; some = (begun.0, posed begun.0 begun.1) }
+
+-- the same of what the names stand for
+pub ready_as : {ns : List Node} {assumed : List TermLit} {old p q : PreparedState} {ids xs : List ℕ} {lits ls : List Lit} → p ≡ q → ids ≡ xs → lits ≡ ls
+    → IsReady ns assumed old q xs ls → IsReady ns assumed old p ids lits
+ready_as {ns} {assumed} {old} {p} {q} {ids} {xs} {lits} {ls} view same_ids same_lits ready =
+    subst (λ (s : PreparedState). IsReady ns assumed old s ids lits) (sym view)
+    (subst (λ (is : List ℕ). IsReady ns assumed old q is lits) (sym same_ids) (subst (IsReady ns assumed old q xs) (sym same_lits) ready))
+
+-- and may again when it has learned
+pub posed_after : AtomsOfTerms → CoversStay → {ns : List Node} {assumed : List TermLit} {old p : PreparedState} {ids : List ℕ} {lits : List Lit} → IsReady ns assumed old p ids lits → (q : PreparedState)
+    → q.form ≡ p.form → q.given ≡ p.given → q.above ≡ p.above → (levels : List (List ℕ)) → growth.Grows p.log q.log → HoldsMore q.log p.sat.clauses q.sat.clauses
+    → AreSearched ns q.log q.form q.sat.clauses → (IsLog ns levels p.log → IsLog ns levels q.log) → (IsOver p.sat.theory ns → IsOver q.sat.theory ns) → IsPosed ns levels assumed p
+    → IsPosed ns levels assumed q
+posed_after own covers {ns} {assumed} {old} {p} r q form given above levels grows more on sound over h = posed_on own covers ns levels assumed p q form given above grows more on sound over h
+
+-- Another theory stands in place of the one.
+module _ (ns : List Node) (levels : List (List ℕ)) (p q : PreparedState) (log : q.log ≡ p.log) (form : q.form ≡ p.form) (clauses : q.sat.clauses ≡ p.sat.clauses) (given : q.given ≡ p.given) where
+  with_theory : (roots : List (List ℕ)) → IsPrepared ns levels roots p → IsPrepared ns levels roots q
+  with_theory roots h =
+      subst (λ (s : PreparedState). IsPrepared ns levels roots (record q { log = s.log; form = s.form; sat = record q.sat { clauses = s.sat.clauses }; given = s.given }))
+      (λ i. record p { log = sym log i; form = sym form i; sat = record p.sat { clauses = sym clauses i }; given = sym given i })
+      (record {
+        order = h.order;
+        covers = h.covers;
+        below = h.below;
+        made = h.made;
+        taken = h.taken;
+        leveled = h.leveled;
+        held = h.held;
+        searched = h.searched;
+        rows = h.rows;
+        units = λ k t below at. let u = h.units k t below at in record { held = u.held; there = u.there; named = u.named; literals = u.literals; behind = u.behind };
+        within = h.within;
+        lower = h.lower;
+      })
+
+-- A search may begin over it, and may be handed the same.
+pub ready_with : {ns : List Node} {assumed : List TermLit} {old p : PreparedState} {ids : List ℕ} {lits : List Lit} → IsReady ns assumed old p ids lits → (q : PreparedState) → q.log ≡ p.log
+    → q.form ≡ p.form → q.sat.clauses ≡ p.sat.clauses → q.given ≡ p.given → q.above ≡ p.above → (IsOver p.sat.theory ns → All (IsAtomAt ns p.log.atoms) ids → IsOver q.sat.theory ns)
+    → ((levels : List (List ℕ)) → IsPosed ns levels assumed p → All (IsAtomAt ns p.log.atoms) ids) → IsReady ns assumed old q ids lits
+ready_with {ns} {assumed} {old} {p} {ids} {lits} r q log form clauses given above over within =
+    let after : (levels : List (List ℕ)) → IsPosed ns levels assumed p → IsPosed ns levels assumed q = λ levels h.
+    record {
+      table = h.table;
+      over = over h.over (within levels h);
+      standing = record {
+        raised = with_theory ns levels p q log form clauses given (levels ++ terms_named assumed ∷ []) h.standing.raised;
+        plain = λ e. with_theory ns levels p q log form clauses given levels (h.standing.plain (sym above ∙ e));
+      };
+      all_given = h.all_given ∙ sym given;
+      assumed_covered = subst (λ f. All (λ (l : TermLit). IsSome (covered_at f l.term)) assumed) (sym form) h.assumed_covered;
+      taken = h.taken;
+      assumed_taken = h.assumed_taken;
+      assumed_within = h.assumed_within;
+    } in
+    let n = r.handed in
+    record {
+      handed = record {
+        terms = subst (λ (f : FormState). IsListing f.terms) (sym form) n.terms;
+        bounds = subst (λ (f : FormState). IsListing f.bounds) (sym form) n.bounds;
+        numbers = n.numbers ∙ (λ i. map (term_place (sym log i).atoms) (boolean_terms ns (sym form i).terms.ids) ++ (sym form i).bounds.ids);
+        on_atoms = n.on_atoms ∙ (λ i. lits_of (sym log i).atoms assumed);
+        there = record {
+          covered = subst (λ (f : FormState). All (HasTerm q.log.atoms) (boolean_terms ns f.terms.ids)) (sym form)
+              (subst (λ (l : LogState). All (HasTerm l.atoms) (boolean_terms ns p.form.terms.ids)) (sym log) n.there.covered);
+          named = subst (λ (l : LogState). All (λ (m : TermLit). HasTerm l.atoms m.term) assumed) (sym log) n.there.named;
+        };
+      };
+      posed = λ levels h. after levels (r.posed levels h);
+      some = (r.some.0, after r.some.0 r.some.1);
+    }

@@ -1,7 +1,0 @@
--- The theory knows the atoms of the places so far, and stands where the list leads.
-use Rattle.std.proofs.Common.{take}
-use Rattle.nz_engine.proofs.Beginning.{IsBeginning}
-use Rattle.nz_engine.proofs.prepared.join_sums.Given as goal
-
-abbrev pub invariant-loop-number : goal.invariant-loop-number
-invariant-loop-number l = IsBeginning l.log.atoms l.atoms (take l.number-index l.number-items) l.fn.theory l.fn.work l.work l.theory

@@ -1,0 +1,12 @@
+-- The laws, one by one.
+use Rattle.nz_engine.proofs.prepared.search.search_laws.Goals as goal
+
+pub returns : goal.returns
+returns c = record {
+  laws = record {
+    rows = record { sums = c.forms_are_sums.ensures.sums; operands = c.operands_are_sorted.ensures.sorted };
+    atoms = c.atoms_of_terms.ensures.atoms;
+    covers = c.covers_stay.ensures.stay;
+    restart = c.theories_restart.ensures.restart;
+  };
+}

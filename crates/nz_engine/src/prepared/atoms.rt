@@ -1,0 +1,79 @@
+//! The atoms of a search: which covered terms are Boolean, and the notes of atoms.
+ghost use Rattle.std.specs.Prelude.{◌≡◌, ◌<◌, ◌++◌, All, length, IfOk, OnOk};
+ghost use Rattle.nz_spec.specs.clauses.Gates.{is_boolean_term};
+ghost use Rattle.nz_spec.specs.terms.Table.{term_in};
+ghost use Rattle.nz_engine.specs.Checking.{NotesFirst, atom_lines, note_of};
+ghost use Rattle.nz_engine.specs.Preparing.{boolean_term, boolean_terms};
+
+use nz_base::{Memory, Work};
+use nz_log::{Atom, AtomId, Log};
+use nz_search::Note;
+use nz_term::{Sort, TermId, Terms};
+use std::alloc::Global;
+
+/// Those of these terms that are Boolean.
+pub(super) fn booleans_of(
+    alloc: Global,
+    terms: &Terms,
+    covered: &[TermId],
+) -> Result<Vec<TermId>, Memory>
+    requires within { All (λ t. t < length terms.now) covered.now }
+    ensures booleans { IfOk result (λ ts. ts.items ≡ boolean_terms terms.now covered.now) }
+{
+    let mut booleans = Vec::new(alloc);
+    for term in covered {
+        add_boolean(terms, *term, &mut booleans)?;
+    }
+    Ok(booleans)
+}
+
+/// Adds a term, where it is Boolean.
+fn add_boolean(terms: &Terms, term: TermId, booleans: &mut Vec<TermId>) -> Result<(), Memory>
+    requires within { term < length terms.now }
+    ensures added { OnOk result (booleans.new.items ≡ booleans.old.items ++ boolean_term terms.now term) }
+{
+    if is_boolean(terms, term) {
+        booleans.push(term)?;
+    }
+    Ok(())
+}
+
+/// Whether a term is Boolean.
+fn is_boolean(terms: &Terms, term: TermId) -> bool
+    requires within { term < length terms.now }
+    ensures boolean { result ≡ is_boolean_term (term_in terms.now term) }
+{
+    match terms.node(term).head.sort() {
+        Sort::Bool => true,
+        Sort::Int => false,
+        Sort::Real => false,
+    }
+}
+
+/// The note of an atom.
+fn noted(alloc: Global, atom: &Atom) -> Result<Note, Memory>
+    ensures note { IfOk result (λ n. n ≡ note_of atom.now) }
+{
+    match atom {
+        Atom::Term(term) => Ok(Note::Atom(*term)),
+        Atom::AtMost(bound) => Ok(Note::Bound(bound.copied(alloc)?)),
+    }
+}
+
+/// Notes each of these atoms.
+pub(super) fn note_atoms(
+    alloc: Global,
+    log: &Log,
+    atoms: &[AtomId],
+    work: &mut Work<Note>,
+) -> Result<(), Memory>
+    requires within { All (λ i. i < length log.now.atoms) atoms.now }
+    ensures all { OnOk result (work.new ≡ record work.old { lines = work.old.lines ++ atom_lines log.now.atoms atoms.now }) }
+    ensures first { NotesFirst log.now.atoms atoms.now work.old work.new }
+{
+    for id in atoms {
+        let line = noted(alloc, log.atom(*id))?;
+        work.note(line)?;
+    }
+    Ok(())
+}

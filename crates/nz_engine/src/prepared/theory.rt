@@ -1,0 +1,102 @@
+//! The theory of a search, which begins anew with the sums that its atoms bound.
+ghost use Rattle.std.specs.Prelude.{◌≡◌, [], All, List, IfErr, OnOk};
+ghost use Rattle.nz_spec.specs.search.Legal.{Task};
+ghost use Rattle.nz_spec.specs.terms.Table.{Node};
+ghost use Rattle.nz_search.specs.declared.stop.Stop.TheVariants as stop;
+ghost use Rattle.nz_search.specs.Standing.{Stands};
+ghost use Rattle.nz_reals.specs.Stands.{HasTold, IsAt, IsOf, IsOver};
+ghost use Rattle.nz_sat.specs.Numbers.{IsAtomAt};
+ghost use Rattle.nz_sat.specs.Sats.{AreHeld};
+ghost use Rattle.nz_engine.specs.Checking.{AreLearnable, AreNumbered, BeginsAnew, EndsWith, MayBegin, NotesForms};
+
+use super::atoms::note_atoms;
+use crate::joining::joining_order;
+use crate::truths::truths_for;
+use nz_base::{Memory, Work};
+use nz_log::laws::tells_lits;
+use nz_log::{AtomId, Log};
+use nz_reals::Reals;
+use nz_sat::Sat;
+use nz_search::{Note, Stop};
+use nz_spec::derivation::tells_literals;
+use std::alloc::Global;
+
+/// Lets the sums that these atoms bound join a theory, which are noted.
+fn join_sums(
+    alloc: Global,
+    theory: &mut Reals,
+    log: &Log,
+    atoms: &[AtomId],
+    work: &mut Work<Note>,
+) -> Result<(), Stop>
+    requires learnable { AreLearnable theory.old log.now.atoms atoms.now }
+    requires untold { HasTold theory.old [] }
+    requires of { IsOf theory.old log.now.atoms [] }
+    ensures untold { HasTold theory.new [] }
+    ensures of { OnOk result (IsOf theory.new log.now.atoms atoms.now) }
+    ensures over { OnOk result ((ns : List Node) → IsOver theory.old ns → All (IsAtomAt ns log.now.atoms) atoms.now → IsOver theory.new ns) }
+    ensures forms { NotesForms work.old work.new }
+    // Where the list knows each of the atoms by its place, and the theory stands where it leads, so it does again.
+    ensures stands { OnOk result ((ns : List Node) (q : Task) → All (IsAtomAt ns log.now.atoms) atoms.now → AreNumbered ns log.now.atoms atoms.now work.old → Stands (IsAt theory.old ns) ns q work.old → Stands (IsAt theory.new ns) ns q work.new) }
+    ensures stopped { IfErr result (λ e. (ns : List Node) (q : Task) → All (IsAtomAt ns log.now.atoms) atoms.now → AreNumbered ns log.now.atoms atoms.now work.old → Stands (IsAt theory.old ns) ns q work.old → EndsWith ns q work.new e) }
+    ensures unspent { IfErr result (λ e. e ≡ stop.Spent → ⊥) }
+{
+    let order = joining_order(alloc, log, atoms)?;
+    for number in order.as_slice() {
+        theory.add_atom(log, atoms[*number], *number, work)?;
+    }
+    Ok(())
+}
+
+/// Begins a theory anew, notes these atoms, and lets the sums that they bound join.
+fn begin_theory(
+    alloc: Global,
+    theory: &mut Reals,
+    log: &Log,
+    atoms: &[AtomId],
+    work: &mut Work<Note>,
+) -> Result<(), Stop>
+    requires learnable { AreLearnable theory.old log.now.atoms atoms.now }
+    requires no_steps { work.old.lines ≡ [] }
+    ensures begins { BeginsAnew log.now.atoms atoms.now theory.old theory.new work.old work.new result }
+{
+    tells_lits();
+    tells_literals();
+    theory.restart(work)?;
+    note_atoms(alloc, log, atoms, work)?;
+    join_sums(alloc, theory, log, atoms, work)
+}
+
+/// Lets sums join a theory that has none, in a planned order, before it begins anew.
+fn arrange(
+    theory: &mut Reals,
+    log: &Log,
+    atoms: &[AtomId],
+    truths: &[Option<bool>],
+) -> Result<(), Memory>
+    requires learnable { AreLearnable theory.old log.now.atoms atoms.now }
+    ensures over { (ns : List Node) → IsOver theory.old ns → All (IsAtomAt ns log.now.atoms) atoms.now → IsOver theory.new ns }
+    ensures rest { (ns : List Node) (q : Task) → MayBegin theory.old ns q log.now.atoms atoms.now → MayBegin theory.new ns q log.now.atoms atoms.now }
+{
+    theory.arrange(log, atoms, truths)
+}
+
+/// Begins the theory of a search anew, notes these atoms, and lets the sums that they bound join. Where it has none yet, those are arranged first: the
+/// numbers of forms decide which exchanges are made.
+pub(super) fn begin_anew(
+    alloc: Global,
+    sat: &mut Sat<Reals>,
+    log: &Log,
+    atoms: &[AtomId],
+    work: &mut Work<Note>,
+) -> Result<(), Stop>
+    requires learnable { AreLearnable sat.old.theory log.now.atoms atoms.now }
+    requires held { AreHeld log.now sat.old.clauses }
+    requires no_steps { work.old.lines ≡ [] }
+    ensures begins { BeginsAnew log.now.atoms atoms.now sat.old.theory sat.new.theory work.old work.new result }
+    ensures clauses { sat.new.clauses ≡ sat.old.clauses }
+{
+    let truths = truths_for(alloc, &sat.theory, log, atoms, sat.clauses())?;
+    arrange(&mut sat.theory, log, atoms, &truths)?;
+    begin_theory(alloc, &mut sat.theory, log, atoms, work)
+}

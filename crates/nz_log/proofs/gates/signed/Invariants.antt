@@ -1,7 +1,0 @@
-use Rattle.std.proofs.Common.{◌≡◌, ◌∷◌, take}
-use Rattle.nz_log.specs.TermLits.{signed}
-use Rattle.nz_log.proofs.gates.signed.Given as goal
-
--- the terms so far are listed
-abbrev pub invariant-loop-kid : goal.invariant-loop-kid
-invariant-loop-kid l = l.literals.items ≡ l.fn.first ∷ signed l.sign (take l.kid-index l.kids)

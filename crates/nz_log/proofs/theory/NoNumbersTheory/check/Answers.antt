@@ -1,5 +1,0 @@
-use Rattle.nz_log.proofs.WithoutForms.{no_steps}
-use Rattle.nz_log.proofs.theory.NoNumbersTheory.check.Goals as goal
-
-pub returns-clause-leads : goal.returns-clause-leads
-returns-clause-leads c = λ ns fs ls x at. no_steps c.args.self.now.told ns fs ls x c.args._work.now at

@@ -1,0 +1,5 @@
+pub mod Arities
+pub mod Formed
+pub mod LinearArguments
+pub mod Operations
+pub mod RowLists

@@ -1,0 +1,5 @@
+pub mod Comparisons
+pub mod GateRows
+pub mod Meanings
+pub mod Opposites
+pub mod Rows

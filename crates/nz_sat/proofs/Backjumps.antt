@@ -1,0 +1,416 @@
+-- What a search is after it learned a clause: back where that asserts its literal.
+use Rattle.std.proofs.Common.{◌≡◌, if◌then◌else◌, ℕ, suc, ◌+◌, ◌<◌, ◌≤◌, Bool, true, false, List, [], ◌∷◌, ◌++◌, length, min, take, map, Option, Some, None, inl, inr, refl, sym, ap, subst, ◌∙◌, arith}
+use Rattle.std.specs.Prelude.{All, Contains, IsSome, filter, nat_le, option_map, slice_get}
+use Rattle.std.specs.declared.alloc.Global.{Global}
+use Rattle.std.specs.declared.result.Result.TheVariants.{Ok}
+use Rattle.std.specs.declared.vec.Vec.{Vec}
+use Rattle.std.proofs.Math.Nat.{min-eq_right, min-le_left, min-le_right}
+use Rattle.std.proofs.lemmas.List.{append-nil, length-take, length_push, map-append, take-append-le, take-map, take_all}
+use Rattle.std.proofs.lemmas.List.Elements.{All-contains, All-filter, All-push, All-weaker, Contains-append_left, Contains-push, filter-append}
+use Rattle.std.proofs.lemmas.List.Sums.{length-filter, sum_by_push}
+use Rattle.nz_lists.proofs.Members.{has_found}
+use Rattle.nz_spec.specs.search.Legal.{Search, ToldLiteral, after_line}
+use Rattle.nz_spec.specs.clauses.Literal as spec
+use Rattle.nz_spec.specs.clauses.Literal.{NegationIsOther}
+use Rattle.nz_spec.specs.terms.Table.{Node}
+use Rattle.nz_spec.specs.search.Work.{WorkLine, WorkList, UnitLine, LearnedEntry, is_unit, unit_count, with_line}
+use Rattle.nz_log.specs.declared.lits.Lit.{Lit}
+use Rattle.nz_search.specs.declared.note.Note.{Note}
+use Rattle.nz_log.specs.Logs.{LogState, literals_at}
+use Rattle.nz_log.specs.Atoms.{TellsLits, clause_in}
+use Rattle.nz_log.specs.Sound.{ClausesAreTrue}
+use Rattle.nz_search.specs.Standing.{search_after}
+use Rattle.nz_sat.specs.declared.analyze.Learned.{Learned}
+use Rattle.nz_sat.specs.declared.clauses.Held.{Held}
+use Rattle.nz_sat.specs.declared.consult.Bounds.{Bounds}
+use Rattle.nz_sat.specs.declared.search.Search as state
+use Rattle.nz_sat.specs.declared.trail.Assigned.{Assigned}
+use Rattle.nz_sat.specs.Clauses.{Adds, HasReasonOf, IsAssumed, IsImplied, IsListed, IsOpen, IsReasonOneOf, IsWithin, Waits, by_true, by_two}
+use Rattle.nz_sat.specs.Conflicts.{AreUnmarked, is_marked}
+use Rattle.nz_sat.specs.Numbers.{numbered}
+use Rattle.nz_sat.specs.Sats.{AreHeld, held_of}
+use Rattle.nz_sat.specs.Searching.{AreOpen, AreWaiting, Carries, IsSearch, KeepsFirst, Learns, WereOpen, after_learned, ids, learned_line}
+use Rattle.nz_sat.specs.Theories.{AreLast, EndsLegally, IsTrailOn, TellsTrail, TheoryState, bounds_on, is_bound_at, told_literal, told_lits, told_on}
+use Rattle.nz_sat.specs.Trails.{EachBehind, IsFalseOn, IsFreeOn, IsFrontOf, IsNext, IsTrail, IsTrueOn, TrailState, assigned, below, depth, implied, is_decision, literals_on}
+use Rattle.nz_sat.proofs.SearchSteps.{StaysAt, cut_stands, told_taken}
+use Rattle.nz_sat.proofs.Clausal.{free_missing, open_grows, truth_found, truth_missing}
+use Rattle.nz_sat.proofs.CutTrails.{above_level, below_join}
+use Rattle.nz_sat.proofs.TrailGrowth.{held_live}
+use Rattle.nz_sat.proofs.LearnedClauses.{all_from}
+use Rattle.nz_sat.proofs.Levels.{below_decided, below_depth, below_false, below_free, below_front, below_twice}
+use Rattle.nz_sat.proofs.SearchLines.{search_more}
+use Rattle.nz_sat.proofs.LearnedLines as learned_lines
+use Rattle.nz_sat.proofs.LearnedLines.{IsTaught, all, decisions_on, front_depth, learned_named, learned_within, line_legal, was_learned, was_told}
+use Rattle.nz_sat.proofs.AtomPreservation.{literals_stay, names_stay}
+use Rattle.nz_sat.proofs.ToldTrails.{entry_from, stands_so, told_among}
+use Rattle.nz_sat.proofs.AtomTrails.{cut_short, cut_told, last_push, literals_kept, names_some, reason_kept, trail_cut, trail_grown}
+use Rattle.nz_sat.proofs.TrailEntries.{assigned_one, each_front, each_push, each_weaker}
+
+-- ---- Reasons
+
+reason_more : (us : List ℕ) (c : ℕ) (o : Option ℕ) → IsReasonOneOf us o → IsReasonOneOf (us ++ c ∷ []) o
+reason_more us c None h = tt
+reason_more us c (Some i) h = Contains-append_left us (c ∷ []) i h
+
+-- ---- Filters
+
+pub filters_map : {X Y : Type 0} (f : X → Y) (p : Y → Bool) (xs : List X) → filter p (map f xs) ≡ map f (filter (λ x. p (f x)) xs)
+filters_map f p [] = refl
+filters_map {Y = Y} f p (x ∷ xs) = step (p (f x)) (filters_map f p xs) where
+  step : (b : Bool) → filter p (map f xs) ≡ map f (filter (λ x. p (f x)) xs)
+      → (if b then f x ∷ filter p (map f xs) else filter p (map f xs)) ≡ map f (if b then x ∷ filter (λ x. p (f x)) xs else filter (λ x. p (f x)) xs)
+  step true same = ap (λ (ys : List Y). f x ∷ ys) same
+  step false same = same
+
+pub filters_swap : {X : Type 0} (p q : X → Bool) (xs : List X) → filter p (filter q xs) ≡ filter q (filter p xs)
+filters_swap p q [] = refl
+filters_swap {X = X} p q (x ∷ xs) = step (p x) (q x) refl refl (filters_swap p q xs) where
+  step : (b c : Bool) → p x ≡ b → q x ≡ c → filter p (filter q xs) ≡ filter q (filter p xs)
+      → filter p (if c then x ∷ filter q xs else filter q xs) ≡ filter q (if b then x ∷ filter p xs else filter p xs)
+  step true true is_p is_q same =
+      ap (λ (b : Bool). if b then x ∷ filter p (filter q xs) else filter p (filter q xs)) is_p ∙ ap (λ (ys : List X). x ∷ ys) same
+      ∙ sym (ap (λ (b : Bool). if b then x ∷ filter q (filter p xs) else filter q (filter p xs)) is_q)
+  step true false is_p is_q same = same ∙ sym (ap (λ (b : Bool). if b then x ∷ filter q (filter p xs) else filter q (filter p xs)) is_q)
+  step false true is_p is_q same = ap (λ (b : Bool). if b then x ∷ filter p (filter q xs) else filter p (filter q xs)) is_p ∙ same
+  step false false is_p is_q same = same
+
+-- no more decisions stand up to a level
+below_most : (size : ℕ) (es : List Assigned) → EachBehind (IsNext size) es → (k : ℕ) → depth (below k es) ≤ k
+below_most size es order k =
+    let same = sym (length-filter is_decision (below k es)) ∙ ap length (below_decided size es order k) in
+    let most = length-take k (filter is_decision es) in
+    let least = min-le_left k (length (filter is_decision es)) in
+    omega (arith, same, most, least)
+
+-- ---- The state
+
+module _ (log log' : LogState) (held : List Held) (s : state.Search) (work : WorkList Note) (falsified : ℕ) (l : Learned) (h : IsTaught log log' held s work falsified l) where
+  abbrev es : List Assigned
+  es = s.trail.entries
+
+  abbrev front : List Assigned
+  front = below l.level es
+
+  abbrev mine : Assigned
+  mine = implied front l.literal l.clause
+
+  abbrev lits : List Lit
+  lits = literals_at log' l.clause
+
+  abbrev held' : List Held
+  held' = held ++ held_of log' l.clause ∷ []
+
+  false_literal : IsFalseOn es l.literal
+  false_literal = h.learned.falsified l.literal h.learned.has
+
+  front_depth' : depth front ≡ l.level
+  front_depth' = let earlier = h.learned.earlier in below_depth s.trail.size es h.search.on.order l.level (omega arith)
+
+  literal_free : (k : ℕ) → k < depth es → IsFreeOn (below k es) l.literal
+  literal_free k less = let last = h.learned.last in below_free s.trail.size es h.search.on.order k l.literal false_literal (omega (arith, last, less))
+
+  pub literal_missing : assigned front l.literal.atom ≡ None
+  literal_missing = free_missing front l.literal.atom (literal_free l.level h.learned.earlier)
+
+  pub literal_within : l.literal.atom < s.trail.size
+  literal_within = All-contains (λ (t : ℕ). t < s.trail.size) s.atoms l.literal.atom h.search.within (learned_named log log' held s work falsified l h l.literal h.learned.has)
+
+  -- each literal has its place in the index
+  pub literals_within : All (λ (m : Lit). IsWithin m s.index) lits
+  literals_within =
+      all_from (λ (m : Lit). IsWithin m s.index) lits
+      (λ m has.
+      let low = All-contains (λ (t : ℕ). t < s.trail.size) s.atoms m.atom h.search.within (learned_named log log' held s work falsified l h m has) in
+      (omega (arith, low, h.search.indexed.0), omega (arith, low, h.search.indexed.1)))
+
+  after_depth : depth (after_learned es l) ≡ l.level
+  after_depth =
+      let one : depth (front ++ mine ∷ []) ≡ depth front + 0 = sum_by_push (λ (x : Assigned). if is_decision x then 1 else 0) front mine in
+      omega (arith, one, front_depth')
+
+  below_after : (k : ℕ) → k < l.level → below k (after_learned es l) ≡ below k es
+  below_after k less =
+      let high : nat_le (depth front) k ≡ false = above_level k (depth front) (omega (arith, front_depth', less)) in
+      below_join k front (mine ∷ []) ∙ ap (λ (b : Bool). below k front ++ (if b then mine ∷ [] else [])) high ∙ append-nil (below k front)
+      ∙ below_twice k l.level (omega (arith, less)) es
+
+  old_literals : (i : ℕ) → Contains (ids held) i → literals_at log' i ≡ literals_at log i
+  old_literals i has = literals_kept log log' h.grows i (held_live log held h.search.are_held i has)
+
+  ids_more : ids held' ≡ ids held ++ l.clause ∷ []
+  ids_more = map-append (λ (x : Held). x.id) held (held_of log' l.clause ∷ [])
+
+  each_held : (P : ℕ → Type 0) → ((i : ℕ) → Contains (ids held) i → P i) → P l.clause → All P (ids held')
+  each_held P f last = subst (All P) (sym ids_more) (All-push P (ids held) l.clause (all_from P (ids held) f) last)
+
+  old_open : (k : ℕ) → k < depth es → (i : ℕ) → Contains (ids held) i → IsOpen (below k es) (literals_at log' i)
+  old_open k less i has =
+      subst (IsOpen (below k es)) (sym (old_literals i has))
+      (All-contains (λ (j : ℕ). IsOpen (below k es) (literals_at log j)) (ids held) i (h.were_open k less) has)
+
+  new_open : (k : ℕ) → k < l.level → IsOpen (below k es) lits
+  new_open k less =
+      let earlier = h.learned.earlier in
+      let w = h.learned.reached (omega (arith, less)) in
+      by_two l.literal w.0 h.learned.has w.1 (λ same. w.2 (sym same)) (literal_free k (omega (arith, less, earlier)))
+      (below_free s.trail.size es h.search.on.order k w.0 (h.learned.falsified w.0 w.1) (omega (arith, less, w.3)))
+
+  after_open : WereOpen log' held' (after_learned es l)
+  after_open k less =
+      let low : k < l.level = omega (arith, less, after_depth) in
+      let earlier = h.learned.earlier in
+      subst (AreOpen log' held') (sym (below_after k low))
+      (each_held (λ (i : ℕ). IsOpen (below k es) (literals_at log' i)) (old_open k (omega (arith, low, earlier))) (new_open k low))
+
+  now_true : IsTrueOn (after_learned es l) l.literal
+  now_true =
+      truth_missing front (mine ∷ []) l.literal.atom (literal_free l.level h.learned.earlier)
+      ∙ ap (option_map (λ (x : Assigned). x.literal.sign)) (assigned_one mine l.literal.atom refl)
+
+  after_waits : AreWaiting log' held' (after_learned es l) (length front)
+  after_waits =
+      each_held (λ (i : ℕ). Waits (after_learned es l) (length front) (literals_at log' i))
+      (λ i has. open_grows front (mine ∷ []) (length front) (literals_at log' i) (omega arith) (old_open l.level h.learned.earlier i has))
+      (inl (by_true l.literal h.learned.has now_true))
+
+  -- what holds of each entry, and of the new one
+  after_each : (P : Assigned → Type 0) → All P es → P mine → All P (after_learned es l)
+  after_each P each last = All-push P front mine (All-filter (λ (e : Assigned). nat_le e.level l.level) P es each) last
+
+  after_implied : EachBehind (IsImplied log') (after_learned es l)
+  after_implied =
+      let f = below_front s.trail.size es h.search.on.order l.level in
+      let grown = each_weaker (IsImplied log) (IsImplied log') (λ before e r. reason_kept log log' h.grows before e.literal e.reason r) es h.search.on.implied in
+      each_push (IsImplied log') front mine (each_front (IsImplied log') front f.more (subst (EachBehind (IsImplied log')) f.joined grown))
+      (record {
+        live = h.learned.live;
+        has = h.learned.has;
+        others = λ m has other. below_false s.trail.size es h.search.on.order l.level m (h.learned.falsified m has) (h.learned.others m has other);
+      })
+
+  after_reasons : All (HasReasonOf (ids held')) (after_learned es l)
+  after_reasons =
+      let us = ids held ++ l.clause ∷ [] in
+      subst (λ (is : List ℕ). All (HasReasonOf is) (after_learned es l)) (sym ids_more)
+      (after_each (HasReasonOf us) (All-weaker (HasReasonOf (ids held)) (HasReasonOf us) (λ e r. reason_more (ids held) l.clause e.reason r) es h.search.reasons)
+      (Contains-push (ids held) l.clause))
+
+  -- ---- The work list
+
+  abbrev at : List Node → Search
+  at ns = search_after ns work
+
+  abbrev pub line : WorkLine Note
+  line = learned_line s.atoms log' l
+
+  abbrev pub work' : WorkList Note
+  work' = with_line work line
+
+  goes : (ns : List Node) → search_after ns work' ≡ after_line (at ns) (UnitLine (LearnedEntry l.level (map (numbered s.atoms) lits)))
+  goes ns = search_more ns work (line ∷ [])
+
+  after_decided : filter is_decision (after_learned es l) ≡ take l.level (filter is_decision es)
+  after_decided = filter-append is_decision front (mine ∷ []) ∙ append-nil (filter is_decision front) ∙ below_decided s.trail.size es h.search.on.order l.level
+
+  abbrev whole : List Assigned
+  whole = all log log' held s work falsified l h
+
+  is_front : IsFrontOf es whole
+  is_front = learned_lines.front log log' held s work falsified l h
+
+  -- the first decisions of what is noted are those of the trail
+  kept_decided : take l.level (filter is_decision whole) ≡ take l.level (filter is_decision es)
+  kept_decided =
+      let long = length-filter is_decision es in
+      let earlier = h.learned.earlier in
+      ap (take l.level) (decisions_on es whole is_front) ∙ take-append-le l.level (filter is_decision es) (filter is_decision is_front.more) (omega (arith, long, earlier))
+
+  -- ---- What was told
+
+  -- the search went back to no lower level
+  level_low : l.level ≤ h.noted.level
+  level_low =
+      let earlier = h.learned.earlier in
+      let cut = ap depth h.noted.cut in
+      let few = below_most h.noted.before.trail.size whole h.noted.search.on.order h.noted.level in
+      omega (arith, earlier, cut, few)
+
+  same_front : below l.level whole ≡ front
+  same_front = sym (ap (below l.level) h.noted.cut ∙ below_twice l.level h.noted.level level_low whole)
+
+  -- each bound of the front was told, and none of the others is
+  list_told : below l.level (told_on h.noted.before.bounds whole) ≡ bounds_on s.bounds.marks.items front
+  list_told =
+      let b = h.noted.before.bounds in
+      let earlier = h.learned.earlier in
+      let deeper = front_depth es whole is_front in
+      filters_swap (λ (e : Assigned). nat_le e.level l.level) (λ (e : Assigned). is_marked b.marks.items e.literal.atom) (take b.told whole)
+      ∙ ap (bounds_on b.marks.items) (cut_told b.told l.level whole h.noted.search.on.untold_last (omega (arith, earlier, deeper)) ∙ same_front)
+      ∙ ap (λ (v : Vec Bool Global). bounds_on v.items front) (sym h.noted.marks)
+
+  after_told : (b : Bounds) → b ≡ record s.bounds { told = min s.bounds.told (length front) } → told_on b (after_learned es l) ≡ bounds_on s.bounds.marks.items front
+  after_told b is =
+      let short = cut_short s.bounds.told l.level es h.search.on.untold_last h.learned.earlier in
+      let least : min s.bounds.told (length front) ≡ length front = min-eq_right short in
+      ap (λ (x : Bounds). told_on x (after_learned es l)) is
+      ∙ ap (λ (n : ℕ). bounds_on s.bounds.marks.items (take n (after_learned es l))) least
+      ∙ ap (bounds_on s.bounds.marks.items) (take-append-le (length front) front (mine ∷ []) (omega arith) ∙ take_all (length front) front (omega arith))
+
+  pub after_tells : (b : Bounds) → b ≡ record s.bounds { told = min s.bounds.told (length front) } → TellsTrail log' s.atoms b (after_learned es l) work'
+  after_tells b is =
+      let f : Assigned → ℕ × Bool = λ (e : Assigned). numbered s.atoms e.literal in
+      let told = was_told log log' held s work falsified l h in
+      let low : ToldLiteral → Bool = λ t. nat_le t.depth l.level in
+      record {
+        named = λ ns.
+            ap (λ (x : Search). x.atoms) (goes ns) ∙ told.named ns
+            ∙ sym (names_stay log.atoms log'.atoms h.grows.atoms ns s.atoms (names_some log s.atoms h.search.on.there));
+        decided = λ ns.
+            ap (λ (x : Search). x.decided) (goes ns) ∙ ap (take l.level) (told.decided ns) ∙ take-map f l.level (filter is_decision whole) ∙ ap (map f) (kept_decided ∙ sym after_decided);
+        told = λ ns.
+            ap (λ (x : Search). x.told) (goes ns) ∙ ap (filter low) (told.told ns) ∙ filters_map (told_literal s.atoms) low (told_on h.noted.before.bounds whole)
+            ∙ ap (map (told_literal s.atoms)) (list_told ∙ sym (after_told b is));
+      }
+
+  after_clauses : (ns : List Node) → All (λ (c : List (ℕ × Bool)). (i : ℕ) × Contains (ids held') i × (map (numbered s.atoms) (literals_at log' i) ≡ c)) (search_after ns work').learned
+  after_clauses ns =
+      let c = map (numbered s.atoms) lits in
+      let Old : List (ℕ × Bool) → Type 0 = λ d. (i : ℕ) × Contains (ids held) i × (map (numbered s.atoms) (literals_at log i) ≡ d) in
+      let New : List (ℕ × Bool) → Type 0 = λ d. (i : ℕ) × Contains (ids held') i × (map (numbered s.atoms) (literals_at log' i) ≡ d) in
+      let more : (i : ℕ) → Contains (ids held ++ l.clause ∷ []) i → Contains (ids held') i = λ i has. subst (λ (is : List ℕ). Contains is i) (sym ids_more) has in
+      subst (All New) (sym (ap (λ (x : Search). x.learned) (goes ns)))
+      (All-push New (at ns).learned c
+      (All-weaker Old New
+      (λ d w. (w.0, more w.0 (Contains-append_left (ids held) (l.clause ∷ []) w.0 w.1), ap (map (numbered s.atoms)) (old_literals w.0 w.1) ∙ w.2)) (at ns).learned
+      (was_learned log log' held s work falsified l h ns)) (l.clause, more l.clause (Contains-push (ids held) l.clause), refl))
+
+  one_unit : unit_count work'.lines ≡ suc (unit_count work.lines)
+  one_unit =
+      let one : unit_count work'.lines ≡ unit_count work.lines + 1 =
+      sum_by_push (λ (x : WorkLine Note). if is_unit x then 1 else 0) work.lines (learned_line s.atoms log' l) in
+      omega (arith, one)
+
+  after_first : KeepsFirst es (after_learned es l)
+  after_first m holds =
+      let parts : below 0 (after_learned es l) ≡ below 0 es ++ below 0 (mine ∷ []) =
+      below_join 0 front (mine ∷ []) ∙ ap (λ (xs : List Assigned). xs ++ below 0 (mine ∷ [])) (below_twice 0 l.level (omega arith) es) in
+      subst (λ (xs : List Assigned). IsTrueOn xs m) (sym parts) (truth_found (below 0 es) (below 0 (mine ∷ [])) m.atom m.sign holds)
+
+  -- ---- The search
+
+  module _ (s' : state.Search) (atoms : s'.atoms ≡ s.atoms) (size : s'.trail.size ≡ s.trail.size) (entries : s'.trail.entries ≡ after_learned es l) (bounds : s'.bounds ≡ record s.bounds { told = min s.bounds.told (length front) })
+      (index : Adds log' l.clause s.index s'.index) (marks : length s'.seen.items ≡ length s.seen.items) (unmarked : AreUnmarked s'.seen.items)
+      (are_held : AreHeld log' held') (ordered : IsTrail s'.trail) (room : unit_count work.lines < work.limit) where
+    after_on : All (λ (e : Assigned). Contains s.atoms e.literal.atom) (after_learned es l) → IsTrailOn log' s'.atoms s'.bounds s'.trail
+    after_on on_trail =
+        let cut : TrailState = record { entries = front; size = s.trail.size } in
+        let made = trail_cut log s.atoms s.bounds s.trail h.search.on l.level (record s.bounds { told = min s.bounds.told (length front) }) cut refl refl refl in
+        let long = ap length entries ∙ length_push front mine in
+        let inside = made.inside in
+        let least = ap (λ (x : Bounds). x.told) bounds in
+        let grown = trail_grown log s.atoms (record s.bounds { told = min s.bounds.told (length front) }) cut made log' h.grows in
+        let same : depth (front ++ mine ∷ []) ≡ depth front = after_depth ∙ sym front_depth' in
+        let last = last_push (min s.bounds.told (length front)) front mine inside (sym same) (inl same) made.untold_last in
+        subst (λ (us : List ℕ). IsTrailOn log' us s'.bounds s'.trail) (sym atoms)
+        (record {
+          there = grown.there;
+          marked = subst (λ (x : Bounds). All (λ (i : ℕ). is_marked x.marks.items i ≡ is_bound_at log'.atoms i) s.atoms) (sym bounds) grown.marked;
+          on_trail = subst (All (λ (e : Assigned). Contains s.atoms e.literal.atom)) (sym entries) on_trail;
+          order = ordered;
+          implied = subst (EachBehind (IsImplied log')) (sym entries) after_implied;
+          inside = omega (arith, long, inside, least);
+          untold_last = subst (λ (x : Bounds). AreLast x.told s'.trail.entries) (sym bounds)
+              (subst (AreLast (min s.bounds.told (length front))) (sym entries) last);
+        })
+
+    after_search : IsSearch log' held' s'
+    after_search =
+        let more : (i : ℕ) → Contains (ids held ++ l.clause ∷ []) i → Contains (ids held') i = λ i has. subst (λ (is : List ℕ). Contains is i) (sym ids_more) has in
+        let N : ℕ → Type 0 = λ i. All (λ (m : Lit). Contains s.atoms m.atom) (literals_at log' i) in
+        let named : All N (ids held') =
+        each_held N
+        (λ i has. subst (All (λ (m : Lit). Contains s.atoms m.atom)) (sym (old_literals i has))
+        (All-contains (λ (j : ℕ). All (λ (m : Lit). Contains s.atoms m.atom) (literals_at log j)) (ids held) i h.search.named has))
+        (all_from (λ (m : Lit). Contains s.atoms m.atom) lits (learned_named log log' held s work falsified l h)) in
+        let on_trail = after_each (λ (e : Assigned). Contains s.atoms e.literal.atom) h.search.on.on_trail (learned_named log log' held s work falsified l h l.literal h.learned.has) in
+        record {
+          are_held = are_held;
+          listed = each_held (IsListed log' s'.index)
+              (λ i has m there.
+              index.kept m i
+              (All-contains (IsListed log s.index) (ids held) i h.search.listed has m (subst (λ (c : List Lit). Contains c m) (old_literals i has) there)))
+              index.listed;
+          only = λ m i has.
+              elim (index.only m i has) [
+                | inl old ↦ more i (Contains-append_left (ids held) (l.clause ∷ []) i (h.search.only m i old))
+                | inr same ↦ subst (Contains (ids held')) same (more l.clause (Contains-push (ids held) l.clause))
+              ];
+          named = subst (λ (us : List ℕ). All (λ (i : ℕ). All (λ (m : Lit). Contains us m.atom) (literals_at log' i)) (ids held')) (sym atoms) named;
+          within = subst (All (λ (t : ℕ). t < s'.trail.size)) (sym atoms) (subst (λ (n : ℕ). All (λ (t : ℕ). t < n) s.atoms) (sym size) h.search.within);
+          indexed = (index.size.0 ∙ h.search.indexed.0 ∙ sym size, index.size.1 ∙ h.search.indexed.1 ∙ sym size);
+          marks = marks ∙ h.search.marks ∙ sym size;
+          unmarked = unmarked;
+          on = after_on on_trail;
+          reasons = subst (All (HasReasonOf (ids held'))) (sym entries) after_reasons;
+        }
+
+    after_carries : Carries s s' work work'
+    after_carries = record {
+      atoms = atoms;
+      first = subst (KeepsFirst es) (sym entries) after_first;
+      assumed_only = λ assumed only. subst (All (IsAssumed assumed)) (sym entries) (after_each (IsAssumed assumed) only (λ none level. cc));
+      units = omega (arith, one_unit);
+    }
+
+    pub learned : (place : ℕ) → place ≡ length front → Learns log' held' s s' work work' place
+    learned place is =
+        record {
+          search = after_search;
+          were_open = subst (WereOpen log' held') (sym entries) after_open;
+          inside = let long = ap length entries ∙ length_push front mine in omega (arith, long, is);
+          waits = subst (λ (xs : List Assigned). AreWaiting log' held' xs place) (sym entries) (subst (AreWaiting log' held' (after_learned es l)) (sym is) after_waits);
+          noted = record {
+            trail = subst (λ (us : List ℕ). TellsTrail log' us s'.bounds s'.trail.entries work') (sym atoms)
+                (subst (λ (xs : List Assigned). TellsTrail log' s.atoms s'.bounds xs work') (sym entries) (after_tells s'.bounds bounds));
+            learned = λ ns.
+                subst (λ (us : List ℕ). All (λ (c : List (ℕ × Bool)). (i : ℕ) × Contains (ids held') i × (map (numbered us) (literals_at log' i) ≡ c)) (search_after ns work').learned)
+                (sym atoms) (after_clauses ns);
+          };
+          carries = after_carries;
+          unit = one_unit;
+          within = omega (arith, one_unit);
+        }
+
+    -- the theory stands where the list leads
+    pub learned_ends : (m m' : TheoryState) → TellsLits → ClausesAreTrue → NegationIsOther → StaysAt m m' (told_lits s.bounds es) (told_lits s'.bounds s'.trail.entries) → (place : ℕ)
+        → EndsLegally m m' log s.atoms (told_lits s.bounds es) es work work' (Ok place)
+    learned_ends m m' tells clauses other stays place ns levels assumed q known only asked st =
+        let told' = told_lits s'.bounds s'.trail.entries in
+        let b : Bounds = record s.bounds { told = min s.bounds.told (length front) } in
+        let f = below_front s.trail.size es h.search.on.order l.level in
+        let inside : min s.bounds.told (length front) ≤ length front = min-le_right s.bounds.told (length front) in
+        let same : told' ≡ told_lits b front =
+        ap (λ (xs : List Assigned). told_lits s'.bounds xs) entries ∙ ap (λ (x : Bounds). told_lits x (after_learned es l)) bounds
+        ∙ ap (λ (xs : List Assigned). literals_on (bounds_on s.bounds.marks.items xs)) (take-append-le (min s.bounds.told (length front)) front (mine ∷ []) inside) in
+        let first : take (length told') (told_lits s.bounds es) ≡ told' =
+        subst (λ (ls : List Lit). take (length ls) (told_lits s.bounds es) ≡ ls) (sym same) (told_taken s.bounds b es front f refl) in
+        let cut = cut_stands m m' ns q log work (told_lits s.bounds es) told' stays first st in
+        let within = learned_within log log' held s work falsified l h tells clauses other ns levels assumed q only asked in
+        let on : All (λ (e : Assigned). Contains s.atoms e.literal.atom) s'.trail.entries =
+        subst (λ (us : List ℕ). All (λ (e : Assigned). Contains us e.literal.atom) s'.trail.entries) atoms after_search.on.on_trail in
+        let there : All (λ (k : Lit). IsSome (slice_get log.atoms k.atom)) told' =
+        all_from (λ (k : Lit). IsSome (slice_get log.atoms k.atom)) told'
+        (λ k has.
+        let e = entry_from s'.trail.entries k (told_among s'.bounds s'.trail.entries k has) in
+        All-contains (λ (i : ℕ). IsSome (slice_get log.atoms i)) s.atoms k.atom (names_some log s.atoms h.search.on.there)
+        (subst (λ (x : Lit). Contains s.atoms x.atom) e.3 (All-contains (λ (x : Assigned). Contains s.atoms x.literal.atom) s'.trail.entries e.1 on (has_found s'.trail.entries e.0 e.1 e.2)))) in
+        let says : clause_in ns log.atoms told' ≡ clause_in ns log'.atoms told' = sym (literals_stay log.atoms log'.atoms h.grows.atoms ns told' there) in
+        let tells' : TellsTrail log' s.atoms s'.bounds s'.trail.entries work' =
+        subst (λ (xs : List Assigned). TellsTrail log' s.atoms s'.bounds xs work') (sym entries) (after_tells s'.bounds bounds) in
+        stands_so ns log' s.atoms s'.bounds s'.trail.entries work' tells' within on (m'.at ns) q
+        (record {
+          point = cut.point;
+          legal = line_legal log log' held s work falsified l h tells clauses other ns levels assumed q only asked cut.point cut.legal;
+          at = subst (λ (r : Search). m'.at ns r.forms (clause_in ns log'.atoms told') cut.point) (sym (goes ns))
+              (subst (λ (ls : List spec.Literal). m'.at ns (search_after ns work).forms ls cut.point) says cut.at);
+        })

@@ -1,0 +1,285 @@
+-- A search from its start to its end: what is assumed, and one turn of decision and conflicts.
+use Rattle.std.proofs.Common.{◌≡◌, ℕ, ◌+◌, ◌<◌, if◌then◌else◌, List, [], ◌∷◌, length, take, map, get_or, inl, Option, None, refl, sym, ap, subst, ◌∙◌, arith}
+use Rattle.std.specs.Prelude.{All, Contains, IfOk, IfSome, filter, unwrap_or}
+use Rattle.std.specs.declared.result.Result.{Result}
+use Rattle.std.specs.declared.result.Result.TheVariants.{Ok}
+use Rattle.std.proofs.lemmas.List.{get_or-map, length-map, length_push, take-append-le}
+use Rattle.std.proofs.lemmas.List.Elements.{All-contains}
+use Rattle.std.proofs.lemmas.List.Sums.{length-filter, sum_by_push}
+use Rattle.std.proofs.lemmas.Option.{IfSome_then, slice_get-get_or}
+use Rattle.std.proofs.lemmas.Result.{IfOk-weaker}
+use Rattle.nz_spec.specs.search.Work.{DecisionEntry, UnitLine, WorkLine, WorkList, is_unit, unit_count}
+use Rattle.nz_log.specs.declared.lits.Lit.{Lit}
+use Rattle.nz_search.specs.declared.note.Note.{Note}
+use Rattle.nz_search.specs.declared.stop.Stop.{Stop}
+use Rattle.nz_log.specs.Logs.{LogState, IsLive, literals_at}
+use Rattle.nz_log.specs.Growth.{Grows}
+use Rattle.nz_sat.specs.declared.clauses.Held.{Held}
+use Rattle.nz_sat.specs.declared.search.Search.{Search}
+use Rattle.nz_sat.specs.Sats.{AreOn}
+use Rattle.nz_sat.specs.declared.trail.Assigned.{Assigned}
+use Rattle.nz_sat.specs.Clauses.{IsAssumed}
+use Rattle.nz_sat.specs.Numbers.{number_of, numbered}
+use Rattle.nz_sat.specs.Conflicts.{Refutes, StaysSound}
+use Rattle.nz_sat.specs.Searching.{Advances, AreOpen, AreWaiting, AssumesAll, Carries, Decides, IsNoted, IsSearch, Runs, Settles, SettlesOn, StaysInOrder, Steps, WereOpen, assumed_entries}
+use Rattle.nz_sat.specs.Theories.{EndsLegally, TheoryState, bounds_on, told_literal, told_lits, told_on}
+use Rattle.nz_sat.specs.Trails.{AreUpTo, EachBehind, IsNext, IsTrueOn, TrailState, assigned, below, decided, depth, is_decision, literals_on, with_entry}
+use Rattle.nz_sat.proofs.SearchSteps.{Reaches, log_reaches, reaches_step, reaches_then, steps_behind}
+use Rattle.nz_sat.proofs.CutTrails.{below_all}
+use Rattle.nz_sat.proofs.Decisions.{decided_assumed, decided_first, decided_noted, decided_reaches, decided_search, decided_waits, decided_were}
+use Rattle.nz_sat.proofs.Propagations.{carries_far}
+use Rattle.nz_sat.proofs.LogGrowth.{order_over}
+use Rattle.nz_sat.proofs.ToldTrails.{stands_so}
+use Rattle.nz_sat.proofs.TrailEntries.{level_within}
+
+abbrev entry_of : Lit → Assigned
+entry_of l = record { literal = l; level = 0; reason = None }
+
+-- what is assumed is among any literals that the entries of these are assumed by
+pub wider : (assumed all : List Lit) → All (IsAssumed all) (assumed_entries assumed) → All (Contains all) assumed
+wider assumed all h k d inside =
+    let long = length-map assumed entry_of in
+    let is : IsAssumed all (entry_of (get_or assumed k d)) =
+    subst (IsAssumed all) (get_or-map entry_of assumed k d (entry_of d) inside) (h k (entry_of d) (omega arith)) in
+    is refl refl
+
+pub assumed_wider : (assumed all : List Lit) → All (IsAssumed all) (assumed_entries assumed) → (es : List Assigned) → All (IsAssumed assumed) es → All (IsAssumed all) es
+assumed_wider assumed all h es only k d inside none level =
+    All-contains (Contains all) assumed (get_or es k d).literal (wider assumed all h) (only k d inside none level)
+
+-- ---- Under no decision
+
+pub no_decisions : (es : List Assigned) → depth es ≡ 0 → filter is_decision es ≡ []
+no_decisions es none = empty (filter is_decision es) (length-filter is_decision es ∙ none) where
+  empty : (xs : List Assigned) → length xs ≡ 0 → xs ≡ []
+  empty [] h = refl
+  empty (x ∷ xs) h = absurd (omega arith)
+
+pub below_first : (size : ℕ) (es : List Assigned) → EachBehind (IsNext size) es → depth es ≡ 0 → below 0 es ≡ es
+below_first size es order none =
+    let up_to : AreUpTo 0 es =
+    λ k d inside. let level = level_within size es order k (get_or es k d) (slice_get-get_or es k d inside) in omega (arith, level, none) in
+    below_all 0 es up_to
+
+-- ---- One decision
+
+-- An atom is decided: the clauses wait for it.
+pub record HasDecided (theory : TheoryState) (log : LogState) (held : List Held) (s mid : Search) (work work' : WorkList Note) : Type 0 where
+  pub search : IsSearch log held mid
+  pub were_open : WereOpen log held mid.trail.entries
+  pub waits : AreWaiting log held mid.trail.entries (length s.trail.entries)
+  pub noted : IsNoted log held mid work'
+  pub carries : Carries s mid work work'
+  pub reaches : Reaches theory theory s s.trail.entries mid log log held held work work'
+  pub told : told_lits mid.bounds mid.trail.entries ≡ told_lits s.bounds s.trail.entries
+  pub more : length mid.trail.entries ≡ length s.trail.entries + 1
+  pub units : unit_count work'.lines ≡ unit_count work.lines + 1
+
+pub has_decided : (m : TheoryState) → {s mid : Search} → {log : LogState} → {held : List Held} → {work work' : WorkList Note} → (t : ℕ)
+    → IsSearch log held s → AreOpen log held s.trail.entries → WereOpen log held s.trail.entries → IsNoted log held s work
+    → assigned s.trail.entries t ≡ None → Contains s.atoms t → s.bounds.told ≡ length s.trail.entries → mid ≡ record s { trail = mid.trail } → Decides s mid t work work'
+    → HasDecided m log held s mid work work'
+has_decided m {s} {mid} {log} {held} {work} {work'} t h all_open were_open is_noted free atom whole rest d =
+    let e = decided s.trail.entries (record { atom = t; sign = d.sign }) in
+    let trail : TrailState = with_entry s.trail e in
+    let made : Search = record s { trail = trail } in
+    let line : WorkLine Note = UnitLine (DecisionEntry (unwrap_or (number_of s.atoms t) 0) d.sign) in
+    let units = sum_by_push (λ (x : WorkLine Note). if is_unit x then 1 else 0) work.lines line in
+    subst (λ (r : Search). HasDecided m log held s r work work') (sym (rest ∙ ap (λ (e : TrailState). record s { trail = e }) d.trail))
+    (subst (HasDecided m log held s made work) (sym d.noted)
+    (record {
+      search = decided_search log held s h t d.sign free atom whole;
+      were_open = decided_were log held s h t d.sign free atom whole all_open were_open;
+      waits = decided_waits log held s h t d.sign free atom whole all_open;
+      noted = decided_noted log held s h t d.sign free atom whole work is_noted;
+      carries = record {
+        atoms = refl;
+        first = decided_first log held s h t d.sign free atom whole;
+        assumed_only = decided_assumed log held s h t d.sign free atom whole;
+        units = omega (arith, units);
+      };
+      reaches = decided_reaches log held s h t d.sign free atom whole m work is_noted;
+      told = ap (λ (xs : List Assigned). literals_on (bounds_on s.bounds.marks.items xs)) (take-append-le s.bounds.told s.trail.entries (e ∷ []) h.on.inside);
+      more = length_push s.trail.entries e;
+      units = units;
+    }))
+
+-- what comes of a decision
+pub settles_far : {m : TheoryState} → {s mid new : Search} → {log log' : LogState} → {held held' : List Held} → {work work₁ work₂ : WorkList Note}
+    → HasDecided m log held s mid work work₁ → unit_count work.lines < work.limit → Settles log' held' mid new work₁ work₂ → SettlesOn log' held' s new work work₂
+settles_far {s = s} {mid = mid} {new = new} {work = work} {work₁ = work₁} {work₂ = work₂} d free st =
+    let units = d.units in
+    let more = st.carries.units in
+    record {
+      settles = record {
+        search = st.search;
+        all_open = st.all_open;
+        were_open = st.were_open;
+        noted = st.noted;
+        carries = carries_far s mid new work work₁ work₂ d.carries st.carries;
+      };
+      more = omega (arith, units, more);
+      free = free;
+    }
+
+-- ---- The run
+
+-- nothing is decided yet, and the clauses were followed
+pub runs_first : {assumed : List Lit} → {start mid s : Search} → {log log' : LogState} → {held held' : List Held} → {work work' : WorkList Note}
+    → mid ≡ record start { trail = mid.trail } → AssumesAll log held assumed mid None → Settles log' held' mid s work work' → Runs log' held' assumed start s work'
+runs_first {assumed} {start} {mid} {s} rest a st =
+    let first = below_first mid.trail.size mid.trail.entries a.search.on.order a.undecided in
+    record {
+      search = st.search;
+      all_open = st.all_open;
+      were_open = st.were_open;
+      noted = st.noted;
+      same = st.carries.atoms ∙ ap (λ (r : Search). r.atoms) rest;
+      assumed_only = st.carries.assumed_only assumed a.assumed_only;
+      hold = λ k e inside. st.carries.first (get_or assumed k e) (subst (λ (xs : List Assigned). IsTrueOn xs (get_or assumed k e)) (sym first) (a.hold refl k e inside));
+    }
+
+-- what a search that begins is asked, whose trail has no entry
+module _ (start : Search) (none : start.trail.entries ≡ []) (log : LogState) (held : List Held) (h : IsSearch log held start) where
+  first_place : start.bounds.told ≡ 0
+  first_place = let inside = h.on.inside in let long = ap length none in omega (arith, inside, long)
+
+  -- nothing was told of any trail
+  pub first_told : (es : List Assigned) → told_on start.bounds es ≡ []
+  first_told es = ap (λ (n : ℕ). bounds_on start.bounds.marks.items (take n es)) first_place
+
+  pub first_noted : {mid : Search} → {assumed : List Lit} → {work : WorkList Note} → mid ≡ record start { trail = mid.trail } → AssumesAll log held assumed mid None → IsNoted log held start work
+      → IsNoted log held mid work
+  first_noted {mid} {assumed} {work} rest a noted =
+      let es = mid.trail.entries in
+      let t = noted.trail in
+      subst (λ (r : Search). IsNoted log held r work) (sym rest)
+      (record {
+        trail = record {
+          named = t.named;
+          decided = λ ns.
+              t.decided ns
+              ∙ ap (λ (xs : List Assigned). map (λ (e : Assigned). numbered start.atoms e.literal) (filter is_decision xs)) none
+              ∙ ap (map (λ (e : Assigned). numbered start.atoms e.literal)) (sym (no_decisions es a.undecided));
+          told = λ ns. t.told ns ∙ ap (map (told_literal start.atoms)) (first_told start.trail.entries ∙ sym (first_told es));
+        };
+        learned = noted.learned;
+      })
+
+  pub first_lits : {mid : Search} → mid ≡ record start { trail = mid.trail } → told_lits mid.bounds mid.trail.entries ≡ []
+  first_lits {mid} rest = ap (λ (r : Search). told_lits r.bounds mid.trail.entries) rest ∙ ap literals_on (first_told mid.trail.entries)
+
+  -- the entries of what is assumed are assumed
+  pub first_advances : {A : Type 0} → {m m' : TheoryState} → {assumed : List Lit} → {mid : Search} → {log' : LogState} → {held' : List Held} → {work work' : WorkList Note} → {o : Option ℕ}
+      → {result : Result A Stop} → mid ≡ record start { trail = mid.trail } → AssumesAll log held assumed mid o → Advances m m' mid mid.trail.entries log log' held held' work work' result
+      → Advances m m' start (assumed_entries assumed) log log' held held' work work' result
+  first_advances {m = m} {m' = m'} {assumed} {mid} {log'} {held'} {work} {work'} {result = result} rest a step =
+      let atoms : mid.atoms ≡ start.atoms = ap (λ (r : Search). r.atoms) rest in
+      let told : told_lits mid.bounds mid.trail.entries ≡ told_lits start.bounds start.trail.entries = first_lits rest ∙ sym (ap literals_on (first_told start.trail.entries)) in
+      let ends : EndsLegally m m' log start.atoms (told_lits start.bounds start.trail.entries) mid.trail.entries work work' result =
+      subst (λ (us : List ℕ). EndsLegally m m' log us (told_lits start.bounds start.trail.entries) mid.trail.entries work work' result) atoms
+      (subst (λ (ls : List Lit). EndsLegally m m' log mid.atoms ls mid.trail.entries work work' result) told step.ends) in
+      record {
+        keeps = step.keeps;
+        grows = step.grows;
+        sound = subst (λ (us : List ℕ). StaysInOrder m.over us log log') atoms step.sound;
+        holds_more = step.holds_more;
+        named = subst (λ (us : List ℕ). AreOn log us held → AreOn log' us held') atoms step.named;
+        adds = step.adds;
+        ends = λ ns levels all q known only. ends ns levels all q known (assumed_wider assumed all only mid.trail.entries a.assumed_only);
+      }
+
+  -- the log grows by a refutation before anything is decided
+  pub first_refuted : {A : Type 0} → (m : TheoryState) → {assumed : List Lit} → {mid : Search} → {log' : LogState} → (work : WorkList Note) → {o : Option ℕ}
+      → mid ≡ record start { trail = mid.trail } → AssumesAll log held assumed mid o → Grows log log' → StaysSound mid.trail.entries log log' → (result : Result A Stop)
+      → EndsLegally m m log start.atoms (told_lits start.bounds start.trail.entries) (assumed_entries assumed) work work result
+      → Advances m m start (assumed_entries assumed) log log' held held work work result
+  first_refuted m {assumed} {mid} {log'} work rest a grows sound result ends =
+      let atoms : mid.atoms ≡ start.atoms = ap (λ (r : Search). r.atoms) rest in
+      log_reaches m start (assumed_entries assumed) log log' held work h.are_held grows
+      (subst (λ (us : List ℕ). StaysInOrder m.over us log log') atoms
+      (order_over m.over mid.atoms mid.trail.entries a.search.on.on_trail log log' (λ ns levels known. sound ns levels))) result ends
+
+  -- where the theory stands the list tells what it was told
+  pub first_stands : (m : TheoryState) (work : WorkList Note) → IsNoted log held start work → (es : List Assigned) → (A : Type 0) (x : A)
+      → EndsLegally {A = A} m m log start.atoms (told_lits start.bounds start.trail.entries) es work work (Ok x)
+  first_stands m work noted es A x ns levels assumed q known only asked st =
+      stands_so ns log start.atoms start.bounds start.trail.entries work noted.trail asked.within h.on.on_trail (m.at ns) q st
+
+pub first_were : {mid : Search} → {log : LogState} → {held : List Held} → {assumed : List Lit} → {o : Option ℕ} → AssumesAll log held assumed mid o → WereOpen log held mid.trail.entries
+first_were a k less = let none = a.undecided in absurd (omega (arith, less, none))
+
+pub first_waits : {mid : Search} → {log : LogState} → {held : List Held} → {assumed : List Lit} → (n : ℕ) → AssumesAll log held assumed mid None → AreWaiting log held mid.trail.entries n
+first_waits n a k d inside = inl (a.all_open refl k d inside)
+
+-- the order of what is decided next has no part in it
+pub runs_ordered : {assumed : List Lit} → {start s new : Search} → {log : LogState} → {held : List Held} → {work : WorkList Note}
+    → Runs log held assumed start s work → new ≡ record s { order = new.order } → Runs log held assumed start new work
+runs_ordered {assumed} {start} {s} {new} {log} {held} {work} h rest =
+    let q = h.search in
+    subst (λ (r : Search). Runs log held assumed start r work) (sym rest)
+    (record {
+      search = record {
+        are_held = q.are_held;
+        listed = q.listed;
+        only = q.only;
+        named = q.named;
+        within = q.within;
+        indexed = q.indexed;
+        marks = q.marks;
+        unmarked = q.unmarked;
+        on = q.on;
+        reasons = q.reasons;
+      };
+      all_open = h.all_open;
+      were_open = h.were_open;
+      noted = record { trail = h.noted.trail; learned = h.noted.learned };
+      same = h.same;
+      assumed_only = h.assumed_only;
+      hold = h.hold;
+    })
+
+-- one turn more
+pub runs_on : {assumed : List Lit} → {start s new : Search} → {log log' : LogState} → {held held' : List Held} → {work work' : WorkList Note}
+    → Runs log held assumed start s work → Settles log' held' s new work work' → Runs log' held' assumed start new work'
+runs_on {assumed} h st =
+    record {
+      search = st.search;
+      all_open = st.all_open;
+      were_open = st.were_open;
+      noted = st.noted;
+      same = st.carries.atoms ∙ h.same;
+      assumed_only = st.carries.assumed_only assumed h.assumed_only;
+      hold = λ k e inside. st.carries.first (get_or assumed k e) (h.hold k e inside);
+    }
+
+pub run_advances : {A B : Type 0} → {m m₁ m₂ : TheoryState} → {assumed : List Lit} → {start s : Search} → {log log' log'' : LogState} → {held held' held'' : List Held}
+    → {work work' work'' : WorkList Note} → {x : A} → {result : Result B Stop} → Advances m m₁ start (assumed_entries assumed) log log' held held' work work' (Ok x)
+    → Runs log' held' assumed start s work' → Advances m₁ m₂ s s.trail.entries log' log'' held' held'' work' work'' result
+    → Advances m m₂ start (assumed_entries assumed) log log'' held held'' work work'' result
+run_advances {assumed = assumed} {s = s} before h step =
+    reaches_then (reaches_step before h.search h.same h.noted.trail) h.same (λ all only. assumed_wider assumed all only s.trail.entries h.assumed_only) step
+
+pub run_steps : {A : Type 0} → {m m₁ m₂ : TheoryState} → {assumed : List Lit} → {start s new : Search} → {log log' log'' : LogState} → {held held' held'' : List Held}
+    → {work work' work'' : WorkList Note} → {x : A} → {answer : Result (Option ℕ) Stop} → Advances m m₁ start (assumed_entries assumed) log log' held held' work work' (Ok x)
+    → Runs log' held' assumed start s work' → Steps m₁ m₂ s s.trail.entries new log' log'' held' held'' work' work'' answer
+    → Steps m m₂ start (assumed_entries assumed) new log log'' held held'' work work'' answer
+run_steps before h step = steps_behind (run_advances before h step.advances) step
+
+-- ---- What refutes
+
+-- a clause refutes what the entries of a trail are assumed by
+abbrev pub RefutesOver : LogState → List Assigned → ℕ → Type 0
+RefutesOver log es id = IsLive log id × ((assumed : List Lit) → All (IsAssumed assumed) es → Refutes assumed (literals_at log id))
+
+pub refutes_far : (es es' : List Assigned) → (log : LogState) → ((assumed : List Lit) → All (IsAssumed assumed) es → All (IsAssumed assumed) es') → {E : Type 0}
+    → (r : Result (Option ℕ) E) → IfOk r (λ o. IfSome o (RefutesOver log es')) → IfOk r (λ o. IfSome o (RefutesOver log es))
+refutes_far es es' log only r h =
+    IfOk-weaker r (λ (o : Option ℕ). IfSome o (RefutesOver log es')) (λ (o : Option ℕ). IfSome o (RefutesOver log es))
+    (λ o s. IfSome_then o s (λ id x. (x.0, λ assumed each. x.1 assumed (only assumed each)))) h
+
+pub refutes_assumed : (es : List Assigned) → (log : LogState) → (assumed : List Lit) → All (IsAssumed assumed) es → {E : Type 0} → (r : Result (Option ℕ) E)
+    → IfOk r (λ o. IfSome o (RefutesOver log es)) → IfOk r (λ o. IfSome o (λ id. IsLive log id × Refutes assumed (literals_at log id)))
+refutes_assumed es log assumed only r h =
+    IfOk-weaker r (λ (o : Option ℕ). IfSome o (RefutesOver log es)) (λ (o : Option ℕ). IfSome o (λ id. IsLive log id × Refutes assumed (literals_at log id)))
+    (λ o s. IfSome_then o s (λ id x. (x.0, x.1 assumed only))) h

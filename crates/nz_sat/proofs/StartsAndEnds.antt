@@ -1,0 +1,251 @@
+-- What a search knows where it begins, and what its end tells its callers.
+use Rattle.std.proofs.Common.{◌≡◌, ℕ, zero, suc, ◌≤◌, Bool, true, if◌then◌else◌, List, [], ◌∷◌, ◌++◌, length, take, map, get_or, Option, Some, None, refl, sym, ap, subst, ◌∙◌, arith, append_assoc}
+use Rattle.std.specs.Prelude.{All, Contains, IsSome, filter, option_map, slice_get}
+use Rattle.std.specs.declared.result.Result.{Result}
+use Rattle.std.specs.declared.result.Result.TheVariants.{Ok}
+use Rattle.std.proofs.lemmas.List.{append-nil, take_all}
+use Rattle.std.proofs.lemmas.List.Elements.{All-contains, All-map, All-nil, All-same, Contains-get_or}
+use Rattle.std.proofs.lemmas.List.Sums.{sum_by-cons}
+use Rattle.std.proofs.lemmas.Option.{same_Some, slice_get-map}
+use Rattle.nz_lists.proofs.Members.{has_found, map_has}
+use Rattle.nz_spec.specs.search.Legal as legal
+use Rattle.nz_spec.specs.search.Legal.{AreLegal, Task, after_line, after_lines, at_first}
+use Rattle.nz_spec.specs.terms.Table.{Node}
+use Rattle.nz_spec.specs.search.Work.{NoteLine, UnitLine, WorkLine, WorkList, is_unit, unit_count}
+use Rattle.nz_log.specs.declared.lits.Lit.{Lit}
+use Rattle.nz_search.specs.declared.note.Note.{Note}
+use Rattle.nz_log.specs.declared.atoms.Atom as log
+use Rattle.nz_search.specs.declared.note.Note.TheVariants.{Start, Atom, Bound, Form, Told}
+use Rattle.nz_search.specs.declared.stop.Stop.{Stop}
+use Rattle.nz_log.specs.Atoms.{atom_in}
+use Rattle.nz_log.specs.Logs.{LogState, literals_at}
+use Rattle.nz_search.specs.Notes.{noted_line, noted_list}
+use Rattle.nz_search.specs.Standing.{Ends, Standing, Stands}
+use Rattle.nz_search.specs.Theories.{IsBoundIn}
+use Rattle.nz_sat.specs.declared.clauses.Held.{Held}
+use Rattle.nz_sat.specs.declared.search.Search.{Search}
+use Rattle.nz_sat.specs.declared.trail.Assigned.{Assigned}
+use Rattle.nz_sat.specs.Clauses.{IsAssumed, IsOpen, by_true, by_two}
+use Rattle.nz_sat.specs.Conflicts.{is_marked}
+use Rattle.nz_sat.specs.Numbers.{AreBeginnings, AreNotedIn, IsBeginning, atom_literal, noted_atoms, numbered}
+use Rattle.nz_sat.specs.Sats.{AreOn, IsAsked, IsSatisfied, IsTheoryMet, IsTrueClause, IsTrueLit, SatState, truth_of}
+use Rattle.nz_sat.specs.Searching.{Advances, IsNoted, IsSearch, Satisfies, StaysInOrder, assumed_entries, ids}
+use Rattle.nz_sat.specs.Theories.{IsMet, TellsTrail, TheoryState, bounds_on, told_literal, told_lits, told_on}
+use Rattle.nz_sat.specs.Trails.{AreTruthsOn, EachBehind, IsNext, IsTrueOn, assigned, is_decision, literals_on}
+use Rattle.nz_sat.proofs.Chains.{filter_has, lit_is}
+use Rattle.nz_sat.proofs.Clausal.{free_missing}
+use Rattle.nz_sat.proofs.TrailGrowth.{held_has}
+use Rattle.nz_sat.proofs.LearnedClauses.{all_from}
+use Rattle.nz_sat.proofs.Levels.{below_true}
+use Rattle.nz_sat.proofs.LearnedLines.{held_named}
+use Rattle.nz_sat.proofs.AtomPreservation.{said}
+use Rattle.nz_sat.proofs.ToldTrails.{entry_from, front_has, stands_by, told_among, told_entry}
+use Rattle.nz_sat.proofs.AtomTrails.{bound_marked, marked_bound}
+use Rattle.nz_sat.proofs.TrailEntries.{assigned_at, assigned_place}
+
+-- ---- At the start
+
+-- what notes of atoms and forms keep of where a list leads
+first_keep : {X : Type 0} (f : legal.Search → X) (ns : List Node) → ((r : legal.Search) (line : WorkLine Note) → IsBeginning line → f (after_line r (noted_line ns line)) ≡ f r)
+    → (lines : List (WorkLine Note)) → AreBeginnings lines → (r : legal.Search) → f (after_lines r (map (noted_line ns) lines)) ≡ f r
+first_keep f ns keeps [] h r = refl
+first_keep f ns keeps (x ∷ xs) h r = first_keep f ns keeps xs h.1 (after_line r (noted_line ns x)) ∙ keeps r x h.0
+
+decided_first : (ns : List Node) (r : legal.Search) (line : WorkLine Note) → IsBeginning line → (after_line r (noted_line ns line)).decided ≡ r.decided
+decided_first ns r (NoteLine (Start start)) h = refl
+decided_first ns r (NoteLine (Atom t)) h = refl
+decided_first ns r (NoteLine (Bound b)) h = refl
+decided_first ns r (NoteLine (Form atom)) h = refl
+decided_first ns r (NoteLine (Told atom sign)) h = absurd h
+decided_first ns r (UnitLine entry) h = absurd h
+
+learned_first : (ns : List Node) (r : legal.Search) (line : WorkLine Note) → IsBeginning line → (after_line r (noted_line ns line)).learned ≡ r.learned
+learned_first ns r (NoteLine (Start start)) h = refl
+learned_first ns r (NoteLine (Atom t)) h = refl
+learned_first ns r (NoteLine (Bound b)) h = refl
+learned_first ns r (NoteLine (Form atom)) h = refl
+learned_first ns r (NoteLine (Told atom sign)) h = absurd h
+learned_first ns r (UnitLine entry) h = absurd h
+
+told_first : (ns : List Node) (r : legal.Search) (line : WorkLine Note) → IsBeginning line → (after_line r (noted_line ns line)).told ≡ r.told
+told_first ns r (NoteLine (Start start)) h = refl
+told_first ns r (NoteLine (Atom t)) h = refl
+told_first ns r (NoteLine (Bound b)) h = refl
+told_first ns r (NoteLine (Form atom)) h = refl
+told_first ns r (NoteLine (Told atom sign)) h = absurd h
+told_first ns r (UnitLine entry) h = absurd h
+
+-- they name these atoms
+named_first : (ns : List Node) (lines : List (WorkLine Note)) → AreBeginnings lines → (r : legal.Search)
+    → (after_lines r (map (noted_line ns) lines)).atoms ≡ r.atoms ++ map (atom_in ns) (noted_atoms lines)
+named_first ns [] h r = sym (append-nil r.atoms)
+named_first ns (UnitLine entry ∷ lines) h r = absurd h.0
+named_first ns (NoteLine (Told atom sign) ∷ lines) h r = absurd h.0
+named_first ns (NoteLine (Start start) ∷ lines) h r = named_first ns lines h.1 (after_line r (noted_line ns (NoteLine (Start start))))
+named_first ns (NoteLine (Form atom) ∷ lines) h r = named_first ns lines h.1 (after_line r (noted_line ns (NoteLine (Form atom))))
+named_first ns (NoteLine (Atom t) ∷ lines) h r =
+    named_first ns lines h.1 (after_line r (noted_line ns (NoteLine (Atom t))))
+    ∙ append_assoc r.atoms (atom_in ns (log.TheVariants.Term t) ∷ []) (map (atom_in ns) (noted_atoms lines))
+named_first ns (NoteLine (Bound b) ∷ lines) h r =
+    named_first ns lines h.1 (after_line r (noted_line ns (NoteLine (Bound b))))
+    ∙ append_assoc r.atoms (atom_in ns (log.TheVariants.AtMost b) ∷ []) (map (atom_in ns) (noted_atoms lines))
+
+-- what atoms say that are noted
+noted_says : (ns : List Node) (all : List log.Atom) (xs : List log.Atom) (us : List ℕ) → map (slice_get all) us ≡ map Some xs → map (atom_literal ns all) us ≡ map (atom_in ns) xs
+noted_says ns all [] [] same = refl
+noted_says ns all [] (u ∷ us) same = cc
+noted_says ns all (x ∷ xs) [] same = cc
+noted_says ns all (x ∷ xs) (u ∷ us) same =
+    let head : slice_get all u ≡ Some x = cc in
+    let tail : map (slice_get all) us ≡ map Some xs = cc in
+    let first = ap (said ns true) head in
+    let rest = noted_says ns all xs us tail in
+    λ k. first k ∷ rest k
+
+-- the work list of a search that begins
+pub first_noted : (log : LogState) (held : List Held) (s : Search) (work : WorkList Note) → AreNotedIn log.atoms work.lines s.atoms → AreBeginnings work.lines → s.trail.entries ≡ []
+    → IsNoted log held s work
+first_noted log held s work noted notes none =
+    let L : List (ℕ × Bool) → Type 0 = λ c. (i : ℕ) × Contains (ids held) i × (map (numbered s.atoms) (literals_at log i) ≡ c) in
+    let nothing : told_on s.bounds s.trail.entries ≡ [] = ap (told_on s.bounds) none ∙ ap (bounds_on s.bounds.marks.items) (take-nil s.bounds.told) in
+    record {
+      trail = record {
+        named = λ ns. named_first ns work.lines notes at_first ∙ sym (noted_says ns log.atoms (noted_atoms work.lines) s.atoms noted);
+        decided = λ ns.
+            first_keep (λ (r : legal.Search). r.decided) ns (decided_first ns) work.lines notes at_first
+            ∙ sym (ap (λ (es : List Assigned). map (λ (e : Assigned). numbered s.atoms e.literal) (filter is_decision es)) none);
+        told = λ ns. first_keep (λ (r : legal.Search). r.told) ns (told_first ns) work.lines notes at_first ∙ sym (ap (map (told_literal s.atoms)) nothing);
+      };
+      learned = λ ns.
+          subst (All L) (sym (first_keep (λ (r : legal.Search). r.learned) ns (learned_first ns) work.lines notes at_first)) (All-nil L);
+    } where
+      take-nil : (n : ℕ) → take {A = Assigned} n [] ≡ []
+      take-nil zero = refl
+      take-nil (suc n) = refl
+
+-- no unit is used yet
+no_units : (lines : List (WorkLine Note)) → AreBeginnings lines → unit_count lines ≡ 0
+no_units [] h = refl
+no_units (UnitLine entry ∷ lines) h = absurd h.0
+no_units (NoteLine note ∷ lines) h =
+    let one = sum_by-cons (λ (x : WorkLine Note). if is_unit x then 1 else 0) (NoteLine note) lines in
+    let none = no_units lines h.1 in
+    omega (arith, one, none)
+
+pub beginnings_units : (work : WorkList Note) → AreBeginnings work.lines → unit_count work.lines ≤ work.limit
+beginnings_units work h = let none = no_units work.lines h in omega (arith, none)
+
+-- assumed literals are assumed
+assumed_only : (assumed : List Lit) → All (IsAssumed assumed) (assumed_entries assumed)
+assumed_only assumed =
+    All-map (IsAssumed assumed) (λ (l : Lit). record { literal = l; level = 0; reason = None }) assumed (λ k d inside none level. Contains-get_or assumed k d inside)
+
+-- a run of a search over these atoms
+module _ {m m' : TheoryState} {s : Search} {log log' : LogState} {held held' : List Held} {work work' : WorkList Note} {answer : Result (Option ℕ) Stop}
+    (assumed : List Lit) (a : Advances m m' s (assumed_entries assumed) log log' held held' work work' answer) (atoms : List ℕ) (same : s.atoms ≡ atoms) where
+  pub run_sound : StaysInOrder m.over atoms log log'
+  run_sound = subst (λ (us : List ℕ). StaysInOrder m.over us log log') same a.sound
+
+  pub run_named : AreOn log atoms held → AreOn log' atoms held'
+  run_named = subst (λ (us : List ℕ). AreOn log us held → AreOn log' us held') same a.named
+
+  -- where the list leads to where the theory stands, so it does at the end
+  pub run_ends : TellsTrail log s.atoms s.bounds s.trail.entries work → All (λ (e : Assigned). Contains s.atoms e.literal.atom) s.trail.entries → (ns : List Node) (levels : List (List ℕ)) (q : Task)
+      → m.over ns → IsAsked ns levels log atoms assumed q → Stands (m.at ns) ns q work → Ends (m'.at ns) ns q work' answer
+  run_ends tells on ns levels q known asked stands =
+      let asked' = subst (λ (us : List ℕ). IsAsked ns levels log us assumed q) (sym same) asked in
+      a.ends ns levels assumed q known (assumed_only assumed) asked'
+      (stands_by ns log s.atoms s.bounds s.trail.entries work tells asked'.within on (m.at ns) q stands)
+
+-- where the theory stands after the run, also where it can't be told
+pub ends_later : (A : Type 0) (IsAt : Standing) (ns : List Node) (q : Task) (work : WorkList Note) (x : A) → Ends {A = A} IsAt ns q work (Ok x) → AreLegal q (noted_list ns work).lines
+ends_later A IsAt ns q work x s = (s.point, s.legal)
+
+-- ---- At the end
+
+decided_not_missing : (o : Option Assigned) → IsSome o → o ≡ None → ⊥
+decided_not_missing None some none = cc
+decided_not_missing (Some e) some none = cc
+
+-- where each atom is decided, a clause that is open has a true literal
+open_true : (es : List Assigned) (atoms : List ℕ) → All (λ (t : ℕ). IsSome (assigned es t)) atoms → (c : List Lit) → ((l : Lit) → Contains c l → Contains atoms l.atom)
+    → IsOpen es c → (l : Lit) × Contains c l × IsTrueOn es l
+open_true es atoms decided c named (by_true l has holds) = (l, has, holds)
+open_true es atoms decided c named (by_two l m has_l has_m differ free_l free_m) =
+    absurd
+    (decided_not_missing (assigned es l.atom) (All-contains (λ (t : ℕ). IsSome (assigned es t)) atoms l.atom decided (named l has_l)) (free_missing es l.atom free_l))
+
+some_truth : (o : Option Assigned) → IsSome o → IsSome (option_map (λ (e : Assigned). e.literal.sign) o)
+some_truth None some = some
+some_truth (Some e) some = some
+
+-- what holds on the trail is what the truths say
+pub satisfied : {T : Type 0} → (log : LogState) (held : List Held) (assumed : List Lit) (atoms : List ℕ) (s : Search) (t : SatState T) → t.clauses ≡ held
+    → AreTruthsOn s.trail.entries t.truths → Satisfies log held assumed atoms s → IsSatisfied log t assumed atoms
+satisfied log held assumed atoms s t same truths h =
+    let es = s.trail.entries in
+    let is_true : (l : Lit) → IsTrueOn es l → IsTrueLit t l = λ l on. truths l.atom ∙ on in
+    let clause : (x : Held) → Contains (ids held) x.id → IsTrueClause t (literals_at log x.id) =
+    λ x there.
+    let l = open_true es s.atoms h.all_decided (literals_at log x.id) (held_named s.atoms log (ids held) h.search.named x.id there)
+    (All-contains (λ (i : ℕ). IsOpen es (literals_at log i)) (ids held) x.id h.all_open there) in
+    (l.0, l.1, is_true l.0 l.2) in
+    record {
+      clauses = All-same (λ (x : Held). IsTrueClause t (literals_at log x.id)) t.clauses held same (λ k d inside. clause (get_or held k d) (held_has held k d inside));
+      assumed_hold = λ k d inside.
+          let l = get_or assumed k d in
+          is_true l (below_true s.trail.size es h.search.on.order 0 l.atom l.sign (h.hold k d inside));
+      atoms_decided = subst (All (λ (u : ℕ). IsSome (truth_of t u))) h.same
+          (λ k d inside.
+          let u = get_or s.atoms k d in
+          subst IsSome (sym (truths u)) (some_truth (assigned es u) (h.all_decided k d inside)));
+    }
+
+-- ---- The theory
+
+-- the literal of an entry is true
+entry_true : (size : ℕ) (es : List Assigned) → EachBehind (IsNext size) es → (i : ℕ) (e : Assigned) → slice_get es i ≡ Some e → IsTrueOn es e.literal
+entry_true size es order i e at = ap (option_map (λ (x : Assigned). x.literal.sign)) (assigned_at es i e at (order i e at).fresh)
+
+-- a true literal is that of an entry
+true_among : (es : List Assigned) (l : Lit) → IsTrueOn es l → Contains (literals_on es) l
+true_among es l on =
+    elim (assigned es l.atom) as (λ o. assigned es l.atom ≡ o → option_map (λ (x : Assigned). x.literal.sign) o ≡ Some l.sign → Contains (literals_on es) l) [
+      | None ↦ λ none there. let clash : None ≡ Some l.sign = there in cc
+      | Some x ↦ λ at there.
+          let place = assigned_place es l.atom x at in
+          let is : x.literal ≡ l = lit_is x.literal l place.0 (same_Some x.literal.sign l.sign there) in
+          has_found (literals_on es) place.1.0 l
+          (slice_get-map (λ (e : Assigned). e.literal) es place.1.0 ∙ ap (option_map (λ (e : Assigned). e.literal)) place.1.1 ∙ ap Some is)
+    ] refl on
+
+-- what it was told are the bounds that are true
+pub theory_met : {T : Type 0} → (m : TheoryState) (log : LogState) (held : List Held) (s : Search) (t : SatState T) (atoms : List ℕ) → IsSearch log held s → s.atoms ≡ atoms
+    → AreTruthsOn s.trail.entries t.truths → IsMet m s.bounds s.trail.entries → IsTheoryMet log m.has_told m.is_feasible t atoms
+theory_met m log held s t atoms h same truths met =
+    let es = s.trail.entries in
+    let b = s.bounds in
+    let P : Assigned → Bool = λ e. is_marked b.marks.items e.literal.atom in
+    let on : (e : Assigned) → Contains es e → Contains s.atoms e.literal.atom = λ e has. All-contains (λ (x : Assigned). Contains s.atoms x.literal.atom) es e h.on.on_trail has in
+    let whole : take b.told es ≡ es = ap (λ (n : ℕ). take n es) met.whole ∙ take_all (length es) es (omega arith) in
+    record {
+      literals = told_lits b es;
+      told = met.told;
+      feasible = met.feasible;
+      bounds = all_from (IsBoundIn log) (told_lits b es)
+          (λ l has.
+          let e = told_entry b es l has in
+          subst (IsBoundIn log) e.3 (marked_bound log s.atoms b.marks.items h.on.marked e.0.literal (on e.0 (front_has b.told es e.0 e.1)) e.2));
+      hold = all_from (IsTrueLit t) (told_lits b es)
+          (λ l has.
+          let e = entry_from es l (told_among b es l has) in
+          let on_es : IsTrueOn es l = subst (IsTrueOn es) e.3 (entry_true s.trail.size es h.on.order e.0 e.1 e.2) in
+          truths l.atom ∙ on_es);
+      all = λ l atom bound holds.
+          let e = entry_from es l (true_among es l (sym (truths l.atom) ∙ holds)) in
+          let has = has_found es e.0 e.1 e.2 in
+          let bound' : IsBoundIn log e.1.literal = subst (IsBoundIn log) (sym e.3) bound in
+          let marked : P e.1 ≡ true = bound_marked log s.atoms b.marks.items h.on.marked e.1.literal (on e.1 has) bound' in
+          let told : Contains (told_on b es) e.1 = filter_has P (take b.told es) e.1 (subst (λ (xs : List Assigned). Contains xs e.1) (sym whole) has) marked in
+          subst (Contains (told_lits b es)) e.3 (map_has (λ (x : Assigned). x.literal) (told_on b es) e.1 told);
+    }

@@ -1,0 +1,465 @@
+-- What a theory is told of a trail, and its answers there.
+use Rattle.std.proofs.Common.{◌≡◌, ◌≢◌, ℕ, ◌+◌, ◌<◌, Bool, true, false, not, if◌then◌else◌, List, [], ◌∷◌, ◌++◌, length, take, drop, map, suc, inl, inr, Option, None, Some, refl, sym, ap, subst, ◌∙◌, arith, true≢false}
+use Rattle.std.specs.Prelude.{All, Contains, IfOk, IfSome, IsTrue, OnOk, filter, is_some, option_map, slice_get, unwrap_or}
+use Rattle.std.specs.declared.result.Result.{Result}
+use Rattle.std.specs.declared.result.Result.TheVariants.{Ok, Err}
+use Rattle.std.proofs.lemmas.Bool.Decides.{eqb_tells}
+use Rattle.std.proofs.lemmas.List.{append-nil, length-map, map_push, take-append-drop, take_more}
+use Rattle.std.proofs.lemmas.List.Elements.{All-contains, All-head, All-map, All-tail, All-weaker, Contains-append_left, Contains-push_cases, filter-append, recursion_from_All}
+use Rattle.std.proofs.lemmas.List.Sums.{length-filter}
+use Rattle.std.proofs.lemmas.Result.{IfOk-weaker}
+use Rattle.std.proofs.lemmas.Option.{IfSome_then, get_or_from_slice_get, slice_get-get_or, slice_get_within}
+use Rattle.nz_lists.proofs.Places.{drop_found}
+use Rattle.nz_lists.proofs.Members.{has_cases, has_found, map_has}
+use Rattle.nz_spec.specs.simplex.Bland.{Point}
+use Rattle.nz_spec.specs.terms.Form.{Part}
+use Rattle.nz_spec.specs.search.Legal.{MayTell, PivotsAreLegal, Task, ToldLiteral, literal_by, literals_by, told_literals}
+use Rattle.nz_spec.specs.search.Legal as legal
+use Rattle.nz_spec.specs.clauses.Literal as spec
+use Rattle.nz_spec.specs.clauses.Literal.{AreTrueLiterals, NegationIsOther, is_literal_true}
+use Rattle.nz_spec.specs.terms.Model.{IsModel}
+use Rattle.nz_spec.specs.terms.Table.{Node}
+use Rattle.nz_spec.specs.terms.Term.{Assignment}
+use Rattle.nz_spec.specs.search.Work.{WorkList, with_line}
+use Rattle.nz_log.specs.declared.lits.Lit.{Lit}
+use Rattle.nz_search.specs.declared.note.Note.{Note}
+use Rattle.nz_search.specs.declared.stop.Stop.{Stop}
+use Rattle.nz_log.specs.declared.atoms.Atom.{Atom}
+use Rattle.nz_log.specs.Atoms.{AreWithin, IsLitIn, TellsLits, clause_in, literal_in}
+use Rattle.nz_log.specs.Leveled.{AreTold}
+use Rattle.nz_log.specs.Lits.{negated_lit}
+use Rattle.nz_log.specs.Logs.{LogState, literals_at}
+use Rattle.nz_log.specs.Sound.{ClausesAreTrue, IsLog}
+use Rattle.nz_search.specs.Standing.{Standing, Stands, search_after}
+use Rattle.nz_search.specs.Theories.{AddsPivots, IsClash, Leads}
+use Rattle.nz_log.specs.Growth.{Grows}
+use Rattle.nz_sat.specs.declared.consult.Bounds.{Bounds}
+use Rattle.nz_sat.specs.declared.trail.Assigned.{Assigned}
+use Rattle.nz_sat.specs.Clauses.{IsAssumed, IsFalsified}
+use Rattle.nz_sat.specs.Conflicts.{is_marked}
+use Rattle.nz_sat.specs.Numbers.{IsAtomAt, atom_literal, number_of, numbered}
+use Rattle.nz_sat.specs.Sats.{IsAsked}
+use Rattle.nz_sat.specs.Theories.{Consults, EndsLegally, IsTrailOn, Keeps, StandsAt, StaysSoundOver, TellsOne, TellsTrail, TheoryState, bounds_on, told_line, told_literal, told_lits, told_on}
+use Rattle.nz_sat.specs.Trails.{EachBehind, IsNext, TrailState, assigned, depth, is_decision, literals_on}
+use Rattle.nz_sat.proofs.LogGrowth.{asked_on, grows_far, grows_none, order_over}
+use Rattle.nz_sat.proofs.Chains.{filter_from}
+use Rattle.nz_sat.proofs.DeadEnds.{literal_numbered, number_at, task_entry}
+use Rattle.nz_sat.proofs.LearnedClauses.{all_from}
+use Rattle.nz_sat.proofs.SearchLines.{adds_far, adds_none, adds_pivots, search_more}
+use Rattle.nz_sat.proofs.Newness.{map_from, same_atom}
+use Rattle.nz_sat.proofs.AtomPreservation.{lit_stays, names_stay}
+use Rattle.nz_sat.proofs.TheoryLines.{check_ends, pivots_stay}
+use Rattle.nz_sat.proofs.AtomTrails.{names_some, names_told, trail_grown}
+use Rattle.nz_sat.proofs.TrailEntries.{assigned_at}
+
+-- ---- Literals of a trail
+
+abbrev literal_of : Assigned → Lit
+literal_of e = e.literal
+
+-- a literal of the trail is that of an entry
+pub entry_from : (es : List Assigned) (l : Lit) → Contains (literals_on es) l → (i : ℕ) × (e : Assigned) × (slice_get es i ≡ Some e) × (e.literal ≡ l)
+entry_from es l has =
+    let d : Assigned = record { literal = l; level = 0; reason = None } in
+    let w = map_from literal_of es l has in
+    let at : slice_get es w.1.0 ≡ Some w.0 = slice_get-get_or es w.1.0 w.0 w.1.1 ∙ ap Some w.1.2 in
+    (w.1.0, w.0, at, w.2)
+
+-- what stands in a front stands in the whole
+pub front_has : (n : ℕ) (es : List Assigned) (e : Assigned) → Contains (take n es) e → Contains es e
+front_has n es e has = subst (λ (xs : List Assigned). Contains xs e) (take-append-drop n es) (Contains-append_left (take n es) (drop n es) e has)
+
+-- what was told is on a bound of the trail
+pub told_entry : (b : Bounds) (es : List Assigned) (l : Lit) → Contains (told_lits b es) l
+    → (e : Assigned) × Contains (take b.told es) e × (is_marked b.marks.items e.literal.atom ≡ true) × (e.literal ≡ l)
+told_entry b es l has =
+    let w = map_from literal_of (told_on b es) l has in
+    let f = filter_from (λ (e : Assigned). is_marked b.marks.items e.literal.atom) (take b.told es) w.0 w.1 in
+    (w.0, f.0, f.1, w.2)
+
+pub told_among : (b : Bounds) (es : List Assigned) (l : Lit) → Contains (told_lits b es) l → Contains (literals_on es) l
+told_among b es l has =
+    let e = told_entry b es l has in
+    subst (Contains (literals_on es)) e.3 (map_has literal_of es e.0 (front_has b.told es e.0 e.1))
+
+-- ---- One entry more
+
+module _ (b : Bounds) (es : List Assigned) (e : Assigned) (at : slice_get es b.told ≡ Some e) where
+  front_more : take (b.told + 1) es ≡ take b.told es ++ e ∷ []
+  front_more =
+      take_more es b.told e (slice_get_within es b.told e at) ∙ ap (λ (x : Assigned). take b.told es ++ x ∷ []) (get_or_from_slice_get es b.told e e at)
+
+  parts : told_on (record b { told = b.told + 1 }) es ≡ told_on b es ++ (if is_marked b.marks.items e.literal.atom then e ∷ [] else [])
+  parts = ap (bounds_on b.marks.items) front_more ∙ filter-append (λ (x : Assigned). is_marked b.marks.items x.literal.atom) (take b.told es) (e ∷ [])
+
+  pub told_more : is_marked b.marks.items e.literal.atom ≡ true → told_on (record b { told = b.told + 1 }) es ≡ told_on b es ++ e ∷ []
+  told_more marked = parts ∙ ap (λ (c : Bool). told_on b es ++ (if c then e ∷ [] else [])) marked
+
+  pub told_same : is_marked b.marks.items e.literal.atom ≡ false → told_on (record b { told = b.told + 1 }) es ≡ told_on b es
+  told_same unmarked = parts ∙ ap (λ (c : Bool). told_on b es ++ (if c then e ∷ [] else [])) unmarked ∙ append-nil (told_on b es)
+
+-- ---- What a list tells of what was told
+
+-- what a list tells of entries says their literals
+told_each : (ns : List Node) (all : List Atom) (atoms : List ℕ) → All (IsAtomAt ns all) atoms → (es : List Assigned) → All (λ (e : Assigned). Contains atoms e.literal.atom) es
+    → map (λ (t : ToldLiteral). literal_by (map (atom_literal ns all) atoms) (t.atom, t.sign)) (map (told_literal atoms) es) ≡ clause_in ns all (literals_on es)
+told_each ns all atoms within [] on = refl
+told_each ns all atoms within (e ∷ es) on =
+    let O : Assigned → Type 0 = λ x. Contains atoms x.literal.atom in
+    let has = All-head O e es on in
+    let first = literal_numbered ns all atoms e.literal has (All-contains (IsAtomAt ns all) atoms e.literal.atom within has) in
+    let rest = told_each ns all atoms within es (All-tail O e es on) in
+    λ i. first i ∷ rest i
+
+pub told_said : (ns : List Node) (log : LogState) (atoms : List ℕ) (b : Bounds) (es : List Assigned) (work : WorkList Note) → TellsTrail log atoms b es work → All (IsAtomAt ns log.atoms) atoms
+    → All (λ (e : Assigned). Contains atoms e.literal.atom) es → told_literals (search_after ns work) ≡ clause_in ns log.atoms (told_lits b es)
+told_said ns log atoms b es work tells within on =
+    let r = search_after ns work in
+    let O : Assigned → Type 0 = λ x. Contains atoms x.literal.atom in
+    let among : All O (told_on b es) =
+    all_from O (told_on b es)
+    (λ e has. All-contains O es e on (front_has b.told es e (filter_from (λ (x : Assigned). is_marked b.marks.items x.literal.atom) (take b.told es) e has).0)) in
+    ap (λ (ts : List ToldLiteral). map (λ (t : ToldLiteral). literal_by r.atoms (t.atom, t.sign)) ts) (tells.told ns)
+    ∙ ap (λ (xs : List spec.Literal). map (λ (t : ToldLiteral). literal_by xs (t.atom, t.sign)) (map (told_literal atoms) (told_on b es))) (tells.named ns)
+    ∙ told_each ns log.atoms atoms within (told_on b es) among
+
+-- where a theory stands that was told what the list tells, by the literals that it was told
+module _ (ns : List Node) (log : LogState) (atoms : List ℕ) (b : Bounds) (es : List Assigned) (work : WorkList Note) (tells : TellsTrail log atoms b es work)
+    (within : All (IsAtomAt ns log.atoms) atoms) (on : All (λ (e : Assigned). Contains atoms e.literal.atom) es) (IsAt : Standing) (q : Task) where
+  pub stands_by : Stands IsAt ns q work → StandsAt IsAt ns q work (clause_in ns log.atoms (told_lits b es))
+  stands_by s =
+      record { point = s.point; legal = s.legal; at = subst (λ (ls : List spec.Literal). IsAt (search_after ns work).forms ls s.point) (told_said ns log atoms b es work tells within on) s.at }
+
+  pub stands_so : StandsAt IsAt ns q work (clause_in ns log.atoms (told_lits b es)) → Stands IsAt ns q work
+  stands_so s =
+      record { point = s.point; legal = s.legal; at = subst (λ (ls : List spec.Literal). IsAt (search_after ns work).forms ls s.point) (sym (told_said ns log atoms b es work tells within on)) s.at }
+
+-- the log grows
+pub tells_grown : (log log' : LogState) (atoms : List ℕ) (b : Bounds) (t : TrailState) (work : WorkList Note) → IsTrailOn log atoms b t → Grows log log' → TellsTrail log atoms b t.entries work
+    → TellsTrail log' atoms b t.entries work
+tells_grown log log' atoms b t work h g tells =
+    record {
+      named = λ ns. tells.named ns ∙ sym (names_stay log.atoms log'.atoms g.atoms ns atoms (names_some log atoms h.there));
+      decided = tells.decided;
+      told = tells.told;
+    }
+
+-- ---- What may be told
+
+missing : (es : List Assigned) (x : Assigned) → Contains es x → assigned es x.literal.atom ≡ None → ⊥
+missing [] x has none = omega (arith, has.1)
+missing (y ∷ ys) x has none =
+    elim (eqb_tells y.literal.atom x.literal.atom) [
+      | inl p ↦
+          let clash : Some y ≡ None = ap (λ (c : Bool). if c then Some y else assigned ys x.literal.atom) (sym p.0) ∙ none in
+          cc
+      | inr p ↦
+          let rest : assigned ys x.literal.atom ≡ None = ap (λ (c : Bool). if c then Some y else assigned ys x.literal.atom) (sym p.0) ∙ none in
+          elim (has_cases y x ys has) [
+            | inl same ↦ absurd (p.1 (ap (λ (z : Assigned). z.literal.atom) same))
+            | inr more ↦ missing ys x more rest
+          ]
+    ]
+
+-- the next entry
+module _ (log : LogState) (atoms : List ℕ) (b : Bounds) (t : TrailState) (h : IsTrailOn log atoms b t) (e : Assigned) (at : slice_get t.entries b.told ≡ Some e) where
+  abbrev es : List Assigned
+  es = t.entries
+
+  pub next_has : Contains es e
+  next_has = has_found es b.told e at
+
+  pub next_atom : Contains atoms e.literal.atom
+  next_atom = All-contains (λ (x : Assigned). Contains atoms x.literal.atom) es e h.on_trail next_has
+
+  next_inside : b.told < length es
+  next_inside = slice_get_within es b.told e at
+
+  next_level : e.level ≡ depth es
+  next_level =
+      All-head (λ (x : Assigned). x.level ≡ depth es) e (drop (suc b.told) es)
+      (subst (All (λ (x : Assigned). x.level ≡ depth es)) (drop_found es b.told e at) h.untold_last)
+
+  pub next_trail : IsTrailOn log atoms (record b { told = b.told + 1 }) t
+  next_trail =
+      let P : Assigned → Type 0 = λ x. x.level ≡ depth es in
+      let one : suc b.told ≡ b.told + 1 = omega arith in
+      let inside = next_inside in
+      record {
+        there = h.there;
+        marked = h.marked;
+        on_trail = h.on_trail;
+        order = h.order;
+        implied = h.implied;
+        inside = omega (arith, inside);
+        untold_last = subst (λ (n : ℕ). All P (drop n es)) one (All-tail P e (drop (suc b.told) es) (subst (All P) (drop_found es b.told e at) h.untold_last));
+      }
+
+  -- what the list tells where it isn't a bound, and where it is told
+  pub next_skipped : (work : WorkList Note) → TellsTrail log atoms b es work → is_marked b.marks.items e.literal.atom ≡ false → TellsTrail log atoms (record b { told = b.told + 1 }) es work
+  next_skipped work tells unmarked =
+      record {
+        named = tells.named;
+        decided = tells.decided;
+        told = λ ns. tells.told ns ∙ ap (map (told_literal atoms)) (sym (told_same b es e at unmarked));
+      }
+
+  pub next_told : (work : WorkList Note) → TellsTrail log atoms b es work → is_marked b.marks.items e.literal.atom ≡ true
+      → TellsTrail log atoms (record b { told = b.told + 1 }) es (with_line work (told_line atoms e.literal))
+  next_told work tells marked =
+      let f = told_literal atoms in
+      let T : ℕ → ToldLiteral = λ k. record { depth = k; atom = unwrap_or (number_of atoms e.literal.atom) 0; sign = e.literal.sign } in
+      let line = told_line atoms e.literal in
+      record {
+        named = λ ns. ap (λ (r : legal.Search). r.atoms) (search_more ns work (line ∷ [])) ∙ tells.named ns;
+        decided = λ ns. ap (λ (r : legal.Search). r.decided) (search_more ns work (line ∷ [])) ∙ tells.decided ns;
+        told = λ ns.
+            let r = search_after ns work in
+            let deep : length r.decided ≡ e.level =
+            ap length (tells.decided ns) ∙ length-map (filter is_decision es) (λ (x : Assigned). numbered atoms x.literal) ∙ length-filter is_decision es ∙ sym next_level in
+            ap (λ (s : legal.Search). s.told) (search_more ns work (line ∷ []))
+            ∙ ap (λ (ts : List ToldLiteral). ts ++ T (length r.decided) ∷ []) (tells.told ns) ∙ ap (λ (k : ℕ). map f (told_on b es) ++ T k ∷ []) deep
+            ∙ sym (ap (map f) (told_more b es e at marked) ∙ map_push f (told_on b es) e);
+      }
+
+  -- what was told, and the next entry
+  pub next_among : (l : Lit) → Contains (told_lits b es ++ e.literal ∷ []) l → Contains (literals_on es) l
+  next_among l has =
+      elim (Contains-push_cases (told_lits b es) e.literal l has) [
+        | inl old ↦ told_among b es l old
+        | inr same ↦ subst (Contains (literals_on es)) same (map_has literal_of es e next_has)
+      ]
+
+  pub next_lits : (l : Lit) → Contains (told_lits b es ++ e.literal ∷ []) l → Contains atoms l.atom
+  next_lits l has =
+      let x = entry_from es l (next_among l has) in
+      subst (λ (m : Lit). Contains atoms m.atom) x.3 (All-contains (λ (y : Assigned). Contains atoms y.literal.atom) es x.1 h.on_trail (has_found es x.0 x.1 x.2))
+
+  module _ (tells_lits : TellsLits) (clauses : ClausesAreTrue) (other : NegationIsOther) (ns : List Node) (levels : List (List ℕ)) (assumed : List Lit) (q : Task)
+      (asked : IsAsked ns levels log atoms assumed q) (only : All (IsAssumed assumed) es) (work : WorkList Note) (tells : TellsTrail log atoms b es work) where
+    abbrev number : ℕ
+    number = unwrap_or (number_of atoms e.literal.atom) 0
+
+    pub next_says : literal_by (search_after ns work).atoms (numbered atoms e.literal) ≡ literal_in ns log.atoms e.literal
+    next_says =
+        ap (λ (xs : List spec.Literal). literal_by xs (numbered atoms e.literal)) (tells.named ns)
+        ∙ literal_numbered ns log.atoms atoms e.literal next_atom (All-contains (IsAtomAt ns log.atoms) atoms e.literal.atom asked.within next_atom)
+
+    other_number : (x : Assigned) → Contains (told_on b es) x → unwrap_or (number_of atoms x.literal.atom) 0 ≢ number
+    other_number x has same =
+        let before = (filter_from (λ (y : Assigned). is_marked b.marks.items y.literal.atom) (take b.told es) x has).0 in
+        let on = All-contains (λ (y : Assigned). Contains atoms y.literal.atom) es x h.on_trail (front_has b.told es x before) in
+        let atom : x.literal.atom ≡ e.literal.atom = same_atom atoms x.literal.atom e.literal.atom on next_atom same in
+        missing (take b.told es) x before (ap (assigned (take b.told es)) atom ∙ (h.order b.told e at).fresh)
+
+    next_follows : (a : Assignment) → IsModel q.asserted [] a → AreTrueLiterals a q.assumed → AreTrueLiterals a (literals_by (search_after ns work).atoms (search_after ns work).decided)
+        → IsTrue (is_literal_true a (literal_by (search_after ns work).atoms (numbered atoms e.literal)))
+    next_follows a model assumed_hold decided_hold =
+        let r = search_after ns work in
+        let named' = subst (λ (xs : List spec.Literal). AreTrueLiterals a (literals_by xs r.decided)) (tells.named ns) decided_hold in
+        let decided' = subst (λ (ps : List (ℕ × Bool)). AreTrueLiterals a (literals_by (map (atom_literal ns log.atoms) atoms) ps)) (tells.decided ns) named' in
+        subst (λ (x : spec.Literal). IsTrue (is_literal_true a x)) (sym next_says)
+        (task_entry tells_lits clauses other ns levels assumed q log atoms asked b t h only a model assumed_hold decided' e next_has)
+
+    pub next_may : MayTell q (search_after ns work) number e.literal.sign
+    next_may =
+        let inside : number < length atoms = slice_get_within atoms number e.literal.atom (number_at atoms e.literal.atom next_atom) in
+        let long : length (search_after ns work).atoms ≡ length atoms = ap length (tells.named ns) ∙ length-map atoms (atom_literal ns log.atoms) in
+        let P : ToldLiteral → Type 0 = λ x. x.atom ≢ number in
+        record {
+          named = omega (arith, inside, long);
+          new = subst (All P) (sym (tells.told ns)) (All-map P (told_literal atoms) (told_on b es) (all_from (λ (x : Assigned). P (told_literal atoms x)) (told_on b es) other_number));
+          follows = next_follows;
+        }
+
+-- ---- A turn of telling
+
+pub keeps_none : (m : TheoryState) → Keeps m m
+keeps_none m = record { over = λ ns h. h; of = λ all ids h. h }
+
+pub keeps_far : (a b c : TheoryState) → Keeps a b → Keeps b c → Keeps a c
+keeps_far a b c g h = record { over = λ ns k. h.over ns (g.over ns k); of = λ all ids k. h.of all ids (g.of all ids k) }
+
+-- nothing was told yet
+pub consults_none : (m : TheoryState) (log : LogState) (atoms : List ℕ) (b : Bounds) (t : TrailState) (work : WorkList Note) → IsTrailOn log atoms b t → m.has_told (told_lits b t.entries)
+    → TellsTrail log atoms b t.entries work → Consults m m log log atoms b b t work work (Ok None)
+consults_none m log atoms b t work h told tells =
+    record {
+      rest = refl;
+      trail = h;
+      keeps = keeps_none m;
+      grows = grows_none log;
+      sound = λ ns levels known within order. order;
+      adds = adds_none work;
+      told = told;
+      noted = tells;
+      clash = tt;
+      ends = λ ns levels assumed q known only asked stands. stands_so ns log atoms b t.entries work tells asked.within h.on_trail (m.at ns) q stands;
+    }
+
+module _ {m m₁ : TheoryState} {log log₁ : LogState} {atoms : List ℕ} {b b₁ : Bounds} {t : TrailState} {work work₁ : WorkList Note} (c : Consults m m₁ log log₁ atoms b b₁ t work work₁ (Ok None))
+    (e : Assigned) (at : slice_get t.entries b₁.told ≡ Some e) where
+  -- an entry that is on no bound
+  pub consults_skip : is_marked b₁.marks.items e.literal.atom ≡ false → Consults m m₁ log log₁ atoms b (record b₁ { told = b₁.told + 1 }) t work work₁ (Ok None)
+  consults_skip unmarked =
+      record {
+        rest = ap (λ (x : Bounds). record x { told = b₁.told + 1 }) c.rest;
+        trail = next_trail log₁ atoms b₁ t c.trail e at;
+        keeps = c.keeps;
+        grows = c.grows;
+        sound = c.sound;
+        adds = c.adds;
+        told = subst (λ (xs : List Assigned). m₁.has_told (literals_on xs)) (sym (told_same b₁ t.entries e at unmarked)) c.told;
+        noted = next_skipped log₁ atoms b₁ t c.trail e at work₁ c.noted unmarked;
+        clash = tt;
+        ends = c.ends;
+      }
+
+  module _ {m₂ : TheoryState} {log₂ : LogState} {work₂ : WorkList Note} {r : Result (Option ℕ) Stop} (o : TellsOne m₁ m₂ log₁ log₂ atoms e.literal work₁ work₂ r) where
+    abbrev ls : List Lit
+    ls = told_lits b₁ t.entries
+
+    one_grows : Grows log₁ log₂
+    one_grows = o.grows ls c.told (names_told log₁ atoms c.trail.there (ls ++ e.literal ∷ []) (next_lits log₁ atoms b₁ t c.trail e at))
+
+    one_within : (ns : List Node) → All (λ (x : Assigned). IsLitIn ns log₁.atoms x.literal) t.entries → AreWithin ns log₁.atoms (ls ++ e.literal ∷ [])
+    one_within ns within =
+        recursion_from_All (IsLitIn ns log₁.atoms) (ls ++ e.literal ∷ [])
+        (all_from (IsLitIn ns log₁.atoms) (ls ++ e.literal ∷ [])
+        (λ l has.
+        let x = entry_from t.entries l (next_among log₁ atoms b₁ t c.trail e at l has) in
+        subst (IsLitIn ns log₁.atoms) x.3
+        (All-contains (λ (y : Assigned). IsLitIn ns log₁.atoms y.literal) t.entries x.1 within (has_found t.entries x.0 x.1 x.2))))
+
+    one_sound : StaysSoundOver m.over t.entries log log₂
+    one_sound ns levels known within order =
+        let within' = All-weaker (λ (x : Assigned). IsLitIn ns log.atoms x.literal) (λ (x : Assigned). IsLitIn ns log₁.atoms x.literal)
+        (λ x l. lit_stays log.atoms log₁.atoms c.grows.atoms ns x.literal l) t.entries within in
+        o.sound ls ns levels c.told (c.keeps.over ns known) (one_within ns within') (c.sound ns levels known within order)
+
+    one_ends : TellsLits → ClausesAreTrue → NegationIsOther → EndsLegally m m₂ log atoms (told_lits b t.entries) t.entries work work₂ r
+    one_ends tells clauses other ns levels assumed q known only asked stands =
+        let asked' = asked_on log log₁ atoms c.grows (order_over m.over atoms t.entries c.trail.on_trail log log₁ c.sound ns levels known asked.within asked.order) asked in
+        o.ends ns q (next_may log₁ atoms b₁ t c.trail e at tells clauses other ns levels assumed q asked' only work₁ c.noted)
+        (next_says log₁ atoms b₁ t c.trail e at tells clauses other ns levels assumed q asked' only work₁ c.noted) (c.ends ns levels assumed q known only asked stands)
+
+    one_clash : IfOk r (λ found. IfSome found (IsClash log₂ (literals_on t.entries)))
+    one_clash =
+        IfOk-weaker r (λ (found : Option ℕ). IfSome found (IsClash log₂ (ls ++ e.literal ∷ []))) (λ (found : Option ℕ). IfSome found (IsClash log₂ (literals_on t.entries)))
+        (λ found h. IfSome_then found h
+        (λ id k. record { live = k.live; once = k.once; negations = λ l has. next_among log₁ atoms b₁ t c.trail e at (negated_lit l) (k.negations l has) })) (o.clash ls c.told)
+
+    -- where it answers a clause, or stops, no more is told
+    pub consults_ends : TellsLits → ClausesAreTrue → NegationIsOther → OnOk r (m₂.has_told ls) → OnOk r (work₂ ≡ work₁) → Consults m m₂ log log₂ atoms b b₁ t work work₂ r
+    consults_ends tells clauses other told same =
+        record {
+          rest = c.rest;
+          trail = trail_grown log₁ atoms b₁ t c.trail log₂ one_grows;
+          keeps = keeps_far m m₁ m₂ c.keeps o.keeps;
+          grows = grows_far log log₁ log₂ c.grows one_grows;
+          sound = one_sound;
+          adds = adds_far work work₁ work₂ c.adds o.adds;
+          told = told;
+          noted = IfOk-weaker r (λ (found : Option ℕ). work₂ ≡ work₁) (λ (found : Option ℕ). TellsTrail log₂ atoms b₁ t.entries work₂)
+              (λ found is. subst (TellsTrail log₂ atoms b₁ t.entries) (sym is) (tells_grown log₁ log₂ atoms b₁ t work₁ c.trail one_grows c.noted)) same;
+          clash = one_clash;
+          ends = one_ends tells clauses other;
+        }
+
+  pub consults_err : {m₂ : TheoryState} → {log₂ : LogState} → {work₂ : WorkList Note} → {stop : Stop} → TellsOne m₁ m₂ log₁ log₂ atoms e.literal work₁ work₂ (Err stop) → TellsLits
+      → ClausesAreTrue → NegationIsOther → Consults m m₂ log log₂ atoms b b₁ t work work₂ (Err stop)
+  consults_err o tells clauses other = consults_ends o tells clauses other tt tt
+
+  pub consults_clash : {m₂ : TheoryState} → {log₂ : LogState} → {work₂ : WorkList Note} → (found : Option ℕ) → is_some found ≡ true
+      → TellsOne m₁ m₂ log₁ log₂ atoms e.literal work₁ work₂ (Ok found) → TellsLits → ClausesAreTrue → NegationIsOther → Consults m m₂ log log₂ atoms b b₁ t work work₂ (Ok found)
+  consults_clash None some o tells clauses other = absurd (true≢false (sym some))
+  consults_clash (Some id) some o tells clauses other = consults_ends o tells clauses other (o.told (told_lits b₁ t.entries) c.told) o.noted
+
+  -- a bound that is taken
+  pub consults_more : {m₂ : TheoryState} → {log₂ : LogState} → {work₂ : WorkList Note} → TellsOne m₁ m₂ log₁ log₂ atoms e.literal work₁ work₂ (Ok None) → TellsLits → ClausesAreTrue
+      → NegationIsOther → is_marked b₁.marks.items e.literal.atom ≡ true → Consults m m₂ log log₂ atoms b (record b₁ { told = b₁.told + 1 }) t work work₂ (Ok None)
+  consults_more {m₂} {log₂} {work₂} o tells clauses other marked =
+      let grows = one_grows o in
+      let trail = trail_grown log₁ atoms b₁ t c.trail log₂ grows in
+      record {
+        rest = ap (λ (x : Bounds). record x { told = b₁.told + 1 }) c.rest;
+        trail = next_trail log₂ atoms b₁ t trail e at;
+        keeps = keeps_far m m₁ m₂ c.keeps o.keeps;
+        grows = grows_far log log₁ log₂ c.grows grows;
+        sound = one_sound o;
+        adds = adds_far work work₁ work₂ c.adds o.adds;
+        told = subst m₂.has_told (sym (ap literals_on (told_more b₁ t.entries e at marked) ∙ map_push literal_of (told_on b₁ t.entries) e)) (o.told (told_lits b₁ t.entries) c.told);
+        noted = subst (TellsTrail log₂ atoms (record b₁ { told = b₁.told + 1 }) t.entries) (sym o.noted)
+            (next_told log₂ atoms b₁ t trail e at work₁ (tells_grown log₁ log₂ atoms b₁ t work₁ c.trail grows c.noted) marked);
+        clash = tt;
+        ends = one_ends o tells clauses other;
+      }
+
+on_ok : {A E : Type 0} (P : Type 0) (r : Result A E) → P → OnOk r P
+on_ok P (Ok a) h = h
+on_ok P (Err e) h = tt
+
+-- the theory looks for values that meet what it was told
+pub consults_checked : PivotsAreLegal → {m m₁ m₂ : TheoryState} → {log log₁ log₂ : LogState} → {atoms : List ℕ} → {b b₁ : Bounds} → {t : TrailState} → {work work₁ work₂ : WorkList Note}
+    → Consults m m₁ log log₁ atoms b b₁ t work work₁ (Ok None) → Keeps m₁ m₂ → AddsPivots work₁ work₂ → (r : Result (Option ℕ) Stop)
+    → ((ls : List Lit) → m₁.has_told ls → OnOk r (m₂.has_told ls)) → ((ls : List Lit) → m₁.has_told ls → IfOk r (λ found. IfSome found (IsClash log₂ ls)))
+    → ((ls : List Lit) → m₁.has_told ls → AreTold log₁ ls → Grows log₁ log₂)
+    → ((ls : List Lit) (ns : List Node) (levels : List (List ℕ)) → m₁.has_told ls → m₁.over ns → AreWithin ns log₁.atoms ls → IsLog ns levels log₁ → IsLog ns levels log₂)
+    → ((ns : List Node) (fs : List (List Part)) (ls : List spec.Literal) (x : Point) → m₁.at ns fs ls x → Leads (m₂.at ns fs ls) ns fs ls x work₁ work₂ r)
+    → Consults m m₂ log log₂ atoms b b₁ t work work₂ r
+consults_checked laws {m} {m₁} {m₂} {log} {log₁} {log₂} {atoms} {b} {b₁} {t} {work} {work₁} {work₂} c keeps pivots r told clash grows sound leads =
+    let es = t.entries in
+    let ls = told_lits b₁ es in
+    let on : (l : Lit) → Contains ls l → Contains atoms l.atom =
+    λ l has.
+    let x = entry_from es l (told_among b₁ es l has) in
+    subst (λ (k : Lit). Contains atoms k.atom) x.3 (All-contains (λ (y : Assigned). Contains atoms y.literal.atom) es x.1 c.trail.on_trail (has_found es x.0 x.1 x.2)) in
+    let more = grows ls c.told (names_told log₁ atoms c.trail.there ls on) in
+    let within : (ns : List Node) → All (λ (x : Assigned). IsLitIn ns log₁.atoms x.literal) es → AreWithin ns log₁.atoms ls =
+    λ ns each.
+    recursion_from_All (IsLitIn ns log₁.atoms) ls
+    (all_from (IsLitIn ns log₁.atoms) ls
+    (λ l has.
+    let x = entry_from es l (told_among b₁ es l has) in
+    subst (IsLitIn ns log₁.atoms) x.3 (All-contains (λ (y : Assigned). IsLitIn ns log₁.atoms y.literal) es x.1 each (has_found es x.0 x.1 x.2)))) in
+    let tells = tells_grown log₁ log₂ atoms b₁ t work₁ c.trail more c.noted in
+    let after : TellsTrail log₂ atoms b₁ es work₂ =
+    record {
+      named = λ ns. ap (λ (s : legal.Search). s.atoms) (pivots_stay laws ns work₁ work₂ pivots) ∙ tells.named ns;
+      decided = λ ns. ap (λ (s : legal.Search). s.decided) (pivots_stay laws ns work₁ work₂ pivots) ∙ tells.decided ns;
+      told = λ ns. ap (λ (s : legal.Search). s.told) (pivots_stay laws ns work₁ work₂ pivots) ∙ tells.told ns;
+    } in
+    record {
+      rest = c.rest;
+      trail = trail_grown log₁ atoms b₁ t c.trail log₂ more;
+      keeps = keeps_far m m₁ m₂ c.keeps keeps;
+      grows = grows_far log log₁ log₂ c.grows more;
+      sound = λ ns levels known each order.
+          let each' = All-weaker (λ (x : Assigned). IsLitIn ns log.atoms x.literal) (λ (x : Assigned). IsLitIn ns log₁.atoms x.literal)
+          (λ x l. lit_stays log.atoms log₁.atoms c.grows.atoms ns x.literal l) es each in
+          sound ls ns levels c.told (c.keeps.over ns known) (within ns each') (c.sound ns levels known each order);
+      adds = adds_far work work₁ work₂ c.adds (adds_pivots work₁ work₂ pivots);
+      told = told ls c.told;
+      noted = on_ok (TellsTrail log₂ atoms b₁ es work₂) r after;
+      clash = IfOk-weaker r (λ (found : Option ℕ). IfSome found (IsClash log₂ ls)) (λ (found : Option ℕ). IfSome found (IsClash log₂ (literals_on es)))
+          (λ found h. IfSome_then found h (λ id k. record { live = k.live; once = k.once; negations = λ l has. told_among b₁ es (negated_lit l) (k.negations l has) })) (clash ls c.told);
+      ends = λ ns levels assumed q known only asked stands.
+          let s = c.ends ns levels assumed q known only asked stands in
+          let at = search_after ns work₁ in
+          check_ends laws ns work₁ work₂ q (Option ℕ) (m₁.at ns) (m₂.at ns) s r (leads ns at.forms (told_literals at) s.point s.at);
+    }
+
+pub consults_same : {m m' : TheoryState} → {log log' : LogState} → {atoms : List ℕ} → {b b' : Bounds} → {t : TrailState} → {work work' : WorkList Note} → {r r' : Result (Option ℕ) Stop} → r ≡ r'
+    → Consults m m' log log' atoms b b' t work work' r → Consults m m' log log' atoms b b' t work work' r'
+consults_same {m} {m'} {log} {log'} {atoms} {b} {b'} {t} {work} {work'} same c = subst (Consults m m' log log' atoms b b' t work work') same c
+
+-- ---- A clause of negations
+
+-- it is falsified
+pub clash_falsified : (size : ℕ) (es : List Assigned) → EachBehind (IsNext size) es → (log : LogState) (id : ℕ) → IsClash log (literals_on es) id → IsFalsified es (literals_at log id)
+clash_falsified size es order log id c l has =
+    let e = entry_from es (negated_lit l) (c.negations l has) in
+    let there : assigned es e.1.literal.atom ≡ Some e.1 = assigned_at es e.0 e.1 e.2 (order e.0 e.1 e.2).fresh in
+    let term : e.1.literal.atom ≡ l.atom = ap (λ (x : Lit). x.atom) e.3 in
+    let sign : e.1.literal.sign ≡ not l.sign = ap (λ (x : Lit). x.sign) e.3 in
+    ap (option_map (λ (x : Assigned). x.literal.sign)) (ap (assigned es) (sym term) ∙ there) ∙ ap Some sign

@@ -1,0 +1,18 @@
+pub mod Arguments
+pub mod ByteClasses
+pub mod Examples
+pub mod ExpansionSorts
+pub mod LinearNames
+mod Listed
+pub mod OverConstants
+pub mod Pieces
+pub mod Placed
+pub mod ReadOperands
+pub mod Readings
+pub mod Roots
+pub mod Scripts
+pub mod SortedStates
+pub mod SortedTerms
+pub mod ToldTexts
+pub mod Transcripts
+pub mod WrittenTerms

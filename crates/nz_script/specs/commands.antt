@@ -1,0 +1,9 @@
+pub mod Argument
+pub mod Command
+pub mod Elaboration
+pub mod Expression
+pub mod Limits
+pub mod Parse
+pub mod Request
+pub mod Scoping
+pub mod Script

@@ -1,0 +1,11 @@
+pub mod Example
+pub mod Samples
+pub mod Texts
+pub mod WorkedLinear
+pub mod WorkedListings
+pub mod WorkedNormals
+pub mod WorkedNumbers
+pub mod WorkedReplies
+pub mod WorkedScript
+pub mod WorkedScripts
+pub mod WorkedTerms

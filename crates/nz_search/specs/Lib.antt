@@ -1,0 +1,6 @@
+pub mod Notes
+pub mod Peaks
+pub mod Places
+pub mod Standing
+pub mod Theories
+pub mod Verdicts

@@ -1,0 +1,62 @@
+-- What a theory does to a log and to a work list, and where it stands.
+use Rattle.std.specs.Prelude.{◌≡◌, ℕ, List, [], ◌∷◌, ◌++◌, length, map, Contains, Option, Some, None, Result, Ok, Err, slice_get}
+use Rattle.nz_spec.specs.simplex.Bland.{Point, Position}
+use Rattle.nz_spec.specs.terms.Form.{Part}
+use Rattle.nz_spec.specs.clauses.Literal as spec
+use Rattle.nz_spec.specs.clauses.Literal.{StandOnce}
+use Rattle.nz_spec.specs.simplex.LiteralBounds.{moved_by, position_under}
+use Rattle.nz_spec.specs.simplex.Pivots.{Pivot, Lead}
+use Rattle.nz_spec.specs.terms.Table.{Node}
+use Rattle.nz_spec.specs.search.Work.{PivotEntry, WorkList, UnitLine}
+use Rattle.nz_lin.specs.declared.bound.Bound.{Bound}
+use Rattle.nz_log.specs.declared.atoms.Atom.TheVariants.{AtMost}
+use Rattle.nz_search.specs.declared.stop.Stop.{Stop}
+use Rattle.nz_place.specs.Places.{IsPlaceIn}
+use Rattle.nz_search.specs.Places.{OnWide}
+use Rattle.nz_log.specs.declared.lits.Lit.{Lit}
+use Rattle.nz_search.specs.declared.note.Note.{Note}
+use Rattle.nz_log.specs.Lits.{negated_lit}
+use Rattle.nz_log.specs.Logs.{LogState, IsLive, literals_at}
+
+-- A clause of the log says that literals that were told aren't true together: it has negations of them, each once.
+pub record IsClash (log : LogState) (told : List Lit) (id : ℕ) : Type 0 where
+  pub live : IsLive log id
+  pub once : StandOnce (literals_at log id)
+  pub negations : (l : Lit) → Contains (literals_at log id) l → Contains told (negated_lit l)
+
+-- what a theory was told after a literal: not that, where it answered a clause
+abbrev pub told_after : List Lit → Lit → Option ℕ → List Lit
+told_after ls l None = ls ++ l ∷ []
+told_after ls l (Some id) = ls
+
+-- the literal is on an atom that is a bound
+abbrev pub IsBoundIn : LogState → Lit → Type 0
+IsBoundIn log l = (b : Bound) × (slice_get log.atoms l.atom ≡ Some (AtMost b))
+
+-- Units are added, which are pivots.
+pub record AddsPivots (old new : WorkList Note) : Type 0 where
+  pub pivots : List Pivot
+  pub joined : new ≡ record old { lines = old.lines ++ map (λ (p : Pivot). UnitLine (PivotEntry p.leaves p.enters)) pivots }
+
+-- a literal that was told moves the form that it bounds; one that was refuted moves nothing
+abbrev pub MovesOn : (List spec.Literal → Point → Type 0) → List (List Part) → List spec.Literal → spec.Literal → Point → Option ℕ → Type 0
+MovesOn IsAt fs ls l x None = IsAt (ls ++ l ∷ []) (moved_by fs l x)
+MovesOn IsAt fs ls l x (Some id) = IsAt ls x
+
+-- what stands where a check ends: at a point, or at a place
+abbrev pub EndsAt : {A : Type 0} → (Point → Type 0) → List Node → List (List Part) → List spec.Literal → Point → Result A Stop → Type 0
+EndsAt IsAt ns fs ls y (Ok answer) = IsAt y
+EndsAt IsAt ns fs ls y (Err e) = OnWide e (IsPlaceIn ns fs ls y)
+
+-- The pivots that are added lead from a point to the one where the check ends.
+pub record Leads {A : Type 0} (IsAt : Point → Type 0) (ns : List Node) (fs : List (List Part)) (ls : List spec.Literal) (x : Point) (old new : WorkList Note) (result : Result A Stop) : Type 0 where
+  pub adds : AddsPivots old new
+  pub end : Position
+  pub lead : Lead (position_under fs x ls) adds.pivots end
+  pub ends : EndsAt IsAt ns fs ls end.point result
+
+-- no form, and no literal that bounds one
+pub record IsWithoutForms (count : ℕ) (fs : List (List Part)) (ls : List spec.Literal) (x : Point) : Type 0 where
+  pub told : count ≡ length ls
+  pub forms : fs ≡ []
+  pub point : (k : ℕ) → x k ≡ None

@@ -1,0 +1,132 @@
+//! What decides checks: the trait that a search implements, and its answers.
+use crate::note::Note;
+use crate::stop::Stop;
+use nz_base::{Memory, Work};
+use nz_log::{ClauseId, Step};
+use nz_term::{Assign, TermId, TermLit, Terms};
+
+/// What a check found.
+#[derive(Debug, Drop)]
+pub enum Verdict {
+    /// Values of constants, under which the asserted terms and the assumed literals are true. A constant that isn't among them may have
+    /// any value.
+    Sat(Assign),
+    /// No assignment makes them true. The clause of this number says so: it follows from the asserted terms, and each of its literals is the
+    /// negation of an assumed one.
+    Unsat(ClauseId),
+}
+
+/// A search that decides whether asserted terms and assumed literals can all be true. Terms are asserted by levels.
+pub trait Decide: Drop {
+    ghost use Rattle.std.specs.Prelude.{◌≡◌, ℕ, ◌-◌, ◌<◌, ◌≤◌, List, [], ◌∷◌, ◌++◌, length, map, take, All, Contains, Option, Some, IsSome, OnOk, OnErr, IfOk, IfErr};
+    ghost use Rattle.nz_spec.specs.terms.Table.{Node, term_in, assignment_by};
+    ghost use Rattle.nz_spec.specs.terms.Term as spec;
+    ghost use Rattle.nz_spec.specs.clauses.Literal.{AreTrueLiterals};
+    ghost use Rattle.nz_spec.specs.search.Decide.{AreInTable, asserted_numbers, with_number, asserted_terms, IsFrontOfTable, AreModelValues};
+    ghost use Rattle.nz_spec.specs.search.Legal.{at_first, terms_known, IsDeadEnd, AreLegal};
+    ghost use Rattle.nz_spec.specs.terms.Order.{HasCompanions};
+    ghost use Rattle.nz_spec.specs.search.Places.{IsStoppedLegally};
+    ghost use Rattle.nz_spec.specs.terms.Taken.{IsTakenBoolean};
+    ghost use Rattle.nz_spec.specs.clauses.Steps.{Derives};
+    ghost use Rattle.nz_spec.specs.search.Work.{IsSpent};
+    ghost use Rattle.nz_term.specs.declared.term_lits.TermLit.{TermLit};
+    ghost use Rattle.nz_term.specs.TermLits.{literal_of, clause_of_terms, AreConsistent, AreNegations, AreOfTerms};
+    ghost use Rattle.nz_search.specs.Notes.{noted_list, AreNotedWithin};
+    ghost use Rattle.nz_place.specs.Places.{IsSiteWithin, place_of};
+    ghost use Rattle.nz_search.specs.Places.{OnWide};
+    ghost use Rattle.nz_log.specs.Spelling.{steps_of};
+    ghost use Rattle.nz_search.specs.Verdicts.{IfSat, IfUnsat, OnUnsat, OnSpent, task_in};
+
+    /// The numbers of the asserted terms by level, the oldest level first.
+    ghost levels: { Self → List (List ℕ) };
+
+    /// The table of the last check, or a front of it: each later table begins with it, so that a number keeps its term.
+    ghost table: { Self → List Node };
+
+    /// The literals of the clause of a number, where it can be asked for: it is on terms alone.
+    ghost clause: { Self → ℕ → Option (List TermLit) };
+
+    /// Whether the forms and the point that it keeps may be those with which a search begins that was asked of these terms before.
+    ghost begins: { Self → List spec.Term → Type 0 };
+
+    /// Begins a level, in which nothing is asserted yet.
+    ///
+    /// # Errors
+    ///
+    /// `Memory`. Then the levels are as before.
+    fn push(&mut self) -> Result<(), Memory>
+        ensures ok { OnOk result (levels self.new ≡ levels self.old ++ [] ∷ []) }
+        ensures err { OnErr result (levels self.new ≡ levels self.old) }
+        ensures table { table self.new ≡ table self.old }
+        ensures begins { (ts : List spec.Term) → begins self.old ts → begins self.new ts };
+
+    /// Takes the last levels off, so many of them. Takes no memory.
+    fn pop(&mut self, count: usize)
+        requires { count ≤ length (levels self.old) }
+        ensures rest { levels self.new ≡ take (length (levels self.old) - count) (levels self.old) }
+        ensures table { table self.new ≡ table self.old }
+        ensures begins { (ts : List spec.Term) → begins self.old ts → begins self.new ts };
+
+    /// Asserts the term of this number in the last level.
+    ///
+    /// # Errors
+    ///
+    /// `Memory`. Then the levels are as before.
+    fn add(&mut self, term: TermId) -> Result<(), Memory>
+        requires { 0 < length (levels self.old) }
+        ensures ok { OnOk result (levels self.new ≡ with_number (levels self.old) term) }
+        ensures err { OnErr result (levels self.new ≡ levels self.old) }
+        ensures table { table self.new ≡ table self.old }
+        ensures begins { (ts : List spec.Term) → begins self.old ts → begins self.new ts };
+
+    /// Decides whether some assignment makes every asserted term and every assumed literal true. The steps go into the work list, which is to
+    /// have none yet.
+    ///
+    /// # Errors
+    ///
+    /// `Spent` where every unit of the work list is used and one more was wanted; `Wide` where an operation leaves the numbers; `Memory`. After each,
+    /// what is asserted stands as before.
+    fn check(
+        &mut self,
+        terms: &Terms,
+        assumed: &[TermLit],
+        work: &mut Work<Note>,
+    ) -> Result<Verdict, Stop>
+        requires known { AreInTable terms.now (levels self.old) }
+        requires within { AreOfTerms terms.now assumed.now }
+        requires grown { IsFrontOfTable (table self.old) terms.now }
+        requires no_steps { work.old.lines ≡ [] }
+
+        // What is asserted and what is assumed is linear, over Bool and Real, and no assumed literal is the negation of another.
+        requires taken { All (λ i. IsTakenBoolean (term_in terms.now i)) (asserted_numbers (levels self.old)) }
+        requires assumed_taken { All (λ l. IsTakenBoolean (term_in terms.now l.term)) assumed.now }
+        requires companions { HasCompanions terms.now }
+        requires consistent { AreConsistent assumed.now }
+        ensures sat { IfOk result (λ v. IfSat v (AreModelValues terms.now (asserted_terms terms.now (levels self.old)) [])) }
+        ensures sat_assumed { IfOk result (λ v. IfSat v (λ ps. AreTrueLiterals (assignment_by terms.now ps) (map (literal_of terms.now) assumed.now))) }
+        ensures unsat { IfOk result (λ v. OnUnsat v (IsDeadEnd (task_in terms.now (levels self.old) assumed.now []) at_first)) }
+        ensures derived { IfOk result (λ v. IfUnsat v (λ id. AreNegations assumed.now (clause self.new id))) }
+
+        // Each step is one that a search may take there which may begin with what is kept, whatever comes of it.
+        ensures legal { (ts : List spec.Term) → begins self.old ts → AreLegal (task_in terms.now (levels self.old) assumed.now ts) (noted_list terms.now work.new).lines }
+        ensures named { AreNotedWithin terms.now work.new.lines }
+        ensures spent { IfErr result (λ s. OnSpent s (IsSpent work.new)) }
+        ensures stopped { IfErr result (λ s. OnWide s (λ p. (ts : List spec.Term) → begins self.old ts → IsStoppedLegally (task_in terms.now (levels self.old) assumed.now ts) (noted_list terms.now work.new) (place_of terms.now p))) }
+        ensures place_within { IfErr result (λ s. OnWide s (λ p. IsSiteWithin terms.now p.site)) }
+        ensures limit { work.new.limit ≡ work.old.limit }
+        ensures levels { levels self.new ≡ levels self.old }
+        ensures table { OnOk result (table self.new ≡ terms.now) }
+        ensures front { IsFrontOfTable (table self.new) terms.now }
+
+        // A later search may begin with what it keeps where the terms of this one are among those of the searches before.
+        ensures begins { (ts us : List spec.Term) → begins self.old ts → ((t : spec.Term) → Contains (terms_known (task_in terms.now (levels self.old) assumed.now ts)) t → Contains us t) → begins self.new us };
+
+    /// The derivation of a clause from the asserted terms: steps, numbered from 0, of which the last gives it.
+    ///
+    /// # Errors
+    ///
+    /// `Memory`.
+    fn steps(&self, id: ClauseId) -> Result<Vec<Step<'_>>, Memory>
+        requires derived { IsSome (clause self.now id) }
+        ensures derives { IfOk result (λ steps. (c : List TermLit) → clause self.now id ≡ Some c → Derives (asserted_terms (table self.now) (levels self.now)) (steps_of (table self.now) steps.items) (clause_of_terms (table self.now) c)) };
+}

@@ -1,0 +1,15 @@
+//! What decides and what climbs: the traits of searches and of theories, the lines that they note in a work list, and why they may end
+//! with no answer.
+#![tactic(auto)]
+
+mod climb;
+mod decide;
+mod note;
+mod stop;
+mod theory;
+
+pub use climb::{Climb, Peak, Route};
+pub use decide::{Decide, Verdict};
+pub use note::{Note, StartNote};
+pub use stop::Stop;
+pub use theory::{NoNumbers, Theory};

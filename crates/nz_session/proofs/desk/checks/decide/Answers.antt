@@ -1,0 +1,73 @@
+use Rattle.std.proofs.Common.{ℕ, ◌<◌, List, [], length, ap, ◌∙◌, sym, subst, All, IfOk}
+use Rattle.std.specs.Prelude.{Contains}
+use Rattle.std.proofs.lemmas.List.Elements.{All-weaker, recursion_from_All}
+use Rattle.nz_spec.specs.search.Decide.{AreInTable, AreModelValues, asserted_numbers, asserted_terms}
+use Rattle.nz_spec.specs.search.Legal.{IsDeadEnd, Task, at_first, terms_known}
+use Rattle.nz_spec.specs.terms.Table.{term_in}
+use Rattle.nz_spec.specs.terms.Term.{Term}
+use Rattle.nz_spec.specs.terms.Taken.{IsTakenBoolean}
+use Rattle.nz_spec.specs.search.Work.{WorkList}
+use Rattle.nz_search.specs.declared.note.Note.{Note}
+use Rattle.nz_term.specs.declared.term_lits.TermLit.{TermLit}
+use Rattle.nz_search.specs.Verdicts.{IfSat, OnUnsat, task_in}
+use Rattle.nz_sort.specs.Live.{asserted_by}
+use Rattle.nz_session.specs.Assumed.{IsTakenAt}
+use Rattle.nz_session.specs.Told.{IsTold}
+use Rattle.nz_session.proofs.RightAnswers.{begins_more, begins_searched}
+use Rattle.nz_session.proofs.LegalWork.{undecided_in_levels}
+use Rattle.nz_session.proofs.desk.checks.decide.Goals as goal
+
+pub check-requires-clause-known : goal.check-requires-clause-known
+check-requires-clause-known g c =
+    let ns = c.args.terms.now in
+    subst (AreInTable ns) (sym c.in_ok-tell.ensures.all) (All-weaker (IsTakenAt ns) (λ i. i < length ns) (λ i h. h.0) (asserted_numbers (asserted_by c.args.live.now)) c.requires.taken)
+
+pub check-requires-clause-within : goal.check-requires-clause-within
+check-requires-clause-within g c =
+    let ns = c.args.terms.now in
+    let within : TermLit → Type 0 = λ l. l.term < length ns in
+    recursion_from_All within c.args.assumed.now (All-weaker (λ (l : TermLit). IsTakenAt ns l.term) within (λ l h. h.0) c.args.assumed.now c.requires.assumed_taken)
+
+pub check-requires-clause-taken : goal.check-requires-clause-taken
+check-requires-clause-taken g c =
+    let ns = c.args.terms.now in
+    let taken : ℕ → Type 0 = λ i. IsTakenBoolean (term_in ns i) in
+    subst (λ (ls : List (List ℕ)). All taken (asserted_numbers ls)) (sym c.in_ok-tell.ensures.all)
+    (All-weaker (IsTakenAt ns) taken (λ i h. h.1) (asserted_numbers (asserted_by c.args.live.now)) c.requires.taken)
+
+pub check-requires-clause-assumed_taken : goal.check-requires-clause-assumed_taken
+check-requires-clause-assumed_taken g c =
+    let ns = c.args.terms.now in
+    All-weaker (λ (l : TermLit). IsTakenAt ns l.term) (λ (l : TermLit). IsTakenBoolean (term_in ns l.term)) (λ l h. h.1) c.args.assumed.now c.requires.assumed_taken
+
+pub returns-clause-told : goal.returns-clause-told
+returns-clause-told g c = subst (λ (ls : List (List ℕ)). IsTold ls c.tell.new.told (asserted_by c.args.live.now)) (sym c.check.ensures.levels) c.tell.ensures.told
+
+pub returns-clause-sat : goal.returns-clause-sat
+returns-clause-sat g c =
+    let ns = c.args.terms.now in
+    subst (λ (ls : List (List ℕ)). IfOk c.check.result (λ v. IfSat v (AreModelValues ns (asserted_terms ns ls) []))) c.in_ok-tell.ensures.all c.check.ensures.sat
+
+pub returns-clause-unsat : goal.returns-clause-unsat
+returns-clause-unsat g c =
+    let ns = c.args.terms.now in
+    subst (λ (ls : List (List ℕ)). IfOk c.check.result (λ v. OnUnsat v (IsDeadEnd (task_in ns ls c.args.assumed.now []) at_first))) c.in_ok-tell.ensures.all c.check.ensures.unsat
+
+pub returns-clause-undecided : goal.returns-clause-undecided
+returns-clause-undecided g c ts begun =
+    undecided_in_levels c.args.terms.now (g.E.Decide.levels c.tell.new.engine) (asserted_by c.args.live.now) c.args.assumed.now ts (g.E.Decide.begins c.tell.new.engine) c.args.limit c.check.new.work
+    c.check.result c.in_ok-tell.ensures.all (c.tell.ensures.begins ts begun) (c.check.ensures.limit ∙ ap (λ (w : WorkList Note). w.limit) c.in_ok-reserve.ensures.ok) c.check.ensures.legal
+    c.check.ensures.named c.check.ensures.spent c.check.ensures.stopped c.check.ensures.place_within
+
+pub returns-in_err-tell-clause-begins : goal.returns-in_err-tell-clause-begins
+returns-in_err-tell-clause-begins g c ts h = begins_more g.E.Decide.begins c.args.engine.now c.tell.new.engine ts _ c.tell.ensures.begins h
+
+pub returns-in_err-reserve-clause-begins : goal.returns-in_err-reserve-clause-begins
+returns-in_err-reserve-clause-begins g c ts h = begins_more g.E.Decide.begins c.args.engine.now c.tell.new.engine ts _ c.tell.ensures.begins h
+
+pub returns-clause-begins : goal.returns-clause-begins
+returns-clause-begins g c ts h =
+    let task : List (List ℕ) → List Term → Task = λ ls. task_in c.args.terms.now ls c.args.assumed.now in
+    let searched = subst (λ (ls : List (List ℕ)). (ts us : List Term) → g.E.Decide.begins c.tell.new.engine ts → ((t : Term) → Contains (terms_known (task ls ts)) t → Contains us t)
+    → g.E.Decide.begins c.check.new.self us) c.in_ok-tell.ensures.all c.check.ensures.begins in
+    begins_searched g.E.Decide.begins c.tell.new.engine c.check.new.self ts (task (asserted_by c.args.live.now) ts).listed searched (λ us has. c.tell.ensures.begins us (h us has))

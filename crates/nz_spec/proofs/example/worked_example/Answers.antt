@@ -1,5 +1,0 @@
-use Rattle.nz_spec.proofs.Examples.{example_is_transcript, example_output_is}
-use Rattle.nz_spec.proofs.example.worked_example.Goals as goal
-
-pub returns : goal.returns
-returns c = record { transcript = example_is_transcript; output = example_output_is }

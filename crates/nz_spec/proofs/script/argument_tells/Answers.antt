@@ -1,5 +1,0 @@
-use Rattle.nz_spec.proofs.Arguments as laws
-use Rattle.nz_spec.proofs.script.argument_tells.Goals as goal
-
-pub returns : goal.returns
-returns c = record { tells = laws.argument_tells }

@@ -1,5 +1,0 @@
-use Rattle.nz_spec.proofs.Tellings.{reading_tells_first as law}
-use Rattle.nz_spec.proofs.text.reading_tells_first.Goals as goal
-
-pub returns : goal.returns
-returns c = record { first = law }

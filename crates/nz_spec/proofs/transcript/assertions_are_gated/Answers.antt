@@ -1,6 +1,0 @@
--- The law, as it is proved over plain data.
-use Rattle.nz_spec.proofs.SortedStates as laws
-use Rattle.nz_spec.proofs.transcript.assertions_are_gated.Goals as goal
-
-pub returns : goal.returns
-returns c = record { gated = laws.assertions_are_gated }

@@ -1,5 +1,0 @@
-use Rattle.nz_spec.proofs.Transcripts as laws
-use Rattle.nz_spec.proofs.transcript.transcript_grows.Goals as goal
-
-pub returns : goal.returns
-returns c = record { grows = laws.transcript_grows }

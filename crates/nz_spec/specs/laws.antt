@@ -1,0 +1,6 @@
+pub mod BlandRuns
+pub mod Deciding
+pub mod FormPlace
+pub mod InfinitesimalMoves
+pub mod Numerals
+pub mod ToldBounds

@@ -1,0 +1,2 @@
+pub mod Computation
+pub mod Infinitesimal

@@ -1,0 +1,5 @@
+pub mod Decide
+pub mod Legal
+pub mod Notes
+pub mod Places
+pub mod Work

@@ -1,0 +1,42 @@
+-- What stands in a work list beside its units, and the places at which an operation can leave the numbers.
+use Rattle.std.specs.Prelude.{ℕ, Bool, List, Option}
+use Rattle.nz_fractions.specs.Fraction.{Operation}
+use Rattle.nz_spec.specs.numbers.Infinitesimal.{Infinitesimal}
+use Rattle.nz_spec.specs.terms.Term.{Term}
+use Rattle.nz_spec.specs.terms.Form.{Part}
+use Rattle.nz_spec.specs.clauses.Literal.{Literal}
+use Rattle.nz_spec.specs.clauses.Farkas.{Multiple}
+use Rattle.nz_spec.specs.simplex.Bland.{Side}
+
+-- A line of a work list that is no unit. Atoms are named by their numbers.
+pub data Note : Type 0 where
+  -- the simplex begins with these forms: each nonbasic one stands at its place, a basic one has none
+  start_note : (forms : List (List Part)) (places : List (Option Infinitesimal)) → Note
+  -- the next atom is this literal
+  atom_note : Literal → Note
+  -- the sum that an atom bounds joins the forms of the simplex
+  form_note : (atom : ℕ) → Note
+  -- the simplex is told that an atom has this sign
+  told_note : (atom : ℕ) (sign : Bool) → Note
+
+-- A computation of a check. Forms are named by their numbers.
+pub data Site : Type 0 where
+  -- the form of a term, or a literal of its tables
+  term_site : Term → Site
+  -- the row of the form that joined last
+  joining_site : Site
+  -- the rows after an exchange of two forms
+  exchange_site : (leaves enters : ℕ) → Site
+  -- the value of a form
+  value_site : (form : ℕ) → Site
+  -- the sum of multiples of literals
+  sum_site : List Multiple → Site
+  -- how far δ may grow, for a form and its bound of a side
+  limit_site : (form : ℕ) (side : Side) → Site
+  -- the value of a form where a fraction stands for δ
+  model_site : (form : ℕ) → Site
+
+-- An operation that leaves the numbers, and where.
+pub record Place : Type 0 where
+  pub operation : Operation
+  pub site : Site

@@ -1,0 +1,15 @@
+pub mod Definitions
+pub mod Form
+pub mod FormOf
+pub mod Linear
+pub mod Model
+pub mod Normal
+pub mod Operations
+pub mod Operators
+pub mod Order
+pub mod OverConstants
+pub mod Same
+pub mod Table
+pub mod Taken
+pub mod Term
+pub mod WellSorted

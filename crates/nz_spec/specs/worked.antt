@@ -1,0 +1,5 @@
+pub mod TermSamples
+pub mod TruthTables
+pub mod WorkedArithmetic
+pub mod WorkedBasis
+pub mod WorkedSteps
