@@ -102,6 +102,7 @@ fn is_same_sign(sign: bool, other: bool) -> bool
 }
 
 /// Whether the numerators are the same, and the denominators.
+#[tactic(auto, using(crate::proofs::AtomKeys::same_number_is))]
 fn is_same_number(number: Frac, other: Frac) -> bool
     ensures same { result ≡ are_same_fraction number other }
 {
@@ -123,6 +124,7 @@ fn is_same_part(part: &Part, other: &Part) -> bool
 }
 
 /// Whether the units are the same, with the same coefficients, in the same order.
+#[tactic(auto, using(crate::proofs::AtomKeys::other_lengths))]
 fn are_same_units(parts: &[Part], others: &[Part]) -> bool
     ensures same { result ≡ are_same_units parts.now others.now }
 {
@@ -184,6 +186,7 @@ impl Atoms {
     }
 
     /// The number of an atom, which is put last where it isn't there.
+    #[tactic(auto, using(crate::proofs::AtomTables::put_atoms, crate::proofs::AtomTables::put_stays, crate::proofs::AtomTables::put_there))]
     pub(crate) fn put(&mut self, atom: Atom) -> Result<AtomId, Memory>
         requires normal { IsNormal atom }
         ensures there { IfOk result (λ id. slice_get self.new id ≡ Some atom) }
@@ -196,6 +199,7 @@ impl Atoms {
     }
 
     /// The number of the atom that a term is true, where it is there.
+    #[tactic(auto, using(crate::proofs::AtomTables::found_term))]
     pub(crate) fn find_term(&self, term: TermId) -> Option<AtomId>
         ensures found { IsFoundTerm self.now term result }
     {

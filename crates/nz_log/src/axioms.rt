@@ -12,6 +12,7 @@ use nz_base::Memory;
 
 impl Log {
     /// Puts the clause of these literals.
+    #[tactic(auto, using(crate::proofs::JoinedAtoms::puts_made, crate::proofs::JoinedAtoms::nothing_joins))]
     pub(crate) fn put_axiom(&mut self, literals: &[Lit], reason: Axiom) -> Result<ClauseId, Memory>
         ensures made { IfOk result (λ id. Puts self.old id (axiom_entry self.new (axiom_in reason) (once are_same_lit literals.now)) self.new) }
         ensures atoms { self.new.atoms ≡ self.old.atoms }

@@ -83,6 +83,7 @@ impl Log {
 }
 
 /// A sum of integers isn't at most an integer, the limit of this bound: it is at least the next one.
+#[tactic(auto, using(crate::proofs::IntegerBranches::above_done))]
 fn above(alloc: Global, bound: &Bound) -> Result<Bound, ArithmeticStop>
     ensures literal { (ns : List Node) → HasUnits ns bound.now → IsLiteral ns (above_literal ns bound.now) result }
     ensures normal { IfOk result (λ b. b.strict ≡ false) }

@@ -90,6 +90,7 @@ impl Log {
     /// # Errors
     ///
     /// `Memory`. Then the log is as before.
+    #[tactic(auto, using(crate::proofs::AtomLiterals::bound_within, crate::proofs::AtomLiterals::other_normal, crate::proofs::AtomLiterals::other_said))]
     pub fn bound_literal(&mut self, bound: Bound) -> Result<Lit, Memory>
         ensures literal { IfOk result (λ l. (ns : List Node) → literal_in ns self.new.atoms l ≡ literal_over ns bound) }
         ensures within { IfOk result (λ l. (ns : List Node) → HasUnits ns bound → IsLitIn ns self.new.atoms l) }

@@ -82,6 +82,7 @@ impl Resolvent {
     }
 
     /// Takes a literal out, if it is there.
+    #[tactic(auto, using(crate::proofs::LastMarked::last_without))]
     fn remove(&mut self, on: Lit)
         ensures removed { self.new ≡ without are_same_lit on self.old }
     {

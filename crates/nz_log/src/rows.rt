@@ -82,6 +82,7 @@ impl Log {
     }
 
     /// Puts the clause of a row, whose atoms join the others where they aren't there.
+    #[tactic(auto, using(crate::proofs::TableClauses::row_put))]
     fn put_row(&mut self, row: Vec<RowLiteral>, reason: Axiom) -> Result<ClauseId, Memory>
         ensures made { IfOk result (λ id. PutsRow self.old id (axiom_in reason) row.items self.new) }
         ensures atoms { AreAtoms self.new.atoms }

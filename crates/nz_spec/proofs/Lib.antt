@@ -1,4 +1,3 @@
-mod Uses
 pub mod BasisExchange
 pub mod BasisJoins
 pub mod BasisRows
@@ -15,9 +14,11 @@ pub mod BlandSteps
 pub mod BlandTells
 pub mod BlandValues
 pub mod BoundChanges
+pub mod BranchMarks
 pub mod ChosenFractions
 pub mod ClimbSteps
 pub mod Climbs
+mod ComparedGoals
 pub mod ConstantValues
 pub mod CutSums
 pub mod DecidedTerms
@@ -25,12 +26,14 @@ pub mod Decimals
 pub mod Derivations
 pub mod Divisions
 pub mod FarkasSums
+mod FlatLists
 pub mod FormNumbers
 pub mod FormPlaces
 pub mod FormSums
 pub mod FormTerms
 pub mod FormValues
 pub mod FormWorth
+pub mod Gaps
 pub mod GateDecisions
 pub mod GateTruths
 pub mod InfinitesimalLaws
@@ -38,16 +41,21 @@ pub mod InfinitesimalMoves
 pub mod InfinitesimalOrder
 pub mod Instances
 pub mod IntegerSums
+mod JoinedForms
+mod KnownStarts
 pub mod LegalWork
 pub mod LinearLiterals
 pub mod LinkTruths
 pub mod Literals
+mod MoreTerms
+mod Negations
 pub mod Normal
 pub mod NormalGates
 pub mod NormalHeads
 pub mod NormalSorts
 pub mod OperandSorts
 pub mod PivotRuns
+mod PlainWork
 pub mod PositionMovesKeep
 pub mod Same
 pub mod SameSorts
@@ -60,4 +68,8 @@ pub mod Tables
 pub mod TakenTerms
 pub mod ToldBounds
 pub mod UnitTruths
+mod Uses
 pub mod WorkedBases
+pub mod WorkedClimb
+pub mod WorkedPivot
+pub mod WorkedWork

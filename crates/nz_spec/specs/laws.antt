@@ -2,5 +2,6 @@ pub mod BlandRuns
 pub mod Deciding
 pub mod FormPlace
 pub mod InfinitesimalMoves
+pub mod LegalWork
 pub mod Numerals
 pub mod ToldBounds

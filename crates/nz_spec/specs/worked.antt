@@ -3,3 +3,4 @@ pub mod TruthTables
 pub mod WorkedArithmetic
 pub mod WorkedBasis
 pub mod WorkedSteps
+pub mod WorkedWork

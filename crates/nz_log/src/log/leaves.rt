@@ -69,6 +69,7 @@ impl Log {
     }
 
     /// Puts the clause of these literals, which rests on no other, at the greatest of a level and those told of the terms that it names.
+    #[tactic(auto, using(crate::proofs::PremiseOrder::leaf_rests))]
     pub(crate) fn put_leaf(
         &mut self,
         literals: &[Lit],

@@ -5,7 +5,7 @@ use Rattle.nz_script.specs.text.Tree.{Tree}
 use Rattle.nz_spec.specs.terms.Term.{Term, Assignment}
 use Rattle.nz_spec.specs.terms.Normal.{normal_of}
 use Rattle.nz_spec.specs.clauses.Literal.{Literal, term_literal, is_at_most, is_below}
-use Rattle.nz_spec.specs.terms.Form.{Part}
+use Rattle.nz_spec.specs.terms.Form.{Numbering, TellsApart, Part}
 use Rattle.nz_script.specs.text.Text.{What, intact, faulty, unclosed, unread}
 use Rattle.nz_spec.specs.outside.Error.{nothing_to_show, incomplete, out_of_memory}
 use Rattle.nz_spec.specs.terms.Model.{assignment_of, AreModel, IsUnsatisfiable}
@@ -13,7 +13,8 @@ use Rattle.nz_script.specs.live.Live.{units_spent, number_left, declared, define
 use Rattle.nz_script.specs.commands.Command.{Asked, Command, declare_const, define, assert_term, push_levels, pop_levels, reset, reset_assertions, check_sat, get_model, get_value, get_info, get_levels, get_reason, set_print_success, echo, exit, Outcome, accepted, refused, not_taken}
 use Rattle.nz_script.specs.commands.Script.{outcome_of}
 use Rattle.nz_script.specs.live.TermList.{terms_added}
-use Rattle.nz_spec.specs.search.Legal.{Task, IsSpentLegally}
+use Rattle.nz_spec.specs.search.Search.{Task}
+use Rattle.nz_spec.specs.search.Legal.{IsSpentLegally}
 use Rattle.nz_spec.specs.search.Places.{IsStoppedLegally}
 use Rattle.nz_script.specs.replies.Reply.{Shown, term_shown, Reply, quiet, success, sat, unsat, unknown, model, values, info, levels, reason, echoed, unsupported, error, Cause, plain, spent, stopped}
 
@@ -38,9 +39,26 @@ normals_in (is_below ps b) = map (λ (p : Part). normal_of p.unit) ps
 abbrev pub listed_under : State → List Literal → List Term
 listed_under s assumed = terms_added s (flat_map normals_in assumed)
 
--- what a check under these assumed literals asks a search
-abbrev pub task_of : Context → List Literal → Task
-task_of c assumed = record { asserted = assertions_of c.state; assumed = assumed; listed = listed_under c.state assumed; earlier = c.earlier }
+-- the literal, on normal terms
+abbrev pub normal_part : Part → Part
+normal_part p = record p { unit = normal_of p.unit }
+
+abbrev pub normal_literal : Literal → Literal
+normal_literal (term_literal t sign) = term_literal (normal_of t) sign
+normal_literal (is_at_most ps b) = is_at_most (map normal_part ps) b
+normal_literal (is_below ps b) = is_below (map normal_part ps) b
+
+-- what a check under these assumed literals asks a search: whether the normal terms can be true, where units of sums stand in the order of these numbers
+abbrev pub task_of : Numbering → Context → List Literal → Task
+task_of number c assumed = record {
+  asserted = map normal_of (assertions_of c.state);
+  assumed = map normal_literal assumed;
+  goals = [];
+  listed = listed_under c.state assumed;
+  numbering = number;
+  earlier = c.earlier;
+  earlier_goals = [];
+}
 
 -- An answer to a check under these assumed literals.
 abbrev pub IsRightCheck : Context → List Literal → Reply → Cause → Type 0
@@ -49,10 +67,10 @@ IsRightCheck c assumed unsat cause = IsUnsatisfiable (assertions_of c.state) ass
 -- Each unit of the limit was used, step by step as a search may.
 IsRightCheck c assumed (unknown r) plain = ⊥
 IsRightCheck c assumed (unknown r) (spent list) =
-    (r ≡ units_spent c.limit) × (list.limit ≡ c.limit) × IsSpentLegally (task_of c assumed) list
+    (r ≡ units_spent c.limit) × (list.limit ≡ c.limit) × (number : Numbering) × TellsApart number (listed_under c.state assumed) × IsSpentLegally (task_of number c assumed) list
 -- An operation left the numbers, at its place.
 IsRightCheck c assumed (unknown r) (stopped place list) =
-    (r ≡ number_left place.operation) × (list.limit ≡ c.limit) × IsStoppedLegally (task_of c assumed) list place
+    (r ≡ number_left place.operation) × (list.limit ≡ c.limit) × (number : Numbering) × TellsApart number (listed_under c.state assumed) × IsStoppedLegally (task_of number c assumed) list place
 IsRightCheck c assumed reply cause = ⊥
 
 -- what the last answer shows, where it has something to show
