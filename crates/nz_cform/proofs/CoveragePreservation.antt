@@ -1,19 +1,15 @@
 -- How covered terms stay so: when the table grows, when a clause is put, and when levels are dropped.
-use Rattle.std.proofs.Common.{◌≡◌, ℕ, ◌<◌, ◌≤◌, inl, inr, Bool, List, [], ◌∷◌, ◌++◌, length, get_or, Option, Some, None, refl, sym, ap, subst, ◌∙◌, arith}
+use Rattle.std.proofs.Common.{◌≡◌, ℕ, ◌<◌, ◌≤◌, inl, inr, Bool, List, [], ◌∷◌, ◌++◌, length, get_or, Option, Some, None, refl, sym, ap, subst, ◌∙◌, arith, length-append}
 use Rattle.std.specs.Prelude.{All, IsSome, slice_get, unwrap_or, slice_index_or, if◌then◌else◌}
 use Rattle.std.specs.List.{AllByRecursion}
-use Rattle.std.proofs.lemmas.List.{length-append}
 use Rattle.std.proofs.lemmas.List.Elements.{All-weaker, recursion_from_All}
 use Rattle.std.proofs.lemmas.Option.{slice_get-get_or}
 use Rattle.nz_spec.specs.terms.Term.{Head, falsum, equality, is_bool, sort_of}
 use Rattle.nz_spec.specs.terms.Table.{Node, IsTable, TermStays, term_in}
 use Rattle.nz_spec.specs.terms.FormOf.{number_in}
 use Rattle.nz_spec.specs.clauses.Gates.{clauses_over}
-use Rattle.nz_spec.specs.clauses.Links.{link_clauses}
-use Rattle.nz_spec.specs.clauses.Units.{unit_clauses}
 use Rattle.nz_lists.proofs.Elements.{AllByRecursion-weaker}
-use Rattle.nz_lists.proofs.Places.{slice_get_kept}
-use Rattle.nz_lists.proofs.Places.{slice_get-same}
+use Rattle.nz_lists.proofs.Places.{slice_get-same, slice_get_kept}
 use Rattle.nz_log.specs.declared.atoms.Atom.{Atom}
 use Rattle.nz_term.specs.declared.term_lits.TermLit.{TermLit}
 use Rattle.nz_log.specs.Atoms.{HasTerm, AtomsOfTerms, Stay, lits_of}
@@ -21,20 +17,19 @@ use Rattle.nz_spec.specs.clauses.Literal.{once}
 use Rattle.nz_log.specs.Lits.{are_same_lit}
 use Rattle.nz_rows.specs.GateRows.{is_boolean_at, gates_at}
 use Rattle.nz_term.specs.TermLits.{yes, no}
-use Rattle.nz_log.specs.Axioms.{link_of, unit_of}
 use Rattle.nz_log.specs.Logs.{Origin, axiom_of, row_term, Entry, LogState, empty_log, entry_at, IsLive, level_at, kept_below, told_below, JoinsAtoms, Puts, Drops}
 use Rattle.nz_log.specs.Growth.{Grows}
+use Rattle.nz_cform.specs.declared.rows.RowTable.{RowTable}
 use Rattle.nz_cform.specs.Listings.{IsListedWithin, listed_at}
 use Rattle.nz_cform.specs.Forms.{FormState, covered_at, empty_form, IsCoveredWithin, Cuts}
-use Rattle.nz_cform.specs.Covering.{AreNamed, Covers, HasRows, IsRowAt, gate_clause, gate_terms, kids_at, origin_at}
+use Rattle.nz_cform.specs.Covering.{AreNamed, Covers, HasRows, IsRowAt, gate_clause, gate_terms, kids_at, origin_at, table_axiom, table_clauses}
 use Rattle.nz_cform.specs.Laws.{CoversStay}
 use Rattle.nz_cform.proofs.Added.{put_kept}
-use Rattle.nz_cform.proofs.AtomsStay.{gate_stays}
 use Rattle.nz_cform.proofs.CoveredTerms.{same_entry}
-use Rattle.nz_cform.proofs.Kept.{bound_kept, bound_was, clause_kept, level_kept, made_live, on_atoms_kept, origin_kept, row_live, row_was, some_entry}
+use Rattle.nz_cform.proofs.Kept.{bound_kept, bound_was, clause_kept, gate_stays, level_kept, made_live, on_atoms_kept, origin_kept, row_live, row_was, some_entry}
 use Rattle.nz_cform.proofs.Levels.{covered_within, kept_low, kept_parts, level_of, told_low, told_parts}
 use Rattle.nz_cform.proofs.Listed.{has_some}
-use Rattle.nz_cform.proofs.RowNames.{links_long, units_long}
+use Rattle.nz_cform.proofs.RowNames.{rows_long}
 use Rattle.nz_cform.proofs.RowsPut.{put_cases}
 
 -- ---- The table grows
@@ -80,11 +75,8 @@ module _ (stays : TermStays) (ns more : List Node) (table : IsTable ns) (t : ℕ
   same_clause atoms j n = ap (λ c. record (gate_clause ns atoms t j n) { literals = once are_same_lit (lits_of atoms c) }) (same_terms j)
 
   -- it has as many rows of the other tables
-  pub same_links : length (link_clauses (number_in (ns ++ more)) (term_in (ns ++ more) t)) ≡ length (link_clauses (number_in ns) (term_in ns t))
-  same_links = ap (λ u. length (link_clauses (number_in (ns ++ more)) u)) (stays ns more t inside) ∙ links_long (number_in (ns ++ more)) (number_in ns) (term_in ns t)
-
-  pub same_units : length (unit_clauses (number_in (ns ++ more)) (term_in (ns ++ more) t)) ≡ length (unit_clauses (number_in ns) (term_in ns t))
-  same_units = ap (λ u. length (unit_clauses (number_in (ns ++ more)) u)) (stays ns more t inside) ∙ units_long (number_in (ns ++ more)) (number_in ns) (term_in ns t)
+  pub same_rows : (of : RowTable) → length (table_clauses of (number_in (ns ++ more)) (term_in (ns ++ more) t)) ≡ length (table_clauses of (number_in ns) (term_in ns t))
+  same_rows of = ap (λ u. length (table_clauses of (number_in (ns ++ more)) u)) (stays ns more t inside) ∙ rows_long (number_in (ns ++ more)) (number_in ns) of (term_in ns t)
 
 -- what is covered stays so in the longer table
 covers_wider : (stays : TermStays) (ns more : List Node) (log : LogState) (s : FormState) → IsTable ns → Covers ns log s → Covers (ns ++ more) log s
@@ -100,8 +92,7 @@ covers_wider stays ns more log s table covers =
               has.1 ∙ ap Some (sym (same_clause stays ns more table t in_table log.atoms j n)),
               subst (All (λ (l : TermLit). HasTerm log.atoms l.term)) (sym (same_terms stays ns more table t in_table j)) has.2,
             );
-        links = λ t n j at inside. rows.links t n j at (subst (λ m. j < m) (same_links stays ns more table t (covers.within t n at)) inside);
-        units = λ t n j at inside. rows.units t n j at (subst (λ m. j < m) (same_units stays ns more table t (covers.within t n at)) inside);
+        rows = λ of t n j at inside. rows.rows of t n j at (subst (λ m. j < m) (same_rows stays ns more table t (covers.within t n at) of) inside);
         of_covered = rows.of_covered;
         once = rows.once;
         told = rows.told;
@@ -136,10 +127,9 @@ module _ (own : AtomsOfTerms) (ns : List Node) (old new : LogState) (s : FormSta
           gates = λ t n j at inside.
               let gate = was.gates t n j at inside in
               gate_stays own old new stay ns t j n gate (kept gate.0 (subst (λ o. IsSome o) (sym gate.1) refl));
-          links = λ t n j at inside.
-              let h = was.links t n j at inside in clause_kept old new (axiom_of (link_of t j)) n h (kept h.id (made_live old h.id (axiom_of (link_of t j)) h.origin));
-          units = λ t n j at inside.
-              let h = was.units t n j at inside in clause_kept old new (axiom_of (unit_of t j)) n h (kept h.id (made_live old h.id (axiom_of (unit_of t j)) h.origin));
+          rows = λ table t n j at inside.
+              let h = was.rows table t n j at inside in
+              clause_kept old new (axiom_of (table_axiom table t j)) n h (kept h.id (made_live old h.id (axiom_of (table_axiom table t j)) h.origin));
           of_covered = λ i t row. was.of_covered i t (old_row i t row) ∙ ap Some (sym (level_kept old new i (kept_row i t row)));
           once = λ i l o some at also. was.once i l o some (old_origin i o some at) (old_origin l o some also);
           told = λ t. ap (λ ls. slice_index_or ls t None) told ∙ was.told t;
@@ -238,16 +228,11 @@ module _ (ns : List Node) (old new : LogState) (s cut : FormState) (level : ℕ)
               let kept = drops.entries has.0 ∙ ap (kept_below level) has.1 ∙ kept_low level (gate_clause ns old.atoms t j n) before.1 in
               subst (λ (atoms : List Atom). (i : ℕ) × (entry_at new i ≡ Some (gate_clause ns atoms t j n)) × AreNamed ns atoms t j) (sym drops.atoms)
               (has.0, kept, has.2);
-          links = λ t n j at inside.
+          rows = λ table t n j at inside.
               let before = was_covered t n at in
-              let h = rows.links t n j before.0 inside in
-              clause_kept old new (axiom_of (link_of t j)) n h
-              (is_left h.id (made_live old h.id (axiom_of (link_of t j)) h.origin) (subst (λ m. m ≤ level) (sym h.at) before.1));
-          units = λ t n j at inside.
-              let before = was_covered t n at in
-              let h = rows.units t n j before.0 inside in
-              clause_kept old new (axiom_of (unit_of t j)) n h
-              (is_left h.id (made_live old h.id (axiom_of (unit_of t j)) h.origin) (subst (λ m. m ≤ level) (sym h.at) before.1));
+              let h = rows.rows table t n j before.0 inside in
+              clause_kept old new (axiom_of (table_axiom table t j)) n h
+              (is_left h.id (made_live old h.id (axiom_of (table_axiom table t j)) h.origin) (subst (λ m. m ≤ level) (sym h.at) before.1));
           of_covered = λ i t row.
               let before = left_row i t row in
               still_covered t (level_at old i) (rows.of_covered i t (row_before i t row)) before.1 ∙ ap Some (sym (level_kept old new i before.0));
@@ -288,8 +273,7 @@ covers_start ns =
       within = λ t n at. cc;
       rows = record {
         gates = λ t n j at inside. absurd (none_there t n at);
-        links = λ t n j at inside. absurd (none_there t n at);
-        units = λ t n j at inside. absurd (none_there t n at);
+        rows = λ table t n j at inside. absurd (none_there t n at);
         of_covered = λ i t row. absurd (no_row i t row);
         once = λ i l o some at also. cc;
         told = λ t. refl;

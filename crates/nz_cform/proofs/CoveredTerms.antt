@@ -1,6 +1,5 @@
 -- One term more is covered: its level is told, it is listed, its clauses are put, and their bounds are listed.
-use Rattle.std.proofs.Common.{◌≡◌, ◌≢◌, ℕ, ◌<◌, ◌≤◌, inl, inr, List, Option, Some, None, length, refl, sym, ap, subst, ◌∙◌, arith}
-use Rattle.std.specs.Prelude.{All, Contains, IsSome, slice_get, unwrap_or}
+use Rattle.std.proofs.Common.{◌≡◌, ◌≢◌, ℕ, ◌<◌, ◌≤◌, inl, inr, List, Option, Some, None, length, refl, sym, ap, subst, ◌∙◌, arith, All, Contains, IsSome, slice_get, unwrap_or}
 use Rattle.std.proofs.lemmas.List.Elements.{All-contains}
 use Rattle.nz_lists.proofs.Numbers.{same_or_other}
 use Rattle.nz_lists.proofs.Places.{slice_get-same}
@@ -9,12 +8,13 @@ use Rattle.nz_spec.specs.clauses.Links.{link_clauses}
 use Rattle.nz_spec.specs.terms.Table.{Node, term_in}
 use Rattle.nz_spec.specs.clauses.Units.{unit_clauses}
 use Rattle.nz_log.specs.declared.atoms.Atom.{Atom}
-use Rattle.nz_log.specs.Axioms.{link_of, unit_of}
 use Rattle.nz_log.specs.Logs.{axiom_of, LogState, entry_at, level_at, told_of, told_level, lowest}
 use Rattle.nz_rows.specs.GateRows.{gates_at}
+use Rattle.nz_cform.specs.declared.rows.RowTable.{RowTable}
+use Rattle.nz_cform.specs.declared.rows.RowTable.TheVariants.{Links, Units}
 use Rattle.nz_cform.specs.Listings.{Grows, IsListedWithin, Takes, listed_at}
 use Rattle.nz_cform.specs.Forms.{FormState, covered_at}
-use Rattle.nz_cform.specs.Covering.{AreAdded, AreBoundsListed, AreBoundsOf, AreNamed, HasBound, HasBounds, HasRows, HasRowsBelow, IsRowAt, Keeps, gate_clause}
+use Rattle.nz_cform.specs.Covering.{AreAdded, AreBoundsListed, AreBoundsOf, AreNamed, HasBound, HasBounds, HasRows, HasRowsBelow, IsRowAt, Keeps, gate_clause, table_axiom, table_clauses, table_count}
 use Rattle.nz_cform.proofs.Added.{keeps_twice}
 use Rattle.nz_cform.proofs.Kept.{bound_kept, bound_was, clause_kept, level_kept, on_atoms_kept, origin_kept, row_live, row_was}
 use Rattle.nz_cform.proofs.Levels.{covered_within, level_of}
@@ -64,6 +64,10 @@ module _ (ns : List Node) (old new : LogState) (s r : FormState) (t level : ℕ)
   was_covered : (i u : ℕ) → IsRowAt new i u → covered_at s u ≡ Some (level_at old i)
   was_covered i u row = has.of_covered i u (row_was old new i (kept_at i) u row)
 
+  none_below : (table : RowTable) (j : ℕ) → j < table_count table 0 0 → ⊥
+  none_below Links j h = let none : j < 0 = h in omega arith
+  none_below Units j h = let none : j < 0 = h in omega arith
+
   -- together: of the term itself no clause is there
   pub told_and_listed : HasRowsBelow ns new r t 0 0 0
   told_and_listed =
@@ -75,15 +79,10 @@ module _ (ns : List Node) (old new : LogState) (s r : FormState) (t level : ℕ)
               subst (λ (xs : List Atom). (i : ℕ) × (entry_at new i ≡ Some (gate_clause ns xs u j n)) × AreNamed ns xs u j) (sym atoms)
               (was.0, kept_at was.0 ∙ was.1, was.2)
         ];
-        links = λ u n j at inside below. elim (same_or_other u t) [
-          | inl same ↦ let none : j < 0 = below same in absurd (omega arith)
+        rows = λ table u n j at inside below. elim (same_or_other u t) [
+          | inl same ↦ absurd (none_below table j (below same))
           | inr other ↦
-              let was = has.links u n j (sym (takes.others u other) ∙ at) inside in clause_kept old new (axiom_of (link_of u j)) n was (kept_at was.id)
-        ];
-        units = λ u n j at inside below. elim (same_or_other u t) [
-          | inl same ↦ let none : j < 0 = below same in absurd (omega arith)
-          | inr other ↦
-              let was = has.units u n j (sym (takes.others u other) ∙ at) inside in clause_kept old new (axiom_of (unit_of u j)) n was (kept_at was.id)
+              let was = has.rows table u n j (sym (takes.others u other) ∙ at) inside in clause_kept old new (axiom_of (table_axiom table u j)) n was (kept_at was.id)
         ];
         of_covered = λ i u row.
             let was = was_covered i u row in
@@ -103,13 +102,19 @@ module _ (ns : List Node) (old new : LogState) (s r : FormState) (t level : ℕ)
 
 -- ---- All of its clauses are there
 
+-- as many of a table as it has for the term
+all_of : (ns : List Node) (t : ℕ) (table : RowTable) → length (table_clauses table (number_in ns) (term_in ns t))
+    ≡ table_count table (length (link_clauses (number_in ns) (term_in ns t))) (length (unit_clauses (number_in ns) (term_in ns t)))
+all_of ns t Links = refl
+all_of ns t Units = refl
+
 pub all_rows : (ns : List Node) (log : LogState) (s : FormState) (t : ℕ)
     → HasRowsBelow ns log s t (length (gates_at ns t)) (length (link_clauses (number_in ns) (term_in ns t))) (length (unit_clauses (number_in ns) (term_in ns t))) → HasRows ns log s
 all_rows ns log s t has =
     record {
       gates = λ u n j at inside. has.gates u n j at inside (λ same. subst (λ v. j < length (gates_at ns v)) same inside);
-      links = λ u n j at inside. has.links u n j at inside (λ same. subst (λ v. j < length (link_clauses (number_in ns) (term_in ns v))) same inside);
-      units = λ u n j at inside. has.units u n j at inside (λ same. subst (λ v. j < length (unit_clauses (number_in ns) (term_in ns v))) same inside);
+      rows = λ table u n j at inside.
+          has.rows table u n j at inside (λ same. subst (λ m. j < m) (ap (λ v. length (table_clauses table (number_in ns) (term_in ns v))) same ∙ all_of ns t table) inside);
       of_covered = has.of_covered;
       once = has.once;
       told = has.told;

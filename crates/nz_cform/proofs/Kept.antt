@@ -1,13 +1,17 @@
 -- What is said of a clause by its number stays while the clause does.
-use Rattle.std.proofs.Common.{◌≡◌, ℕ, ◌<◌, List, [], length, get_or, Option, Some, None, refl, sym, ap, subst, ◌∙◌}
-use Rattle.std.specs.Prelude.{Contains, IsSome, option_map}
+use Rattle.std.proofs.Common.{◌≡◌, ℕ, ◌<◌, List, [], length, get_or, Option, Some, None, refl, sym, ap, subst, ◌∙◌, Contains, IsSome, option_map, ◌∷◌, All}
 use Rattle.std.proofs.lemmas.Option.{slice_get-get_or, slice_get_within}
 use Rattle.nz_log.specs.declared.atoms.Atom.{Atom}
 use Rattle.nz_log.specs.declared.atoms.Atom.TheVariants.{Term, AtMost}
 use Rattle.nz_log.specs.declared.lits.Lit.{Lit}
-use Rattle.nz_log.specs.Atoms.{Stay}
+use Rattle.nz_log.specs.Atoms.{Stay, HasTerm, AtomsOfTerms, lit_of, lits_of}
 use Rattle.nz_log.specs.Logs.{Origin, Entry, LogState, entry_at, IsLive, literals_at, level_at}
-use Rattle.nz_cform.specs.Covering.{HasBound, HasClause, IsOnAtoms, IsRowAt, origin_at}
+use Rattle.nz_cform.specs.Covering.{HasBound, HasClause, IsOnAtoms, IsRowAt, origin_at, AreNamed, HasGate, gate_clause, gate_terms}
+use Rattle.std.proofs.lemmas.List.Elements.{All-head, All-tail, All-weaker}
+use Rattle.nz_spec.specs.clauses.Literal.{once}
+use Rattle.nz_spec.specs.terms.Table.{Node}
+use Rattle.nz_term.specs.declared.term_lits.TermLit.{TermLit}
+use Rattle.nz_log.specs.Lits.{are_same_lit}
 
 -- a clause that was made is there
 pub some_entry : (o : Option Entry) (g : Origin) → option_map (λ (e : Entry). e.origin) o ≡ Some g → (e : Entry) × (o ≡ Some e) × (e.origin ≡ g)
@@ -77,3 +81,26 @@ module _ (old new : LogState) (i : ℕ) (kept : entry_at new i ≡ entry_at old 
 pub clause_kept : (old new : LogState) (o : Origin) (n : ℕ) → (h : HasClause old o n) → entry_at new h.id ≡ entry_at old h.id → HasClause new o n
 clause_kept old new o n h kept =
     record { id = h.id; origin = origin_kept old new h.id kept ∙ h.origin; at = level_kept old new h.id kept ∙ h.at }
+
+-- ---- Atoms of terms in a log that grows: each keeps its number, and so do the literals of a gate
+
+module _ (own : AtomsOfTerms) (old new : List Atom) (stay : Stay old new) where
+  pub names_stay : (c : List TermLit) → All (λ (l : TermLit). HasTerm old l.term) c → All (λ (l : TermLit). HasTerm new l.term) c
+  names_stay c has = All-weaker (λ (l : TermLit). HasTerm old l.term) (λ (l : TermLit). HasTerm new l.term) (λ l h. (own.keep old new stay l.term h).0) c has
+
+  pub lits_stay : (c : List TermLit) → All (λ (l : TermLit). HasTerm old l.term) c → lits_of new c ≡ lits_of old c
+  lits_stay [] has = refl
+  lits_stay (l ∷ c) has =
+      let P : TermLit → Type 0 = λ m. HasTerm old m.term in
+      let first : lit_of new l ≡ lit_of old l = ap (λ n. record { atom = n; sign = l.sign }) (own.keep old new stay l.term (All-head P l c has)).1 in
+      let rest = lits_stay c (All-tail P l c has) in
+      λ i. first i ∷ rest i
+
+  pub clause_stays : (ns : List Node) (t j n : ℕ) → AreNamed ns old t j → gate_clause ns new t j n ≡ gate_clause ns old t j n
+  clause_stays ns t j n named = ap (λ (c : List Lit). record (gate_clause ns old t j n) { literals = once are_same_lit c }) (lits_stay (gate_terms ns t j) named)
+
+-- a gate whose clause is kept
+pub gate_stays : AtomsOfTerms → (old new : LogState) → Stay old.atoms new.atoms → (ns : List Node) (t j n : ℕ) → (has : HasGate ns old t j n) → entry_at new has.0 ≡ entry_at old has.0
+    → HasGate ns new t j n
+gate_stays own old new stay ns t j n has kept =
+    (has.0, kept ∙ has.1 ∙ ap Some (sym (clause_stays own old.atoms new.atoms stay ns t j n has.2)), names_stay own old.atoms new.atoms stay (gate_terms ns t j) has.2)

@@ -1,7 +1,5 @@
 -- What is kept at or below a level, and the level at which a term is covered.
-use Rattle.std.proofs.Common.{◌≡◌, ℕ, ◌≤◌, Option, Some, None, refl, ap, subst, arith}
-use Rattle.std.specs.Prelude.{IsSomeAnd, nat_le, if◌then◌else◌}
-use Rattle.std.proofs.lemmas.Bool.{le-leb, leb-true}
+use Rattle.std.proofs.Common.{◌≡◌, ℕ, ◌≤◌, Option, Some, None, refl, ap, subst, arith, IsSomeAnd, nat_le, if◌then◌else◌, le-leb, leb-true}
 use Rattle.nz_lists.proofs.Options.{kept_if}
 use Rattle.nz_log.specs.Logs.{Entry, kept_below, told_below}
 

@@ -1,9 +1,6 @@
 mod Added
-mod AtomsStay
 mod CoveragePreservation
 mod CoveredTerms
-mod Elements
-mod GateLevels
 mod Kept
 pub mod Levels
 mod Listed
@@ -12,10 +9,8 @@ mod Parts
 mod PartsCovered
 mod RowClauses
 mod RowNames
-mod RowsMet
 mod RowsPut
 mod Sizes
 mod TableClauses
 mod TableRows
 mod Underway
-mod WideRows

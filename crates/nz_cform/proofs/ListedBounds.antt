@@ -1,6 +1,5 @@
 -- The bounds of clauses are listed, one literal and one clause after another.
-use Rattle.std.proofs.Common.{◌≡◌, ℕ, ◌+◌, ◌<◌, inl, inr, List, [], ◌∷◌, length, take, get_or, Some, None, refl, sym, ap, subst, arith}
-use Rattle.std.specs.Prelude.{All, Contains, IsSome, slice_get}
+use Rattle.std.proofs.Common.{◌≡◌, ℕ, ◌+◌, ◌<◌, inl, inr, List, [], ◌∷◌, length, take, get_or, Some, None, refl, sym, ap, subst, arith, All, Contains, IsSome, slice_get}
 use Rattle.std.proofs.lemmas.List.Elements.{All-contains, All-more, All-weaker, Contains-get_or, Contains-push_cases}
 use Rattle.nz_lists.proofs.Members.{has_first}
 use Rattle.nz_lin.specs.declared.bound.Bound.{Bound}

@@ -1,14 +1,13 @@
 -- What a covered term is made of is covered, and the clauses of the tables name just that.
-use Rattle.std.proofs.Common.{◌≡◌, ℕ, zero, suc, ◌<◌, ◌≤◌, inl, inr, List, [], ◌∷◌, length, get_or, Some, None, sym, ap, subst, ◌∙◌, arith}
-use Rattle.std.specs.Prelude.{All, Contains, slice_get}
+use Rattle.std.proofs.Common.{◌≡◌, ℕ, zero, suc, ◌<◌, ◌≤◌, inl, inr, List, [], ◌∷◌, length, get_or, Some, None, sym, ap, subst, ◌∙◌, arith, All, Contains, slice_get, Bool, Option, refl, IsSome, option_map, map}
 use Rattle.std.specs.List.{AllByRecursion}
 use Rattle.std.proofs.lemmas.List.Elements.{Contains-append_cases, Contains-push_cases, recursion_from_All}
-use Rattle.std.proofs.lemmas.Option.{slice_get-get_or}
+use Rattle.std.proofs.lemmas.Option.{slice_get-get_or, same_Some, slice_get_within}
 use Rattle.nz_lists.proofs.Elements.{AllByRecursion-weaker}
 use Rattle.nz_lists.proofs.Members.{by_each, each_of, has_cases, map_has}
 use Rattle.nz_spec.specs.terms.FormOf.{number_in, UnitsAreParts}
 use Rattle.nz_spec.specs.clauses.Gates.{gate_clauses}
-use Rattle.nz_spec.specs.clauses.Literal.{are_same_literal}
+use Rattle.nz_spec.specs.clauses.Literal.{are_same_literal, Clause, clause_of}
 use Rattle.nz_spec.specs.terms.Order.{post_order, post_orders}
 use Rattle.nz_spec.specs.terms.Table.{Node, IsTable, HasOneNumberEach, OneNumber, TermOfNode, term_in, terms_at}
 use Rattle.nz_spec.specs.terms.Taken.{IsTaken}
@@ -17,20 +16,39 @@ use Rattle.nz_log.specs.declared.lits.Lit.{Lit}
 use Rattle.nz_term.specs.declared.term_lits.TermLit.{TermLit}
 use Rattle.nz_log.specs.Atoms.{IsLitIn, clause_in, literal_in, terms_of}
 use Rattle.nz_log.specs.Leveled.{Names}
-use Rattle.nz_log.specs.Logs.{LogState, entry_at, level_at, literals_at, row_term}
-use Rattle.nz_log.specs.Sound.{AxiomsAreTaken, GatesAreNamed, GatesNameArguments, IsLog}
+use Rattle.nz_log.specs.Logs.{LogState, entry_at, level_at, literals_at, row_term, gate_of, axiom_of, Entry}
+use Rattle.nz_log.specs.Sound.{AxiomsAreTaken, GatesAreNamed, GatesNameArguments, IsLog, IsMade}
 use Rattle.nz_rows.specs.GateRows.{gates_at}
 use Rattle.nz_term.specs.TermLits.{clause_of_terms, literal_of}
-use Rattle.nz_cform.specs.Covering.{Covers, IsRowAt, kids_at}
+use Rattle.nz_cform.specs.Covering.{Covers, IsRowAt, kids_at, HasClause, table_axiom, table_clauses}
 use Rattle.nz_cform.specs.Forms.{FormState, covered_at, IsCoveredWithin}
-use Rattle.nz_cform.specs.Laws.{RowsNameCovered}
-use Rattle.nz_lists.proofs.Once.{each_once}
-use Rattle.nz_cform.proofs.Elements.{each_mapped}
+use Rattle.nz_cform.specs.Laws.{RowsNameCovered, MeetsClauses, MeetsRows, RowsMeetTables}
+use Rattle.nz_lists.proofs.Once.{each_once, once_from}
 use Rattle.nz_cform.proofs.Kept.{some_entry}
 use Rattle.nz_cform.proofs.Levels.{covered_within, level_of}
 use Rattle.nz_cform.proofs.Parts.{arguments_are_parts, itself}
-use Rattle.nz_cform.proofs.RowClauses.{each_number, own_within, row_says}
-use Rattle.nz_cform.proofs.RowNames.{AreNamed, Named, each_link_within, each_unit_within}
+use Rattle.nz_cform.proofs.RowClauses.{each_number, own_within, row_says, at_place, row_of}
+use Rattle.nz_cform.proofs.RowNames.{AreNamed, Named, each_row_within}
+use Rattle.std.proofs.lemmas.List.{length-map}
+use Rattle.nz_spec.specs.simplex.Basis.{Valuation}
+use Rattle.nz_spec.specs.numbers.Computation.{Computation, at_once, turned_into}
+use Rattle.nz_spec.specs.laws.Deciding.{HasMetLiteral}
+use Rattle.nz_spec.specs.clauses.Links.{link_clauses}
+use Rattle.nz_spec.specs.clauses.Steps.{clause_at}
+use Rattle.nz_spec.specs.clauses.Units.{unit_clauses}
+use Rattle.nz_log.specs.Axioms.{Axiom, IsAxiom}
+use Rattle.nz_cform.specs.declared.rows.RowTable.{RowTable}
+use Rattle.nz_cform.specs.declared.rows.RowTable.TheVariants.{Links, Units}
+use Rattle.nz_cform.proofs.Listed.{has_some}
+
+-- ---- Elements of mapped lists
+
+module _ {X Y : Type 0} (f : X → Y) where
+  pub each_mapped : (P : Y → Type 0) (xs : List X) → AllByRecursion (λ x. P (f x)) xs → AllByRecursion P (map f xs)
+  each_mapped P [] h = tt
+  each_mapped P (x ∷ xs) h = (h.0, each_mapped P xs h.1)
+
+-- ---- What a covered term is made of is covered, and the clauses of the tables name just that
 
 module _ (node : TermOfNode) (ns : List Node) (table : IsTable ns) where
   -- ---- The node of a term
@@ -128,8 +146,7 @@ module _ (node : TermOfNode) (ns : List Node) (table : IsTable ns) where
           let inside = covers.within t (level_at log i) at_level in
           let e = some_entry (entry_at log i) row.0 row.1 in
           let entry = order.clauses i e.0 e.1 in
-          let says = row_says axioms ns table levels log t (AreNamed P) (gates_within t inside named arguments) (each_link_within (number_in ns) parts (term_in ns t) taken)
-          (each_unit_within (number_in ns) parts (term_in ns t) taken) i e.0 e.0.origin (ap row_term e.2 ∙ row.2) entry.made in
+          let says = row_says axioms ns table levels log t (AreNamed P) (gates_within t inside named arguments) (λ of. each_row_within (number_in ns) parts of (term_in ns t) taken) i e.0 e.0.origin (ap row_term e.2 ∙ row.2) entry.made in
           let all : AllByRecursion (Named P) (clause_in ns log.atoms e.0.literals) =
           subst (AllByRecursion (Named P)) (sym says.1) (each_once are_same_literal (Named P) says.0 says.2) in
           let own = subst (λ (c : List Lit). Contains c l) (ap (λ o. elim o [ None ↦ [] | Some f ↦ f.literals ]) e.1) has in
@@ -150,3 +167,78 @@ module _ (node : TermOfNode) (ns : List Node) (table : IsTable ns) where
 pub rows_name_covered : UnitsAreParts → TermOfNode → OneNumber → GatesAreNamed → GatesNameArguments → AxiomsAreTaken → RowsNameCovered
 rows_name_covered parts node one named arguments axioms ns levels log s table order covers i t row taken l has =
     row_names node ns table log s covers parts (one ns table) named arguments axioms levels order i t row taken l has
+
+-- ---- Truths and worths that meet the clauses of a log meet the tables
+
+-- what holds at each place holds of each
+each_place : {X : Type 0} (P : X → Type 0) (xs : List X) → ((j : ℕ) (x : X) → slice_get xs j ≡ Some x → P x) → AllByRecursion P xs
+each_place P [] f = tt
+each_place P (x ∷ xs) f = (f 0 x refl, each_place P xs (λ j y at. f (suc j) y at))
+
+module _ (node : TermOfNode) (named : GatesAreNamed) (axioms : AxiomsAreTaken) (ns : List Node) (levels : List (List ℕ)) (log : LogState) (s : FormState) (table : IsTable ns) (order : IsLog ns levels log)
+    (covers : Covers ns log s) (truths : Term → Option Bool) (v : Valuation) (meets : MeetsRows ns log truths v) where
+  abbrev Met : Clause → Type 0
+  Met c = HasMetLiteral truths v c
+
+  abbrev MetResult : Computation Clause → Type 0
+  MetResult c = Met c.result
+
+  -- a clause of the log that says this one is met
+  row_met : (i t : ℕ) (e : Entry) (c : Clause) → IsRowAt log i t → entry_at log i ≡ Some e → clause_of c ≡ clause_in ns log.atoms e.literals → Met c
+  row_met i t e c row at says =
+      let m = meets i t row in
+      let own = subst (λ (ls : List Lit). Contains ls m.0) (ap (λ o. elim o [ None ↦ [] | Some f ↦ f.literals ]) at) m.1 in
+      let there = map_has (literal_in ns log.atoms) e.literals m.0 own in
+      (literal_in ns log.atoms m.0, once_from are_same_literal c (literal_in ns log.atoms m.0) (subst (λ (d : Clause). Contains d (literal_in ns log.atoms m.0)) (sym says) there), m.2)
+
+  -- of a covered term
+  module _ (k n : ℕ) (at : covered_at s k ≡ Some n) where
+    gates_met : AllByRecursion Met (gate_clauses (term_in ns k))
+    gates_met =
+        each_place Met (gate_clauses (term_in ns k))
+        (λ j c here.
+        let same = named ns table k (covers.within k n at) in
+        let long : length (gate_clauses (term_in ns k)) ≡ length (gates_at ns k) = ap length (sym same) ∙ length-map (gates_at ns k) (clause_of_terms ns) in
+        let inside : j < length (gates_at ns k) = subst (λ m. j < m) long (slice_get_within (gate_clauses (term_in ns k)) j c here) in
+        let has = covers.rows.gates k n j at inside in
+        let row : IsRowAt log has.0 k = (gate_of k j, ap (option_map (λ (e : Entry). e.origin)) has.1, refl) in
+        let made = (order.clauses has.0 _ has.1).made.2 in
+        let says : clause_of c ≡ clause_in ns log.atoms _ = same_Some _ _ (sym (ap (option_map clause_of) here) ∙ made) in
+        row_met has.0 k _ c row has.1 says)
+
+    -- a clause of another table
+    axiom_met : (a : Axiom) (cs : List (Computation Clause)) (j : ℕ) (c : Computation Clause) → slice_get cs j ≡ Some c → row_term (axiom_of a) ≡ Some k → HasClause log (axiom_of a) n
+        → ((ls : List Lit) → IsAxiom ns log.atoms a ls → (clause_at cs j).result ≡ Some (clause_in ns log.atoms ls)) → MetResult c
+    axiom_met a cs j c here row has taken =
+        let e = some_entry (entry_at log has.id) (axiom_of a) has.origin in
+        let made : IsAxiom ns log.atoms a e.0.literals = subst (IsMade ns levels log has.id e.0) e.2 (order.clauses has.id e.0 e.1).made in
+        let place : (clause_at cs j).result ≡ Some (clause_of c.result) =
+        ap (λ (r : Computation (Option Clause)). r.result)
+        (ap (λ (o : Option (Computation Clause)). elim o [ None ↦ at_once None | Some d ↦ turned_into (λ b. Some (clause_of b)) d ]) here) in
+        let says : clause_of c.result ≡ clause_in ns log.atoms e.0.literals = same_Some _ _ (sym place ∙ taken e.0.literals made) in
+        row_met has.id k e.0 c.result (axiom_of a, has.origin, row) e.1 says
+
+    rows_met : (of : RowTable) → AllByRecursion MetResult (table_clauses of (number_in ns) (term_in ns k))
+    rows_met of =
+        let cs = table_clauses of (number_in ns) (term_in ns k) in
+        each_place MetResult cs
+        (λ j c here. axiom_met (table_axiom of k j) cs j c here (row_of of k j) (covers.rows.rows of k n j at (slice_get_within cs j c here))
+        (λ ls made. at_place of ns log.atoms k j (clause_in ns log.atoms ls) (axioms ns table log.atoms (table_axiom of k j) ls made)))
+
+  -- so all that a covered term is made of meets the tables
+  clauses_met : (t : ℕ) → IsSome (covered_at s t) → MeetsClauses ns truths v t
+  clauses_met t some =
+      let n = has_some (covered_at s t) some in
+      let part = part_covered node ns table log s covers t n.0 n.1 in
+      let level = λ (u : Term) (has : Contains (post_order (term_in ns t)) u). level_of (covered_at s (part u has).number) n.0 (part u has).covered in
+      record {
+        gates = λ u has. subst (λ w. AllByRecursion Met (gate_clauses w)) (part u has).term (gates_met (part u has).number (level u has).0 (level u has).1);
+        links = λ u has.
+            subst (λ w. AllByRecursion MetResult (link_clauses (number_in ns) w)) (part u has).term (rows_met (part u has).number (level u has).0 (level u has).1 Links);
+        units = λ u has.
+            subst (λ w. AllByRecursion MetResult (unit_clauses (number_in ns) w)) (part u has).term (rows_met (part u has).number (level u has).0 (level u has).1 Units);
+      }
+
+pub rows_meet_tables : TermOfNode → GatesAreNamed → AxiomsAreTaken → RowsMeetTables
+rows_meet_tables node named axioms ns levels log s table order covers truths v meets t some =
+    clauses_met node named axioms ns levels log s table order covers truths v meets t some

@@ -1,6 +1,5 @@
 -- The clauses of the tables in a log: which terms their literals name, and at which level that puts them.
-use Rattle.std.proofs.Common.{◌≡◌, ℕ, zero, suc, ◌<◌, ◌≤◌, max, Bool, true, false, List, [], ◌∷◌, length, map, Option, Some, None, refl, sym, ap, subst, ◌∙◌, arith}
-use Rattle.std.specs.Prelude.{Contains, slice_get, option_map}
+use Rattle.std.proofs.Common.{◌≡◌, ℕ, zero, suc, ◌<◌, ◌≤◌, max, Bool, true, false, List, [], ◌∷◌, length, map, Option, Some, None, refl, sym, ap, subst, ◌∙◌, arith, Contains, slice_get, option_map}
 use Rattle.std.specs.List.{AllByRecursion}
 use Rattle.nz_lists.proofs.Elements.{AllByRecursion-map}
 use Rattle.nz_lists.proofs.Members.{each_of, map_from}
@@ -10,7 +9,7 @@ use Rattle.nz_spec.specs.terms.FormOf.{number_in}
 use Rattle.nz_spec.specs.clauses.Gates.{gate_clauses}
 use Rattle.nz_spec.specs.clauses.Links.{link_clauses}
 use Rattle.nz_spec.specs.clauses.Literal.{Literal, Clause, clause_of, are_same_literal, term_literal, TellsLiterals}
-use Rattle.nz_spec.specs.clauses.Steps.{clause_at}
+use Rattle.nz_spec.specs.clauses.Steps.{clause_at, step_clause}
 use Rattle.nz_spec.specs.terms.Table.{Node, IsTable, HasOneNumberEach, term_in}
 use Rattle.nz_spec.specs.terms.Term as spec
 use Rattle.nz_spec.specs.clauses.Units.{unit_clauses}
@@ -21,11 +20,14 @@ use Rattle.nz_log.specs.declared.atoms.Atom.{Atom}
 use Rattle.nz_log.specs.declared.atoms.Atom.TheVariants.{Term, AtMost}
 use Rattle.nz_log.specs.declared.lits.Lit.{Lit}
 use Rattle.nz_log.specs.Atoms.{AreWithin, IsAtomIn, IsLitIn, atom_in, clause_in, literal_in, terms_at, terms_of, unit_numbers, with_sign}
-use Rattle.nz_log.specs.Axioms.{link_of, unit_of, farkas_of, branch_of, cut_of}
+use Rattle.nz_log.specs.Axioms.{axiom_step, link_of, unit_of, farkas_of, branch_of, cut_of}
 use Rattle.nz_log.specs.Logs.{Origin, assertion_of, gate_of, axiom_of, chain_of, Entry, LogState, level_of_terms, level_with, row_term, told_level}
 use Rattle.nz_log.specs.Leveled.{LevelsReach}
 use Rattle.nz_log.specs.Sound.{AxiomsAreTaken, IsMade}
 use Rattle.nz_lists.proofs.Once.{once_has}
+use Rattle.nz_cform.specs.declared.rows.RowTable.{RowTable}
+use Rattle.nz_cform.specs.declared.rows.RowTable.TheVariants.{Links, Units}
+use Rattle.nz_cform.specs.Covering.{table_axiom, table_clauses}
 use Rattle.nz_cform.proofs.RowNames.{Named, Names, names_of, negation_names, units_of}
 
 -- ---- What a literal names
@@ -108,6 +110,16 @@ placed Q [] j d h at = cc
 placed Q (c ∷ cs) zero d h at = let same : clause_of c.result ≡ d = cc in (c.result, sym same, h.0)
 placed Q (c ∷ cs) (suc j) d h at = placed Q cs j d h.1 at
 
+-- such a clause is of a term, and is what its axiom says
+pub row_of : (table : RowTable) (t j : ℕ) → row_term (axiom_of (table_axiom table t j)) ≡ Some t
+row_of Links t j = refl
+row_of Units t j = refl
+
+pub at_place : (table : RowTable) (ns : List Node) (atoms : List Atom) (t j : ℕ) (d : List Literal) → step_clause (number_in ns) [] [] (axiom_step ns atoms (table_axiom table t j)) ≡ Some d
+    → (clause_at (table_clauses table (number_in ns) (term_in ns t)) j).result ≡ Some d
+at_place Links ns atoms t j d e = e
+at_place Units ns atoms t j d e = e
+
 -- and of one of clauses
 pub gate_placed : (Q : Clause → Type 0) (cs : List Clause) (j : ℕ) (d : Clause) → AllByRecursion Q cs → option_map clause_of (slice_get cs j) ≡ Some d
     → (e : Clause) × (d ≡ clause_of e) × Q e
@@ -118,8 +130,7 @@ gate_placed Q (c ∷ cs) (suc j) d h at = gate_placed Q cs j d h.1 at
 -- a clause of a table in a log says one of those of its term
 module _ (taken : AxiomsAreTaken) (ns : List Node) (table : IsTable ns) (levels : List (List ℕ)) (log : LogState) (t : ℕ) (Q : Clause → Type 0)
     (gates : AllByRecursion Q (gate_clauses (term_in ns t)))
-    (links : AllByRecursion (λ (c : Computation Clause). Q c.result) (link_clauses (number_in ns) (term_in ns t)))
-    (units : AllByRecursion (λ (c : Computation Clause). Q c.result) (unit_clauses (number_in ns) (term_in ns t))) where
+    (rows : (of : RowTable) → AllByRecursion (λ (c : Computation Clause). Q c.result) (table_clauses of (number_in ns) (term_in ns t))) where
   -- the term of a row
   same_row : (u : ℕ) → ◌≡◌ {A = Option ℕ} (Some u) (Some t) → u ≡ t
   same_row u e = cc
@@ -131,11 +142,11 @@ module _ (taken : AxiomsAreTaken) (ns : List Node) (table : IsTable ns) (levels 
       gate_placed Q (gate_clauses (term_in ns t)) j (clause_in ns log.atoms e.literals) gates
       (subst (λ v. option_map clause_of (slice_get (gate_clauses (term_in ns v)) j) ≡ Some (clause_in ns log.atoms e.literals)) (same_row u row) made.2)
   row_says i e (axiom_of (link_of u j)) row made =
-      placed Q (link_clauses (number_in ns) (term_in ns t)) j (clause_in ns log.atoms e.literals) links
+      placed Q (link_clauses (number_in ns) (term_in ns t)) j (clause_in ns log.atoms e.literals) (rows Links)
       (subst (λ v. (clause_at (link_clauses (number_in ns) (term_in ns v)) j).result ≡ Some (clause_in ns log.atoms e.literals)) (same_row u row)
       (taken ns table log.atoms (link_of u j) e.literals made))
   row_says i e (axiom_of (unit_of u j)) row made =
-      placed Q (unit_clauses (number_in ns) (term_in ns t)) j (clause_in ns log.atoms e.literals) units
+      placed Q (unit_clauses (number_in ns) (term_in ns t)) j (clause_in ns log.atoms e.literals) (rows Units)
       (subst (λ v. (clause_at (unit_clauses (number_in ns) (term_in ns v)) j).result ≡ Some (clause_in ns log.atoms e.literals)) (same_row u row)
       (taken ns table log.atoms (unit_of u j) e.literals made))
   row_says i e (axiom_of (farkas_of ms)) row made = cc

@@ -18,6 +18,9 @@ use Rattle.nz_spec.specs.terms.Linear.{constant_value}
 use Rattle.nz_spec.specs.clauses.Units.{quotient_rows, remainder_rows, unit_clauses}
 use Rattle.nz_spec.specs.terms.Order.{post_order, post_orders}
 use Rattle.nz_spec.specs.terms.Taken.{IsTakenHead, IsTaken}
+use Rattle.nz_cform.specs.declared.rows.RowTable.{RowTable}
+use Rattle.nz_cform.specs.declared.rows.RowTable.TheVariants.{Links, Units}
+use Rattle.nz_cform.specs.Covering.{table_clauses}
 use Rattle.nz_cform.proofs.Parts.{itself}
 use Rattle.nz_cform.proofs.Sizes.{size, sizes}
 
@@ -313,21 +316,18 @@ module _ (number : Numbering) where
 -- ---- Of any term
 
 module _ (number : Numbering) where
-  pub each_link_names : (t : Term) → AllByRecursion (λ (c : Computation Clause). Names t c.result) (link_clauses number t)
-  each_link_names (apply h ts) = links_name number h ts
-
-  pub each_unit_names : TellsTerms → UnitsAreParts → (t : Term) → IsTaken t → AllByRecursion (λ (c : Computation Clause). Names t c.result) (unit_clauses number t)
-  each_unit_names told parts (apply h ts) taken = units_name number told parts h ts taken.heads.0
+  pub each_row_names : TellsTerms → UnitsAreParts → (table : RowTable) (t : Term) → IsTaken t → AllByRecursion (λ (c : Computation Clause). Names t c.result) (table_clauses table number t)
+  each_row_names told parts Links (apply h ts) taken = links_name number h ts
+  each_row_names told parts Units (apply h ts) taken = units_name number told parts h ts taken.heads.0
 
   arguments_over : (h : Head) (ts : Terms) → OverTerms (Contains (post_order (apply h ts))) ts
   arguments_over h ts = over_all (Contains (post_order (apply h ts))) ts (λ u has. Contains-append_left (post_orders ts) (apply h ts ∷ []) u has)
 
-  pub each_link_within : UnitsAreParts → (t : Term) → IsTaken t → AllByRecursion (λ (c : Computation Clause). AreNamed (Contains (post_order t)) c.result) (link_clauses number t)
-  each_link_within parts (apply h ts) taken =
+  pub each_row_within : UnitsAreParts → (table : RowTable) (t : Term) → IsTaken t
+      → AllByRecursion (λ (c : Computation Clause). AreNamed (Contains (post_order t)) c.result) (table_clauses table number t)
+  each_row_within parts Links (apply h ts) taken =
       links_named (Contains (post_order (apply h ts))) parts number h ts taken.heads.0 (itself (apply h ts)) (arguments_over h ts)
-
-  pub each_unit_within : UnitsAreParts → (t : Term) → IsTaken t → AllByRecursion (λ (c : Computation Clause). AreNamed (Contains (post_order t)) c.result) (unit_clauses number t)
-  each_unit_within parts (apply h ts) taken =
+  each_row_within parts Units (apply h ts) taken =
       unit_rows_named (Contains (post_order (apply h ts))) parts number h ts taken.heads.0 (λ u has. has) (arguments_over h ts)
 
 -- ---- Lengths of the tables
@@ -339,7 +339,7 @@ module _ (f g : Numbering) where
   test_long true rows others e = refl
   test_long false rows others e = e
 
-  pub links_long : (t : Term) → length (link_clauses f t) ≡ length (link_clauses g t)
+  links_long : (t : Term) → length (link_clauses f t) ≡ length (link_clauses g t)
   links_long (apply less (terms a (terms b no_terms))) = refl
   links_long (apply at_most (terms a (terms b no_terms))) = refl
   links_long (apply equality (terms a (terms b no_terms))) = test_long (is_boolean_term a) _ _ refl
@@ -354,7 +354,7 @@ module _ (f g : Numbering) where
   remainders_long u q a None = refl
   remainders_long u q a (Some k) = refl
 
-  pub units_long : (t : Term) → length (unit_clauses f t) ≡ length (unit_clauses g t)
+  units_long : (t : Term) → length (unit_clauses f t) ≡ length (unit_clauses g t)
   units_long (apply (choice int_sort) (terms c (terms a (terms b no_terms)))) = refl
   units_long (apply (choice real_sort) (terms c (terms a (terms b no_terms)))) = refl
   units_long (apply integer_quotient (terms a (terms k no_terms))) =
@@ -364,3 +364,7 @@ module _ (f g : Numbering) where
   units_long (apply magnitude (terms a no_terms)) = refl
   units_long (apply to_int (terms a no_terms)) = refl
   units_long (apply h ts) = refl
+
+  pub rows_long : (table : RowTable) (t : Term) → length (table_clauses table f t) ≡ length (table_clauses table g t)
+  rows_long Links t = links_long t
+  rows_long Units t = units_long t

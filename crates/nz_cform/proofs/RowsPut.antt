@@ -1,35 +1,106 @@
 -- How the clauses of the tables of a term come into a log, one after another.
-use Rattle.std.proofs.Common.{◌≡◌, ℕ, suc, ◌<◌, ◌≤◌, ◌⊎◌, inl, inr, List, [], ◌∷◌, length, Some, None, refl, sym, ap, subst, ◌∙◌, arith}
-use Rattle.std.specs.Prelude.{Contains, IsSome, option_map, unwrap_or, slice_index_or}
+use Rattle.std.proofs.Common.{◌≡◌, ℕ, suc, ◌<◌, ◌≤◌, ◌⊎◌, inl, inr, List, [], ◌∷◌, length, Some, None, refl, sym, ap, subst, ◌∙◌, arith, Contains, IsSome, option_map, unwrap_or, slice_index_or, zero, Bool, true, false, map, Option}
 use Rattle.std.specs.List.{AllByRecursion}
 use Rattle.std.proofs.lemmas.Option.{slice_get_within}
-use Rattle.std.proofs.lemmas.List.Elements.{recursion_from_All}
+use Rattle.std.proofs.lemmas.List.Elements.{recursion_from_All, All-head}
 use Rattle.nz_lists.proofs.Numbers.{same_or_other}
-use Rattle.nz_lists.proofs.Members.{each_of}
+use Rattle.nz_lists.proofs.Members.{each_of, has_first}
 use Rattle.nz_spec.specs.terms.Same.{TellsTerms}
 use Rattle.nz_spec.specs.terms.FormOf.{number_in, UnitsAreParts}
-use Rattle.nz_spec.specs.clauses.Links.{link_clauses}
-use Rattle.nz_spec.specs.clauses.Literal.{Clause, clause_of, TellsLiterals}
+use Rattle.nz_spec.specs.clauses.Literal.{TellsLiterals, once}
 use Rattle.nz_spec.specs.terms.Table.{Node, HasOneNumberEach, term_in}
 use Rattle.nz_spec.specs.terms.Taken.{IsTaken}
-use Rattle.nz_spec.specs.clauses.Units.{unit_clauses}
 use Rattle.nz_log.specs.declared.lits.Lit.{Lit}
 use Rattle.nz_term.specs.declared.term_lits.TermLit.{TermLit}
-use Rattle.nz_log.specs.Atoms.{AtomsOfTerms, HasTerm, IsLitIn, TellsLits, clause_in, lits_of}
-use Rattle.nz_log.specs.Axioms.{Axiom, link_of, unit_of, farkas_of, branch_of, cut_of}
+use Rattle.nz_log.specs.Atoms.{AtomsOfTerms, HasTerm, IsLitIn, TellsLits, clause_in, lits_of, lit_of, terms_at, terms_of}
+use Rattle.nz_log.specs.Axioms.{link_of, unit_of, farkas_of, branch_of, cut_of}
 use Rattle.nz_log.specs.Leveled.{LevelsReach}
 use Rattle.nz_log.specs.Lits.{are_same_lit}
-use Rattle.nz_log.specs.Logs.{Origin, assertion_of, gate_of, axiom_of, chain_of, Entry, LogState, axiom_entry, entry_at, gate_entry, level_at, row_term, told_of, told_level, Puts, PutsAxiom}
-use Rattle.nz_rows.specs.GateRows.{gates_at}
+use Rattle.nz_log.specs.Logs.{Origin, assertion_of, gate_of, axiom_of, chain_of, Entry, LogState, axiom_entry, entry_at, gate_entry, level_at, row_term, told_of, told_level, Puts, PutsAxiom, level_with}
+use Rattle.nz_rows.specs.GateRows.{gates_at, is_boolean_at}
+use Rattle.nz_cform.specs.declared.rows.RowTable.{RowTable}
+use Rattle.nz_cform.specs.declared.rows.RowTable.TheVariants.{Links, Units}
 use Rattle.nz_cform.specs.Forms.{FormState, covered_at}
-use Rattle.nz_cform.specs.Covering.{AreNamed, HasClause, HasGate, HasRowsBelow, IsBelow, IsOnAtoms, IsRowAt, gate_clause, gate_terms, origin_at}
+use Rattle.nz_cform.specs.Covering.{AreNamed, HasClause, HasGate, HasRowsBelow, IsBelow, IsOnAtoms, IsRowAt, gate_clause, gate_terms, links_put, origin_at, table_axiom, table_clauses, table_count, units_put}
 use Rattle.nz_cform.proofs.Added.{put_kept}
-use Rattle.nz_cform.proofs.AtomsStay.{gate_stays}
-use Rattle.nz_lists.proofs.Once.{each_once}
-use Rattle.nz_cform.proofs.GateLevels.{gate_level}
-use Rattle.nz_cform.proofs.Kept.{clause_kept, level_kept, made_live, on_atoms_kept}
-use Rattle.nz_cform.proofs.RowClauses.{placed, says_level}
-use Rattle.nz_cform.proofs.RowNames.{Names, each_link_names, each_unit_names}
+use Rattle.nz_lists.proofs.Once.{each_once, once_has}
+use Rattle.nz_cform.proofs.Kept.{clause_kept, gate_stays, level_kept, made_live, on_atoms_kept}
+use Rattle.nz_cform.proofs.RowClauses.{at_place, placed, row_of, says_level, level_is}
+use Rattle.nz_cform.proofs.RowNames.{Names, each_row_names}
+use Rattle.std.specs.Prelude.{All, slice_get, if◌then◌else◌}
+use Rattle.nz_spec.specs.terms.Term.{Head, verum, falsum, negation, conjunction, disjunction, exclusion, equality, choice, bool_sort}
+use Rattle.nz_spec.specs.clauses.Gates.{clauses_over}
+use Rattle.nz_lists.proofs.Elements.{AllByRecursion-append}
+use Rattle.nz_log.specs.declared.atoms.Atom.{Atom}
+use Rattle.nz_term.specs.TermLits.{yes, no}
+
+-- ---- The level of a gate is that told of its term, where none higher is told: each clause of a term names it first
+
+-- ---- What a clause names first
+
+-- the first literal is of the term
+abbrev pub Begins : ℕ → List TermLit → Type 0
+Begins t [] = ⊥
+Begins t (l ∷ ls) = l.term ≡ t
+
+-- so it is in rows for each argument
+rows_begin : (t : ℕ) (first : TermLit) (f : ℕ → TermLit) → first.term ≡ t → (ks : List ℕ) → AllByRecursion (Begins t) (map (λ u. first ∷ f u ∷ []) ks)
+rows_begin t first f e [] = tt
+rows_begin t first f e (k ∷ ks) = (e, rows_begin t first f e ks)
+
+-- and in clauses on a test
+on_test : (t : ℕ) (b : Bool) (cs : List (List TermLit)) → AllByRecursion (Begins t) cs → AllByRecursion (Begins t) (if b then cs else [])
+on_test t true cs h = h
+on_test t false cs h = tt
+
+-- and so in each clause of a head
+over_begin : (is_boolean : ℕ → Bool) (t : ℕ) (h : Head) (ks : List ℕ) → AllByRecursion (Begins t) (clauses_over yes no is_boolean t h ks)
+over_begin f t verum [] = (refl, tt)
+over_begin f t falsum [] = (refl, tt)
+over_begin f t negation (u ∷ []) = (refl, (refl, tt))
+over_begin f t conjunction ks = AllByRecursion-append (Begins t) _ _ (rows_begin t (no t) yes refl ks) (refl, tt)
+over_begin f t disjunction ks = AllByRecursion-append (Begins t) _ _ (rows_begin t (yes t) no refl ks) (refl, tt)
+over_begin f t exclusion (u ∷ v ∷ []) = (refl, (refl, (refl, (refl, tt))))
+over_begin f t equality (u ∷ v ∷ []) = on_test t (f u) _ (refl, (refl, (refl, (refl, tt))))
+over_begin f t (choice bool_sort) (c ∷ u ∷ v ∷ []) = (refl, (refl, (refl, (refl, tt))))
+over_begin f t h ks = tt
+
+-- and of a node
+node_begins : (ns : List Node) (t : ℕ) (o : Option Node)
+    → AllByRecursion (Begins t) (elim o [ None ↦ [] | Some n ↦ clauses_over yes no (is_boolean_at ns) t n.head n.kids ])
+node_begins ns t None = tt
+node_begins ns t (Some n) = over_begin (is_boolean_at ns) t n.head n.kids
+
+-- and in the clause of a place
+begins_at : (t : ℕ) (cs : List (List TermLit)) (j : ℕ) → AllByRecursion (Begins t) cs → j < length cs → Begins t (unwrap_or (slice_get cs j) [])
+begins_at t [] j h inside = absurd (omega arith)
+begins_at t (c ∷ cs) zero h inside = h.0
+begins_at t (c ∷ cs) (suc j) h inside = begins_at t cs j h.1 (omega arith)
+
+-- ---- The level of a gate
+
+-- a literal on a term names just that
+terms_named : (atoms : List Atom) (l : TermLit) → HasTerm atoms l.term → terms_at atoms (lit_of atoms l) ≡ l.term ∷ []
+terms_named atoms l there = ap (λ (o : Option Atom). elim o [ None ↦ [] | Some a ↦ terms_of a ]) there
+
+-- a set of literals that begin with a term is of its level
+named_level : LevelsReach → TellsLits → (s : LogState) (t level : ℕ) → told_level s t ≡ level → ((u : ℕ) → told_level s u ≤ level) → (c : List TermLit) → Begins t c
+    → All (λ (l : TermLit). HasTerm s.atoms l.term) c → level_with s 0 (once are_same_lit (lits_of s.atoms c)) ≡ level
+named_level reach tells s t level here highest [] b there = absurd b
+named_level reach tells s t level here highest (l ∷ ls) b there =
+    let c = lits_of s.atoms (l ∷ ls) in
+    let first = lit_of s.atoms l in
+    let named = terms_named s.atoms l (All-head (λ (m : TermLit). HasTerm s.atoms m.term) l ls there) in
+    level_is reach s (once are_same_lit c) first t level here highest
+    (once_has are_same_lit tells.same c first (has_first first (lits_of s.atoms ls)))
+    (subst (λ vs. Contains vs t) (sym named) (subst (λ v. Contains (v ∷ []) t) (sym b) (has_first t [])))
+
+-- the level of the gate that a log makes
+pub gate_level : LevelsReach → TellsLits → (ns : List Node) (s : LogState) (t j level : ℕ) → told_of s t ≡ Some level → ((u : ℕ) → told_level s u ≤ level) → j < length (gates_at ns t)
+    → AreNamed ns s.atoms t j → (gate_entry ns s t j).level ≡ level
+gate_level reach tells ns s t j level told highest inside there =
+    named_level reach tells s t level (ap (λ o. unwrap_or o 0) told) highest (gate_terms ns t j)
+    (begins_at t (gates_at ns t) j (node_begins ns t (slice_get ns t)) inside) there
 
 -- ---- One clause is put
 
@@ -72,8 +143,9 @@ below_grows g k u g' k' u' a b c (axiom_of (cut_of ms)) h = tt
 below_grows g k u g' k' u' a b c (chain_of first ks) h = tt
 
 -- the clauses of one table, of one term just those below a number
-abbrev HasAll : (ℕ → ℕ → Origin) → (ℕ → ℕ) → LogState → FormState → (term below : ℕ) → Type 0
-HasAll make size log s term below = (t n j : ℕ) → covered_at s t ≡ Some n → j < size t → (t ≡ term → j < below) → HasClause log (make t j) n
+abbrev HasAll : List Node → LogState → FormState → ℕ → RowTable → (below : ℕ) → Type 0
+HasAll ns log s term table below = (t n j : ℕ) → covered_at s t ≡ Some n → j < length (table_clauses table (number_in ns) (term_in ns t)) → (t ≡ term → j < below)
+    → HasClause log (axiom_of (table_axiom table t j)) n
 
 -- ---- One clause more of a term
 
@@ -139,14 +211,11 @@ module _ (ns : List Node) (old new : LogState) (s : FormState) (term g k u id : 
 
       -- together, where each table has its clauses
       pub rows_more : ((t n j : ℕ) → covered_at s t ≡ Some n → j < length (gates_at ns t) → (t ≡ term → j < g') → HasGate ns new t j n)
-          → HasAll (λ t j. axiom_of (link_of t j)) (λ t. length (link_clauses (number_in ns) (term_in ns t))) new s term k'
-          → HasAll (λ t j. axiom_of (unit_of t j)) (λ t. length (unit_clauses (number_in ns) (term_in ns t))) new s term u'
-          → HasRowsBelow ns new s term g' k' u'
-      rows_more gates links units =
+          → ((table : RowTable) → HasAll ns new s term table (table_count table k' u')) → HasRowsBelow ns new s term g' k' u'
+      rows_more gates rows =
           record {
             gates = gates;
-            links = links;
-            units = units;
+            rows = rows;
             of_covered = covered_more;
             once = once_more;
             told = λ t. same_told t ∙ has.told t;
@@ -164,13 +233,13 @@ module _ (old new : LogState) (s : FormState) (term id : ℕ) (e : Entry) (puts 
       → (t n j : ℕ) → covered_at s t ≡ Some n → j < length (gates_at ns t) → (t ≡ term → j < below) → HasGate ns new t j n
   gates_kept own ns below has t n j at inside within = put_gate old new id e puts own ns t j n (has t n j at inside within)
 
-  module _ (make : ℕ → ℕ → Origin) (size : ℕ → ℕ) where
-    all_kept : (below : ℕ) → HasAll make size old s term below → HasAll make size new s term below
-    all_kept below has t n j at inside within = put_clause old new id e puts (make t j) n (has t n j at inside within)
+  module _ (ns : List Node) (table : RowTable) where
+    all_kept : (below : ℕ) → HasAll ns old s term table below → HasAll ns new s term table below
+    all_kept below has t n j at inside within = put_clause old new id e puts (axiom_of (table_axiom table t j)) n (has t n j at inside within)
 
     -- the next one of a table
-    all_more : (below level : ℕ) → covered_at s term ≡ Some level → e.origin ≡ make term below → e.level ≡ level → HasAll make size old s term below
-        → HasAll make size new s term (suc below)
+    all_more : (below level : ℕ) → covered_at s term ≡ Some level → e.origin ≡ axiom_of (table_axiom table term below) → e.level ≡ level → HasAll ns old s term table below
+        → HasAll ns new s term table (suc below)
     all_more below level covered made is has t n j at inside within =
         elim (same_or_other t term) [
           | inl same ↦ elim (same_or_other j below) [
@@ -179,12 +248,12 @@ module _ (old new : LogState) (s : FormState) (term id : ℕ) (e : Entry) (puts 
                 let one : level ≡ n = cc in
                 record {
                   id = id;
-                  origin = put_origin old new id e puts ∙ ap Some (made ∙ (λ i. make (sym same i) (sym number i)));
+                  origin = put_origin old new id e puts ∙ ap Some (made ∙ (λ i. axiom_of (table_axiom table (sym same i) (sym number i))));
                   at = put_level old new id e puts id refl ∙ is ∙ one;
                 }
-            | inr other ↦ put_clause old new id e puts (make t j) n (has t n j at inside (λ _. let more : j < suc below = within same in omega arith))
+            | inr other ↦ all_kept below has t n j at inside (λ _. let more : j < suc below = within same in omega arith)
           ]
-          | inr other ↦ put_clause old new id e puts (make t j) n (has t n j at inside (λ same. absurd (other same)))
+          | inr other ↦ all_kept below has t n j at inside (λ same. absurd (other same))
         ]
 
 -- ---- A clause of the gate table
@@ -235,74 +304,53 @@ module _ (reach : LevelsReach) (equal : TellsLits) (own : AtomsOfTerms) (ns : Li
   gate_more =
       rows_more ns old new s t k 0 0 id gate puts refl has new_gate is_level (suc k) 0 0
       (below_grows k 0 0 (suc k) 0 0 (omega arith) (omega arith) (omega arith)) (let below : k < suc k = omega arith in below) gate_on gates_more
-      (all_kept old new s t id gate puts (λ v j. axiom_of (link_of v j)) (λ v. length (link_clauses (number_in ns) (term_in ns v))) 0 has.links)
-      (all_kept old new s t id gate puts (λ v j. axiom_of (unit_of v j)) (λ v. length (unit_clauses (number_in ns) (term_in ns v))) 0 has.units)
+      (λ table. all_kept old new s t id gate puts ns table (table_count table 0 0) (has.rows table))
 
--- ---- A clause that holds by arithmetic
+-- ---- A clause of a table of rows
 
-module _ (ns : List Node) (one : HasOneNumberEach ns) (old new : LogState) (id : ℕ) (a : Axiom) (puts : PutsAxiom ns old id a new) where
-  abbrev axiom_put : Entry
-  axiom_put = axiom_entry new a puts.literals
+-- it wasn't there, and is one of those that are put with it
+not_below : (table : RowTable) (g k n t : ℕ) → IsBelow g (links_put table k n) (units_put table n) (axiom_of (table_axiom table t n)) → ⊥
+not_below Links g k n t h = let below : n < n = h in omega arith
+not_below Units g k n t h = let below : n < n = h in omega arith
 
-  axiom_on : (l : Lit) → Contains axiom_put.literals l → l.atom < length new.atoms
-  axiom_on l h = let there = each_of (IsLitIn ns new.atoms) puts.literals puts.clause.within l h in slice_get_within new.atoms l.atom there.atom there.at
+is_next : (table : RowTable) (g k n t : ℕ) → IsBelow g (links_put table k (suc n)) (units_put table (suc n)) (axiom_of (table_axiom table t n))
+is_next Links g k n t = let below : n < suc n = omega arith in below
+is_next Units g k n t = let below : n < suc n = omega arith in below
 
-  axiom_level : LevelsReach → TellsLiterals → (t level : ℕ) → t < length ns → told_of new t ≡ Some level → ((u : ℕ) → told_level new u ≤ level)
-      → (d : Clause) × (clause_in ns new.atoms puts.literals ≡ clause_of d) × Names (term_in ns t) d → axiom_put.level ≡ level
-  axiom_level reach tells t level within here highest says =
-      says_level reach tells ns one new t level within (ap (λ o. unwrap_or o 0) here) highest puts.literals says.0 puts.clause.within says.1 says.2
+next_grows : (table : RowTable) (g k n : ℕ) (o : Origin) → IsBelow g (links_put table k n) (units_put table n) o → IsBelow g (links_put table k (suc n)) (units_put table (suc n)) o
+next_grows Links g k n = below_grows g n 0 g (suc n) 0 (omega arith) (omega arith) (omega arith)
+next_grows Units g k n = below_grows g k n g k (suc n) (omega arith) (omega arith) (omega arith)
 
-module _ (reach : LevelsReach) (own : AtomsOfTerms) (tells : TellsLiterals) (ns : List Node) (one : HasOneNumberEach ns) (old new : LogState) (s : FormState) (t id : ℕ) (within : t < length ns) where
-  abbrev Links : (ℕ → ℕ → Origin) × (ℕ → ℕ)
-  Links = ((λ v j. axiom_of (link_of v j)), (λ v. length (link_clauses (number_in ns) (term_in ns v))))
+-- of one table there is one more, of the other as many as before
+next_count : (P Q : RowTable → ℕ → Type 0) → ((table : RowTable) (m : ℕ) → P table m → Q table m) → (table : RowTable) (k n : ℕ) → (P table n → Q table (suc n))
+    → ((other : RowTable) → P other (table_count other (links_put table k n) (units_put table n))) → (other : RowTable)
+    → Q other (table_count other (links_put table k (suc n)) (units_put table (suc n)))
+next_count P Q kept Links k n more has Links = more (has Links)
+next_count P Q kept Links k n more has Units = kept Units 0 (has Units)
+next_count P Q kept Units k n more has Links = kept Links k (has Links)
+next_count P Q kept Units k n more has Units = more (has Units)
 
-  abbrev Units : (ℕ → ℕ → Origin) × (ℕ → ℕ)
-  Units = ((λ v j. axiom_of (unit_of v j)), (λ v. length (unit_clauses (number_in ns) (term_in ns v))))
+module _ (reach : LevelsReach) (own : AtomsOfTerms) (tells : TellsLiterals) (told : TellsTerms) (parts : UnitsAreParts) (ns : List Node) (one : HasOneNumberEach ns) (old new : LogState) (s : FormState)
+    (t id : ℕ) (within : t < length ns) (taken : IsTaken (term_in ns t)) (table : RowTable) (g k n : ℕ) (puts : PutsAxiom ns old id (table_axiom table t n) new)
+    (has : HasRowsBelow ns old s t g (links_put table k n) (units_put table n)) where
+  abbrev row : Entry
+  row = axiom_entry new (table_axiom table t n) puts.literals
 
-  -- of the link table
-  module _ (g k : ℕ) (puts : PutsAxiom ns old id (link_of t k) new) (has : HasRowsBelow ns old s t g k 0) where
-    abbrev link : Entry
-    link = axiom_put ns one old new id (link_of t k) puts
+  row_on : (l : Lit) → Contains row.literals l → l.atom < length new.atoms
+  row_on l h = let there = each_of (IsLitIn ns new.atoms) puts.literals puts.clause.within l h in slice_get_within new.atoms l.atom there.atom there.at
 
-    new_link : IsBelow g k 0 link.origin → ⊥
-    new_link h = let below : k < k = h in omega arith
+  row_level : row.level ≡ has.level
+  row_level =
+      let here = told_here ns old new s t g (links_put table k n) (units_put table n) id row puts.puts (row_of table t n) has (not_below table g k n t) in
+      let most = highest ns old new s t g (links_put table k n) (units_put table n) id row puts.puts (row_of table t n) has (not_below table g k n t) in
+      let says = placed (Names (term_in ns t)) (table_clauses table (number_in ns) (term_in ns t)) n (clause_in ns new.atoms puts.literals)
+      (each_row_names (number_in ns) told parts table (term_in ns t) taken) (at_place table ns new.atoms t n (clause_in ns new.atoms puts.literals) puts.clause.clause) in
+      says_level reach tells ns one new t has.level within (ap (λ o. unwrap_or o 0) here) most puts.literals says.0 puts.clause.within says.1 says.2
 
-    link_level : link.level ≡ has.level
-    link_level =
-        axiom_level ns one old new id (link_of t k) puts reach tells t has.level within (told_here ns old new s t g k 0 id link puts.puts refl has new_link)
-        (highest ns old new s t g k 0 id link puts.puts refl has new_link)
-        (placed (Names (term_in ns t)) (link_clauses (number_in ns) (term_in ns t)) k (clause_in ns new.atoms puts.literals)
-        (each_link_names (number_in ns) (term_in ns t)) puts.clause.clause)
-
-    pub link_more : HasRowsBelow ns new s t g (suc k) 0
-    link_more =
-        rows_more ns old new s t g k 0 id link puts.puts refl has new_link link_level g (suc k) 0
-        (below_grows g k 0 g (suc k) 0 (omega arith) (omega arith) (omega arith)) (let below : k < suc k = omega arith in below)
-        (axiom_on ns one old new id (link_of t k) puts)
-        (gates_kept old new s t id link puts.puts own ns g has.gates)
-        (all_more old new s t id link puts.puts Links.0 Links.1 k has.level has.covered refl link_level has.links)
-        (all_kept old new s t id link puts.puts Units.0 Units.1 0 has.units)
-
-  -- of the unit table
-  module _ (told : TellsTerms) (parts : UnitsAreParts) (g k u : ℕ) (taken : IsTaken (term_in ns t)) (puts : PutsAxiom ns old id (unit_of t u) new) (has : HasRowsBelow ns old s t g k u) where
-    abbrev unit : Entry
-    unit = axiom_put ns one old new id (unit_of t u) puts
-
-    new_unit : IsBelow g k u unit.origin → ⊥
-    new_unit h = let below : u < u = h in omega arith
-
-    unit_level : unit.level ≡ has.level
-    unit_level =
-        axiom_level ns one old new id (unit_of t u) puts reach tells t has.level within (told_here ns old new s t g k u id unit puts.puts refl has new_unit)
-        (highest ns old new s t g k u id unit puts.puts refl has new_unit)
-        (placed (Names (term_in ns t)) (unit_clauses (number_in ns) (term_in ns t)) u (clause_in ns new.atoms puts.literals)
-        (each_unit_names (number_in ns) told parts (term_in ns t) taken) puts.clause.clause)
-
-    pub unit_more : HasRowsBelow ns new s t g k (suc u)
-    unit_more =
-        rows_more ns old new s t g k u id unit puts.puts refl has new_unit unit_level g k (suc u)
-        (below_grows g k u g k (suc u) (omega arith) (omega arith) (omega arith)) (let below : u < suc u = omega arith in below)
-        (axiom_on ns one old new id (unit_of t u) puts)
-        (gates_kept old new s t id unit puts.puts own ns g has.gates)
-        (all_kept old new s t id unit puts.puts Links.0 Links.1 k has.links)
-        (all_more old new s t id unit puts.puts Units.0 Units.1 u has.level has.covered refl unit_level has.units)
+  pub row_more : HasRowsBelow ns new s t g (links_put table k (suc n)) (units_put table (suc n))
+  row_more =
+      rows_more ns old new s t g (links_put table k n) (units_put table n) id row puts.puts (row_of table t n) has (not_below table g k n t) row_level
+      g (links_put table k (suc n)) (units_put table (suc n)) (next_grows table g k n) (is_next table g k n t) row_on
+      (gates_kept old new s t id row puts.puts own ns g has.gates)
+      (next_count (HasAll ns old s t) (HasAll ns new s t) (all_kept old new s t id row puts.puts ns) table k n
+      (all_more old new s t id row puts.puts ns table n has.level has.covered refl row_level) has.rows)

@@ -1,10 +1,13 @@
 -- What it is that the covered terms have their clauses in a log: those of the gate table, of the link table and of the unit table.
 use Rattle.std.specs.Prelude.{◌≡◌, ◌≢◌, ◌↔◌, ◌⊎◌, ⊤, ℕ, ◌<◌, ◌≤◌, List, [], ◌++◌, length, Option, Some, None, All, Contains, IsSome, slice_get, option_map, unwrap_or}
 use Rattle.std.specs.List.{AllPairs}
+use Rattle.nz_spec.specs.numbers.Computation.{Computation}
+use Rattle.nz_spec.specs.terms.Form.{Numbering}
 use Rattle.nz_spec.specs.terms.FormOf.{number_in}
 use Rattle.nz_spec.specs.clauses.Links.{link_clauses}
-use Rattle.nz_spec.specs.clauses.Literal.{once}
+use Rattle.nz_spec.specs.clauses.Literal.{Clause, once}
 use Rattle.nz_spec.specs.terms.Table.{Node, term_in}
+use Rattle.nz_spec.specs.terms.Term.{Term}
 use Rattle.nz_spec.specs.clauses.Units.{unit_clauses}
 use Rattle.nz_lin.specs.declared.bound.Bound.{Bound}
 use Rattle.nz_log.specs.declared.atoms.Atom.{Atom}
@@ -12,11 +15,14 @@ use Rattle.nz_log.specs.declared.atoms.Atom.TheVariants.{AtMost}
 use Rattle.nz_log.specs.declared.lits.Lit.{Lit}
 use Rattle.nz_term.specs.declared.term_lits.TermLit.{TermLit}
 use Rattle.nz_log.specs.Atoms.{HasTerm, Stay, lits_of}
-use Rattle.nz_log.specs.Axioms.{link_of, unit_of}
+use Rattle.nz_log.specs.Axioms.{Axiom, link_of, unit_of}
 use Rattle.nz_log.specs.Lits.{are_same_lit}
 use Rattle.nz_log.specs.Sound.{IsLog}
 use Rattle.nz_rows.specs.GateRows.{gates_at}
+use Rattle.nz_rows.specs.Rows.{Row, link_rows, unit_rows}
 use Rattle.nz_log.specs.Logs.{Origin, gate_of, axiom_of, row_term, Entry, LogState, entry_at, IsLive, literals_at, level_at, told_of, told_level}
+use Rattle.nz_cform.specs.declared.rows.RowTable.{RowTable}
+use Rattle.nz_cform.specs.declared.rows.RowTable.TheVariants.{Links, Units}
 use Rattle.nz_cform.specs.Listings.{ListingState, IsListedWithin, listed_at}
 use Rattle.nz_cform.specs.Forms.{FormState, covered_at, IsCoveredWithin}
 
@@ -46,6 +52,23 @@ gate_clause ns atoms t j level = record { literals = once are_same_lit (lits_of 
 abbrev pub HasGate : List Node → LogState → ℕ → ℕ → ℕ → Type 0
 HasGate ns log t j level = (i : ℕ) × (entry_at log i ≡ Some (gate_clause ns log.atoms t j level)) × AreNamed ns log.atoms t j
 
+-- ---- Tables of rows
+
+-- the clauses of a term by a table
+abbrev pub table_clauses : RowTable → Numbering → Term → List (Computation Clause)
+table_clauses Links number t = link_clauses number t
+table_clauses Units number t = unit_clauses number t
+
+-- its rows, as they are made
+abbrev pub table_rows : RowTable → List Node → Term → List Row
+table_rows Links ns t = link_rows ns t
+table_rows Units ns t = unit_rows ns t
+
+-- why the clause of a number holds
+abbrev pub table_axiom : RowTable → (term j : ℕ) → Axiom
+table_axiom Links t j = link_of t j
+table_axiom Units t j = unit_of t j
+
 -- ---- Clauses of the tables
 
 -- The log has a clause that was made so, at a level.
@@ -66,8 +89,7 @@ IsOnAtoms log i = (l : Lit) → Contains (literals_at log i) l → l.atom < leng
 -- told of it.
 pub record HasRows (ns : List Node) (log : LogState) (s : FormState) : Type 0 where
   pub gates : (t n j : ℕ) → covered_at s t ≡ Some n → j < length (gates_at ns t) → HasGate ns log t j n
-  pub links : (t n j : ℕ) → covered_at s t ≡ Some n → j < length (link_clauses (number_in ns) (term_in ns t)) → HasClause log (axiom_of (link_of t j)) n
-  pub units : (t n j : ℕ) → covered_at s t ≡ Some n → j < length (unit_clauses (number_in ns) (term_in ns t)) → HasClause log (axiom_of (unit_of t j)) n
+  pub rows : (table : RowTable) (t n j : ℕ) → covered_at s t ≡ Some n → j < length (table_clauses table (number_in ns) (term_in ns t)) → HasClause log (axiom_of (table_axiom table t j)) n
   pub of_covered : (i t : ℕ) → IsRowAt log i t → covered_at s t ≡ Some (level_at log i)
   pub once : (i k : ℕ) (o : Origin) → IsSome (row_term o) → origin_at log i ≡ Some o → origin_at log k ≡ Some o → i ≡ k
   pub told : (t : ℕ) → told_of log t ≡ covered_at s t
@@ -131,11 +153,24 @@ IsBelow gates links units (axiom_of (link_of t j)) = j < links
 IsBelow gates links units (axiom_of (unit_of t j)) = j < units
 IsBelow gates links units o = ⊤
 
+-- how many of each, those of the link table first: as many links, or all of these and as many units
+abbrev pub table_count : RowTable → (links units : ℕ) → ℕ
+table_count Links links units = links
+table_count Units links units = units
+
+abbrev pub links_put : RowTable → (links count : ℕ) → ℕ
+links_put Links links count = count
+links_put Units links count = links
+
+abbrev pub units_put : RowTable → ℕ → ℕ
+units_put Links count = 0
+units_put Units count = count
+
 -- It is as in `HasRows` where of one covered term just so many clauses of each table are in the log; no level told is above that of the term.
 pub record HasRowsBelow (ns : List Node) (log : LogState) (s : FormState) (term gate_count link_count unit_count : ℕ) : Type 0 where
   pub gates : (t n j : ℕ) → covered_at s t ≡ Some n → j < length (gates_at ns t) → (t ≡ term → j < gate_count) → HasGate ns log t j n
-  pub links : (t n j : ℕ) → covered_at s t ≡ Some n → j < length (link_clauses (number_in ns) (term_in ns t)) → (t ≡ term → j < link_count) → HasClause log (axiom_of (link_of t j)) n
-  pub units : (t n j : ℕ) → covered_at s t ≡ Some n → j < length (unit_clauses (number_in ns) (term_in ns t)) → (t ≡ term → j < unit_count) → HasClause log (axiom_of (unit_of t j)) n
+  pub rows : (table : RowTable) (t n j : ℕ) → covered_at s t ≡ Some n → j < length (table_clauses table (number_in ns) (term_in ns t)) → (t ≡ term → j < table_count table link_count unit_count)
+      → HasClause log (axiom_of (table_axiom table t j)) n
   pub of_covered : (i t : ℕ) → IsRowAt log i t → covered_at s t ≡ Some (level_at log i)
   pub once : (i l : ℕ) (o : Origin) → IsSome (row_term o) → origin_at log i ≡ Some o → origin_at log l ≡ Some o → i ≡ l
   pub told : (t : ℕ) → told_of log t ≡ covered_at s t
@@ -144,6 +179,10 @@ pub record HasRowsBelow (ns : List Node) (log : LogState) (s : FormState) (term 
   pub level : ℕ
   pub covered : covered_at s term ≡ Some level
   pub highest : (t : ℕ) → told_level log t ≤ level
+
+-- so many of a table are in the log, and of the table before it these
+abbrev pub HasRowsOf : RowTable → List Node → LogState → FormState → (term gates links count : ℕ) → Type 0
+HasRowsOf table ns log s term gates links count = HasRowsBelow ns log s term gates (links_put table links count) (units_put table count)
 
 -- each bound of these clauses is listed
 abbrev pub AreBoundsListed : LogState → List ℕ → ListingState → Type 0

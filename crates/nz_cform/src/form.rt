@@ -13,7 +13,7 @@ ghost use Rattle.nz_cform.specs.Stops.{IsStopIn, OnWide};
 
 use crate::bounds::list_bounds;
 use crate::listing::Listing;
-use crate::rows::{add_gates, add_links, add_units};
+use crate::rows::{RowTable, add_gates, add_rows};
 use crate::stop::FormStop;
 use nz_log::{AtomId, ClauseId, Log};
 use nz_spec::deciding::taken_terms_are_in_order;
@@ -153,8 +153,8 @@ impl ClauseForm {
         self.terms.put(term, level)?;
         let from = clauses.len();
         add_gates(log, terms, term, clauses)?;
-        add_links(log, terms, term, clauses)?;
-        add_units(log, terms, term, clauses)?;
+        add_rows(log, terms, term, RowTable::Links, clauses)?;
+        add_rows(log, terms, term, RowTable::Units, clauses)?;
         list_bounds(&mut self.bounds, log, &clauses[from..], level)?;
         Ok(())
     }

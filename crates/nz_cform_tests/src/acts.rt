@@ -1,10 +1,10 @@
 //! Cases told by tables: what is covered and taken back, and what is to come of it. One loop walks them, so that a test is one call, and cheap to prove.
 use crate::bounds::{Row, are_bounds};
 use crate::cover::Cover;
-use crate::terms::{Term, make_all};
 use nz_base::Memory;
 use nz_cform::FormStop;
 use nz_term::{TermId, Terms};
+use nz_term_samples::{Term, make_all};
 use std::alloc::Global;
 use std::test::Fail;
 

@@ -1,8 +1,8 @@
 //! The gates of terms that share arguments, each once.
 use crate::acts::Act::{self, Add, Covered, Cut, Listed};
 use crate::acts::run;
-use crate::terms::Term::{self, Constant, Over};
 use nz_term::{Operator, Sort};
+use nz_term_samples::Term::{self, Constant, Over};
 use std::test::Fail;
 
 // `xor` and `=` over the same arguments, and the conjunction of the two (4).

@@ -11,5 +11,3 @@ mod cover;
 mod form;
 #[cfg(test)]
 mod rows;
-#[cfg(test)]
-mod terms;

@@ -2,8 +2,8 @@
 use crate::acts::Act::{self, Add, Bounds, Covered, Listed};
 use crate::acts::run;
 use crate::bounds::Row;
-use crate::terms::Term::{self, Constant, Over, Tenths};
 use nz_term::{NumberSort, Operator, Sort};
+use nz_term_samples::Term::{self, Constant, Over, Tenths};
 use std::test::Fail;
 
 // Comparisons with a number: of a sum of the reals `x` and `y`, which two of them share (4 and 5), and of the one of the two that `p` chooses (8).

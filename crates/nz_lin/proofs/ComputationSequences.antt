@@ -1,5 +1,7 @@
 -- Computations one after another, up to the first operation that leaves the numbers.
-use Rattle.std.proofs.Common.{List, Result, Ok, Err, refl, sym, ap, subst, ◌∙◌}
+use Rattle.std.proofs.Common.{◌≡◌, List, Result, Ok, Err, refl, sym, ap, subst, ◌∙◌}
+use Rattle.std.specs.Prelude.{IsErrAnd}
+use Rattle.std.proofs.lemmas.Result.{err_from_is_err_and}
 use Rattle.nz_fractions.specs.Fraction.{first_wide}
 use Rattle.nz_fractions.proofs.FirstOperations.{first_wide-none, first_wide-some, no_operation}
 use Rattle.nz_spec.specs.numbers.Computation.{Computation, IsSame, at_once, turned_into, and_then}
@@ -11,6 +13,10 @@ use Rattle.nz_term.specs.declared.stops.ArithmeticStop.TheVariants.{Wide, Memory
 use Rattle.nz_term.specs.Stops.{IsStopAt}
 use Rattle.nz_lin.specs.Forms.{Numbered}
 use Rattle.nz_lin.specs.Comes.{IsDone, IsFormed}
+
+-- what is said of an error holds of the result by which it is handed on
+pub handed_on : {T E : Type 0} (P : Result T E → Type 0) (r : Result T E) (s : E) → IsErrAnd r (λ e. e ≡ s) → P (Err s) → P r
+handed_on P r s h p = let error = err_from_is_err_and r h in subst P (sym (error.1 ∙ ap Err error.2)) p
 
 -- ---- Computations that are one
 

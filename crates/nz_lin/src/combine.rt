@@ -8,7 +8,7 @@ ghost use Rattle.nz_spec.specs.clauses.Literal.{is_at_most};
 ghost use Rattle.nz_spec.specs.terms.Table.{IsTable, Node, term_in};
 ghost use Rattle.nz_spec.specs.clauses.Units.{at_most_number, below_number, times_unit};
 ghost use Rattle.nz_lin.specs.Bounds.{HasUnits, IsLiteral, literal_over};
-ghost use Rattle.nz_lin.specs.Comes.{IsFormed};
+ghost use Rattle.nz_lin.specs.Comes.{IsFormed, arithmetic_of};
 ghost use Rattle.nz_lin.specs.Forms.{AreUnits, NamesUnit, form_over, parts_over};
 
 use crate::bound::Bound;
@@ -44,9 +44,7 @@ impl Form {
     pub fn plus(self, other: &Form) -> Result<Form, ArithmeticStop>
         ensures formed { (ns : List Node) → IsTable ns → AreUnits ns self.parts → AreUnits ns other.now.parts → IsFormed ns (joined (number_in ns) Sum (form_over ns self) (form_over ns other.now)) result }
     {
-        let mut sum = self;
-        sum.join(Sign::Plus, other)?;
-        Ok(sum)
+        self.joined_with(Sign::Plus, other)
     }
 
     /// The form less another: unit by unit, and what is added last.
@@ -57,9 +55,16 @@ impl Form {
     pub fn minus(self, other: &Form) -> Result<Form, ArithmeticStop>
         ensures formed { (ns : List Node) → IsTable ns → AreUnits ns self.parts → AreUnits ns other.now.parts → IsFormed ns (joined (number_in ns) Difference (form_over ns self) (form_over ns other.now)) result }
     {
-        let mut difference = self;
-        difference.join(Sign::Minus, other)?;
-        Ok(difference)
+        self.joined_with(Sign::Minus, other)
+    }
+
+    /// Another form added or subtracted.
+    fn joined_with(self, sign: Sign, other: &Form) -> Result<Form, ArithmeticStop>
+        ensures formed { (ns : List Node) → IsTable ns → AreUnits ns self.parts → AreUnits ns other.now.parts → IsFormed ns (joined (number_in ns) (arithmetic_of sign) (form_over ns self) (form_over ns other.now)) result }
+    {
+        let mut form = self;
+        form.join(sign, other)?;
+        Ok(form)
     }
 }
 

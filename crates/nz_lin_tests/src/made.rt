@@ -1,11 +1,11 @@
 //! What forms are made of.
-use crate::terms::Term::{self, Constant, Number, Over};
-use crate::terms::{Wrong, form, form_among, make_all};
+use crate::terms::{Wrong, form, form_among};
 use nz_base::Memory;
 use nz_frac::Frac;
 use nz_lin::{Form, Part, lin_difference};
 use nz_term::{ArithmeticStop, NumberSort, Operator, Sort, TermId, Terms};
-use nz_term_samples::{constant, operation};
+use nz_term_samples::Term::{self, Constant, Number, Over};
+use nz_term_samples::{constant, make_all, operation};
 use std::alloc::Global;
 use std::test::Fail;
 

@@ -1,20 +1,15 @@
 //! The first operation that leaves the numbers.
-use crate::terms::Term::{self, Constant, Number, Over};
-use crate::terms::{MOST, form_among};
+use crate::terms::form_among;
 use nz_frac::{Op, Wide};
 use nz_lin::Form;
 use nz_term::{ArithmeticStop, NumberSort, Operator, Sort, TermId, Terms};
+use nz_term_samples::MOST;
+use nz_term_samples::Term::{self, Constant, Number, Over};
 use std::alloc::Global;
 use std::test::Fail;
 
-/// Terms, and the operation at which the form of one of them stops.
-struct Row {
-    terms: &'static [Term],
-    of: TermId,
-    op: Op,
-    left: i128,
-    right: i128,
-}
+/// Terms, and the operation at which the form of one of them stops: on the largest number and this one.
+struct Row(&'static [Term], TermId, Op, i128);
 
 /// Whether making a form stopped at the operation of the row.
 fn is_wide(made: &Result<Form, ArithmeticStop>, row: &Row) -> bool {
@@ -26,12 +21,12 @@ fn is_wide(made: &Result<Form, ArithmeticStop>, row: &Row) -> bool {
 
 /// Whether it is the operation of the row.
 fn is_at(wide: Wide, row: &Row) -> bool {
-    wide.op == row.op && wide.a.num() == row.left && wide.b.num() == row.right
+    wide.op == row.2 && wide.a.num() == MOST as i128 && wide.b.num() == row.3
 }
 
 /// Whether the form of the row's term stops at the operation of the row.
 fn stops(alloc: Global, terms: &mut Terms, row: &Row) -> bool {
-    let made = form_among(alloc, terms, row.terms, row.of);
+    let made = form_among(alloc, terms, row.0, row.1);
     is_wide(&made, row)
 }
 
@@ -61,42 +56,26 @@ const SUMS: &[Term] = &[
     Over(Operator::Difference(NumberSort::Real), &[5, 6]),
 ];
 
-const SUM: Row = Row {
-    terms: SUMS,
-    of: 5,
-    op: Op::Add,
-    left: MOST as i128,
-    right: 2,
-};
+const SUM: Row = Row(SUMS, 5, Op::Add, 2);
 
 #[test]
 fn test_a_wide_sum_is_told_with_its_operands(rt: HostRuntime) -> Result<(), Fail> {
     stop(rt.alloc(), &SUM)
 }
 
-const BOTH: Row = Row {
-    terms: SUMS,
-    of: 7,
-    op: Op::Add,
-    left: MOST as i128,
-    right: 2,
-};
+const BOTH: Row = Row(SUMS, 7, Op::Add, 2);
 
 #[test]
 fn test_the_first_of_two_is_told(rt: HostRuntime) -> Result<(), Fail> {
     stop(rt.alloc(), &BOTH)
 }
 
-const SQUARE: Row = Row {
-    terms: &[
-        Number(MOST),
-        Over(Operator::Product(NumberSort::Int), &[0, 0]),
-    ],
-    of: 1,
-    op: Op::Mul,
-    left: MOST as i128,
-    right: MOST as i128,
-};
+const SQUARED: &[Term] = &[
+    Number(MOST),
+    Over(Operator::Product(NumberSort::Int), &[0, 0]),
+];
+
+const SQUARE: Row = Row(SQUARED, 1, Op::Mul, MOST as i128);
 
 #[test]
 fn test_a_product_of_constants_may_stop(rt: HostRuntime) -> Result<(), Fail> {

@@ -12,6 +12,8 @@ mod rules;
 #[cfg(test)]
 mod sums;
 #[cfg(test)]
+mod tables;
+#[cfg(test)]
 mod terms;
 #[cfg(test)]
 mod units;

@@ -1,148 +1,95 @@
 //! The clauses of the link table, against all small assignments.
-use crate::rows::link_row;
-use crate::terms::Term::{self, Constant, Number, Over};
-use crate::terms::{MOST, complete, expect, make_all};
-use crate::values::{Values, are_true, halves, is_wide};
+use crate::tables::{Table, clauses_of, stops_at};
+use crate::terms::expect;
+use crate::values::{Values, are_true, halves};
 use nz_frac::{Frac, Op, Wide};
 use nz_log::{Lit, Log};
-use nz_rows::link_rows;
-use nz_term::{ArithmeticStop, NumberSort, Operator, Sort, TermId, Terms};
+use nz_term::{ArithmeticStop, NumberSort, Operator, Sort, TermId};
+use nz_term_samples::MOST;
+use nz_term_samples::Term::{self, Constant, Number, Over};
 use std::alloc::Global;
 use std::test::Fail;
 
-/// What the clauses of a term say, where it is linear. The companions that they name join the table.
-fn links(
-    alloc: Global,
-    log: &mut Log,
-    terms: &mut Terms,
-    term: TermId,
-) -> Result<Vec<Vec<Lit>>, ArithmeticStop> {
-    complete(alloc, terms)?;
-    if terms.len() <= term || !terms.is_linear(term) {
-        return Err(ArithmeticStop::Memory);
-    }
-    let mut clauses = Vec::new(alloc);
-    let count = link_rows(alloc, terms, term)?.len();
-    for j in 0..count {
-        let row = link_row(alloc, terms, term, j)?;
-        let id = log.link(terms, term, j, row)?;
-        clauses.push(Vec::from_slice(alloc, log.clause(id))?)?;
-    }
-    Ok(clauses)
-}
+/// Two integers (0, 1), and comparisons of the two.
+const COMPARED: &[Term] = &[
+    Constant(b'x', Sort::Int),
+    Constant(b'y', Sort::Int),
+    Over(Operator::Less, &[0, 1]),
+    Over(Operator::AtMost, &[0, 1]),
+    Over(Operator::Equal, &[0, 1]),
+];
 
-/// What the clauses of a term of a list say.
-fn links_in(
-    alloc: Global,
-    log: &mut Log,
-    terms: &mut Terms,
-    list: &[Term],
-    term: TermId,
-) -> Result<Vec<Vec<Lit>>, ArithmeticStop> {
-    make_all(alloc, terms, list)?;
-    links(alloc, log, terms, term)
-}
-
-/// The same over terms of its own.
-fn links_of(
-    alloc: Global,
-    log: &mut Log,
-    list: &[Term],
-    term: TermId,
-) -> Result<Vec<Vec<Lit>>, ArithmeticStop> {
-    let mut terms = Terms::new(alloc)?;
-    links_in(alloc, log, &mut terms, list, term)
-}
-
-/// A comparison, and its truths for a smaller number and a greater one, for two that are the same, and for a greater one and a smaller.
-struct Comparison {
-    /// An integer `x` (0), another `y` (1), and the comparison of the two (2).
-    terms: &'static [Term],
-    truths: [bool; 3],
-}
-
-impl Comparison {
-    /// Whether it is true of these numbers.
-    fn holds(&self, a: i64, b: i64) -> bool {
-        if a < b {
-            self.truths[0]
-        } else if a == b {
-            self.truths[1]
-        } else {
-            self.truths[2]
-        }
+/// Whether a comparison is true of these numbers, by its truths for a smaller number and a greater one, for two that are the same, and for a
+/// greater one and a smaller.
+fn holds(truths: [bool; 3], a: i64, b: i64) -> bool {
+    if a < b {
+        truths[0]
+    } else if a == b {
+        truths[1]
+    } else {
+        truths[2]
     }
 }
 
-/// Whether the clauses are true where `x` is `a`, `y` is `b`, and the comparison has its truth, and else are false.
-fn tell(log: &Log, clauses: &[Vec<Lit>], a: i64, b: i64, holds: bool) -> Result<bool, Wide> {
-    let numbers = [(0, Frac::whole(a)), (1, Frac::whole(b))];
+/// Whether the clauses are true where terms have these numbers and one has its truth, and else are false.
+fn tell(
+    log: &Log,
+    clauses: &[Vec<Lit>],
+    numbers: &[(TermId, Frac)],
+    term: TermId,
+    holds: bool,
+) -> Result<bool, Wide> {
     let right = Values {
-        numbers: &numbers,
-        truths: &[(2, holds)],
+        numbers,
+        truths: &[(term, holds)],
     };
     let wrong = Values {
-        numbers: &numbers,
-        truths: &[(2, !holds)],
+        numbers,
+        truths: &[(term, !holds)],
     };
     Ok(are_true(&right, log, clauses)? && !are_true(&wrong, log, clauses)?)
 }
 
 /// Whether the clauses are true just where the comparison has its truth, for each two numbers from -1 to 1.
-fn tell_all(log: &Log, clauses: &[Vec<Lit>], comparison: &Comparison) -> Result<bool, Wide> {
+fn tell_all(
+    log: &Log,
+    clauses: &[Vec<Lit>],
+    comparison: TermId,
+    truths: [bool; 3],
+) -> Result<bool, Wide> {
     let mut agree = clauses.len() >= 2;
     for a in -1..2 {
         for b in -1..2 {
-            agree = agree && tell(log, clauses, a, b, comparison.holds(a, b))?;
+            let numbers = [(0, Frac::whole(a)), (1, Frac::whole(b))];
+            let told = tell(log, clauses, &numbers, comparison, holds(truths, a, b))?;
+            agree = agree && told;
         }
     }
     Ok(agree)
 }
 
 /// Whether the clauses of a comparison are so.
-fn agree(alloc: Global, log: &mut Log, comparison: &Comparison) -> Result<bool, ArithmeticStop> {
-    let clauses = links_of(alloc, log, comparison.terms, 2)?;
-    Ok(tell_all(log, &clauses, comparison)?)
+fn agree(
+    alloc: Global,
+    log: &mut Log,
+    comparison: TermId,
+    truths: [bool; 3],
+) -> Result<bool, ArithmeticStop> {
+    let clauses = clauses_of(alloc, log, Table::Links, COMPARED, comparison)?;
+    Ok(tell_all(log, &clauses, comparison, truths)?)
 }
 
-const LESS: Comparison = Comparison {
-    terms: &[
-        Constant(b'x', Sort::Int),
-        Constant(b'y', Sort::Int),
-        Over(Operator::Less, &[0, 1]),
-    ],
-    truths: [true, false, false],
-};
-
-const AT_MOST: Comparison = Comparison {
-    terms: &[
-        Constant(b'x', Sort::Int),
-        Constant(b'y', Sort::Int),
-        Over(Operator::AtMost, &[0, 1]),
-    ],
-    truths: [true, true, false],
-};
-
-const EQUAL: Comparison = Comparison {
-    terms: &[
-        Constant(b'x', Sort::Int),
-        Constant(b'y', Sort::Int),
-        Over(Operator::Equal, &[0, 1]),
-    ],
-    truths: [false, true, false],
-};
-
 /// The same of a log of its own.
-fn agrees(alloc: Global, comparison: &Comparison) -> Result<bool, ArithmeticStop> {
+fn agrees(alloc: Global, comparison: TermId, truths: [bool; 3]) -> Result<bool, ArithmeticStop> {
     let mut log = Log::new(alloc)?;
-    agree(alloc, &mut log, comparison)
+    agree(alloc, &mut log, comparison, truths)
 }
 
 #[test]
 fn test_comparisons_are_tied_to_bounds(rt: HostRuntime) -> Result<(), Fail> {
-    expect(agrees(rt.alloc(), &LESS)?, "less")?;
-    expect(agrees(rt.alloc(), &AT_MOST)?, "at most")?;
-    expect(agrees(rt.alloc(), &EQUAL)?, "equal")
+    expect(agrees(rt.alloc(), 2, [true, false, false])?, "less")?;
+    expect(agrees(rt.alloc(), 3, [true, true, false])?, "at most")?;
+    expect(agrees(rt.alloc(), 4, [false, true, false])?, "equal")
 }
 
 /// The test (1) whether rounding changes `r` (0), and the rounded number (2).
@@ -155,16 +102,7 @@ const ROUNDED: &[Term] = &[
 /// Whether the clauses are true where `r` is this number and the test has its truth, and else are false.
 fn tell_rounded(log: &Log, clauses: &[Vec<Lit>], number: Frac) -> Result<bool, Wide> {
     let numbers = [(0, number), (2, number.floor())];
-    let holds = number == number.floor();
-    let right = Values {
-        numbers: &numbers,
-        truths: &[(1, holds)],
-    };
-    let wrong = Values {
-        numbers: &numbers,
-        truths: &[(1, !holds)],
-    };
-    Ok(are_true(&right, log, clauses)? && !are_true(&wrong, log, clauses)?)
+    tell(log, clauses, &numbers, 1, number == number.floor())
 }
 
 /// Whether they are so for each half from -2 to 2.
@@ -178,7 +116,7 @@ fn rounds(log: &Log, clauses: &[Vec<Lit>]) -> Result<bool, Wide> {
 
 /// Fails unless the clauses of the test are so.
 fn is_tied(alloc: Global, log: &mut Log) -> Result<(), Fail> {
-    let clauses = links_of(alloc, log, ROUNDED, 1)?;
+    let clauses = clauses_of(alloc, log, Table::Links, ROUNDED, 1)?;
     expect(rounds(log, &clauses)?, "the test of rounding")
 }
 
@@ -199,14 +137,8 @@ const WIDE: &[Term] = &[
     Over(Operator::Less, &[4, 5]),
 ];
 
-/// Fails unless that operation is named.
-fn is_named(alloc: Global, log: &mut Log) -> Result<(), Fail> {
-    let made = links_of(alloc, log, WIDE, 6);
-    expect(is_wide(&made, Op::Sub, MOST as i128, -1), "the operation")
-}
-
 #[test]
 fn test_a_wide_link_is_named(rt: HostRuntime) -> Result<(), Fail> {
-    let mut log = Log::new(rt.alloc())?;
-    is_named(rt.alloc(), &mut log)
+    let named = stops_at(rt.alloc(), Table::Links, WIDE, 6, Op::Sub, -1)?;
+    expect(named, "the operation")
 }

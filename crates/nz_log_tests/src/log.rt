@@ -2,11 +2,12 @@
 ghost use Rattle.nz_log.specs.Logs.{IsLive};
 
 use crate::rows::gate_row;
-use crate::terms::Term::{self, Constant, Over};
-use crate::terms::{expect, make_all};
+use crate::terms::expect;
 use nz_base::Memory;
 use nz_log::{Atom, AtomId, ClauseId, Link, Lit, Literal, Log, Step};
 use nz_term::{Operator, Sort, TermId, TermLit, Terms};
+use nz_term_samples::Term::{self, Constant, Over};
+use nz_term_samples::make_all;
 use std::alloc::Global;
 use std::test::Fail;
 
@@ -124,33 +125,18 @@ fn refutation(alloc: Global) -> Result<LoggedClause, Memory> {
     refutation_over(alloc, &terms)
 }
 
-const WANTED: &[TermStep] = &[
-    TermStep::Given(0),
-    TermStep::Given(1),
-    TermStep::Gate(1, 0),
-    TermStep::Resolve(
-        1,
-        2,
-        TermLit {
-            term: 1,
-            sign: true,
-        },
-    ),
-    TermStep::Resolve(
-        0,
-        3,
-        TermLit {
-            term: 0,
-            sign: true,
-        },
-    ),
-];
-
 /// Fails unless it is the empty clause by the steps that are wanted.
 fn is_empty_clause(told: &LoggedClause) -> Result<(), Fail> {
     expect(told.literals.is_empty(), "the literals")?;
     expect(told.level == 1, "the level")?;
-    expect(told.steps.as_slice() == WANTED, "the steps")
+    let wanted = [
+        TermStep::Given(0),
+        TermStep::Given(1),
+        TermStep::Gate(1, 0),
+        TermStep::Resolve(1, 2, TermLit::holds(1)),
+        TermStep::Resolve(0, 3, TermLit::holds(0)),
+    ];
+    expect(told.steps.as_slice() == wanted.as_slice(), "the steps")
 }
 
 #[test]

@@ -1,13 +1,13 @@
 //! Clauses by sums of bounds: contradictions, branches and cuts.
 use crate::rules::{Made, branch, cut, farkas, farkas_alone};
-use crate::terms::{MOST, expect, form};
-use crate::values::is_of;
+use crate::terms::{expect, form};
+use crate::values::is_wide;
 use nz_base::Memory;
 use nz_frac::{Frac, Op};
 use nz_lin::Bound;
 use nz_log::{Lit, LitMultiple, Literal, Log};
 use nz_term::{ArithmeticStop, NumberSort, Operator, Sort, TermId, Terms};
-use nz_term_samples::{constant, numeral, operation};
+use nz_term_samples::{MOST, constant, numeral, operation};
 use std::alloc::Global;
 use std::test::Fail;
 
@@ -72,14 +72,6 @@ fn times(literal: Lit, multiplier: i64) -> LitMultiple {
     LitMultiple {
         literal,
         multiplier: Frac::whole(multiplier),
-    }
-}
-
-/// Whether a rule stopped at the operation of this kind over these integers.
-fn is_wide(made: &Result<Made, ArithmeticStop>, op: Op, a: i128, b: i128) -> bool {
-    match made {
-        Err(ArithmeticStop::Wide(wide)) => is_of(*wide, op, a, b),
-        _ => false,
     }
 }
 

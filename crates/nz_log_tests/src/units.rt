@@ -1,114 +1,33 @@
 //! The clauses of the unit table, against all small assignments.
-use crate::rows::unit_row;
-use crate::terms::Term::{self, Constant, Number, Over};
-use crate::terms::{MOST, complete, expect, make_all};
-use crate::values::{Values, are_true, halves, is_wide};
+use crate::tables::{Table, clauses_of, stops_at};
+use crate::terms::expect;
+use crate::values::{Values, are_true, halves};
 use nz_frac::{Frac, Op, Wide};
 use nz_log::{Lit, Log};
-use nz_rows::unit_rows;
-use nz_term::{ArithmeticStop, NumberSort, Operator, Sort, TermId, Terms};
+use nz_term::{ArithmeticStop, NumberSort, Operator, Sort, TermId};
+use nz_term_samples::MOST;
+use nz_term_samples::Term::{self, Constant, Number, Over};
 use std::alloc::Global;
 use std::test::Fail;
 
-/// What the clauses of a unit say, where it is linear. The companions that they name join the table.
-fn units(
-    alloc: Global,
-    log: &mut Log,
-    terms: &mut Terms,
-    term: TermId,
-) -> Result<Vec<Vec<Lit>>, ArithmeticStop> {
-    complete(alloc, terms)?;
-    if terms.len() <= term || !terms.is_linear(term) {
-        return Err(ArithmeticStop::Memory);
-    }
-    let mut clauses = Vec::new(alloc);
-    let count = unit_rows(alloc, terms, term)?.len();
-    for j in 0..count {
-        let row = unit_row(alloc, terms, term, j)?;
-        let id = log.unit_axiom(terms, term, j, row)?;
-        clauses.push(Vec::from_slice(alloc, log.clause(id))?)?;
-    }
-    Ok(clauses)
-}
+/// An integer `x` (0), and what operators make of it and 3 (1) or -3 (2).
+const DIVIDED: &[Term] = &[
+    Constant(b'x', Sort::Int),
+    Number(3),
+    Over(Operator::Difference(NumberSort::Int), &[1]),
+    Over(Operator::Div, &[0, 1]),
+    Over(Operator::Div, &[0, 2]),
+    Over(Operator::Mod, &[0, 1]),
+    Over(Operator::Mod, &[0, 2]),
+];
 
-/// What the clauses of a unit of a list say.
-fn units_in(
-    alloc: Global,
-    log: &mut Log,
-    terms: &mut Terms,
-    list: &[Term],
-    unit: TermId,
-) -> Result<Vec<Vec<Lit>>, ArithmeticStop> {
-    make_all(alloc, terms, list)?;
-    units(alloc, log, terms, unit)
-}
+const QUOTIENT: TermId = 3;
 
-/// The same over terms of its own.
-fn units_of(
-    alloc: Global,
-    log: &mut Log,
-    list: &[Term],
-    unit: TermId,
-) -> Result<Vec<Vec<Lit>>, ArithmeticStop> {
-    let mut terms = Terms::new(alloc)?;
-    units_in(alloc, log, &mut terms, list, unit)
-}
+const NEGATIVE_QUOTIENT: TermId = 4;
 
-/// What an operator makes of an integer `x` (0) and 3 or -3.
-struct Division {
-    terms: &'static [Term],
-    unit: TermId,
-    quotient: TermId,
-    is_negative: bool,
-}
+const REMAINDER: TermId = 5;
 
-const QUOTIENT: Division = Division {
-    terms: &[
-        Constant(b'x', Sort::Int),
-        Number(3),
-        Over(Operator::Div, &[0, 1]),
-    ],
-    unit: 2,
-    quotient: 2,
-    is_negative: false,
-};
-
-const NEGATIVE_QUOTIENT: Division = Division {
-    terms: &[
-        Constant(b'x', Sort::Int),
-        Number(3),
-        Over(Operator::Difference(NumberSort::Int), &[1]),
-        Over(Operator::Div, &[0, 2]),
-    ],
-    unit: 3,
-    quotient: 3,
-    is_negative: true,
-};
-
-const REMAINDER: Division = Division {
-    terms: &[
-        Constant(b'x', Sort::Int),
-        Number(3),
-        Over(Operator::Mod, &[0, 1]),
-        Over(Operator::Div, &[0, 1]),
-    ],
-    unit: 2,
-    quotient: 3,
-    is_negative: false,
-};
-
-const NEGATIVE_REMAINDER: Division = Division {
-    terms: &[
-        Constant(b'x', Sort::Int),
-        Number(3),
-        Over(Operator::Difference(NumberSort::Int), &[1]),
-        Over(Operator::Mod, &[0, 2]),
-        Over(Operator::Div, &[0, 2]),
-    ],
-    unit: 3,
-    quotient: 4,
-    is_negative: true,
-};
+const NEGATIVE_REMAINDER: TermId = 6;
 
 /// Integers with their quotients by 3 and their remainders.
 const CASES: &[(i64, i64, i64)] = &[
@@ -129,85 +48,8 @@ const CASES: &[(i64, i64, i64)] = &[
     (7, 2, 1),
 ];
 
-/// Whether the clauses are true just where the unit has this value, of the numbers from -4 to 4, where `x` is `a` and the quotient `whole`.
-fn tell(
-    log: &Log,
-    clauses: &[Vec<Lit>],
-    division: &Division,
-    a: i64,
-    whole: Frac,
-    value: Frac,
-) -> Result<bool, Wide> {
-    let mut tell = true;
-    for b in -4..5 {
-        let number = Frac::whole(b);
-        // The first number that is told of a term stands, also where the unit is the quotient.
-        let values = Values {
-            numbers: &[
-                (division.unit, number),
-                (0, Frac::whole(a)),
-                (division.quotient, whole),
-            ],
-            truths: &[],
-        };
-        tell = tell && are_true(&values, log, clauses)? == (number == value);
-    }
-    Ok(tell)
-}
-
-/// Whether they are so of an integer, its quotient by 3 and its remainder.
-fn tell_case(
-    log: &Log,
-    clauses: &[Vec<Lit>],
-    division: &Division,
-    case: (i64, i64, i64),
-) -> Result<bool, Wide> {
-    let (a, quotient, remainder) = case;
-    let whole = signed(Frac::whole(quotient), division.is_negative);
-    let value = if division.unit == division.quotient {
-        whole
-    } else {
-        Frac::whole(remainder)
-    };
-    tell(log, clauses, division, a, whole, value)
-}
-
-/// Whether they are so of each integer.
-fn tell_all(log: &Log, clauses: &[Vec<Lit>], division: &Division) -> Result<bool, Wide> {
-    let mut tell = clauses.len() >= 2;
-    for case in CASES {
-        tell = tell && tell_case(log, clauses, division, *case)?;
-    }
-    Ok(tell)
-}
-
-/// Whether the clauses of an operator over an integer and a divisor are true just where the unit has its value.
-fn divide(alloc: Global, log: &mut Log, division: &Division) -> Result<bool, ArithmeticStop> {
-    let clauses = units_of(alloc, log, division.terms, division.unit)?;
-    Ok(tell_all(log, &clauses, division)?)
-}
-
-/// The same of a log of its own.
-fn divides(alloc: Global, division: &Division) -> Result<bool, ArithmeticStop> {
-    let mut log = Log::new(alloc)?;
-    divide(alloc, &mut log, division)
-}
-
-/// The number, or its negative.
-fn signed(number: Frac, negative: bool) -> Frac {
-    if negative { number.neg() } else { number }
-}
-
-#[test]
-fn test_quotients_and_remainders_are_bounded(rt: HostRuntime) -> Result<(), Fail> {
-    expect(divides(rt.alloc(), &QUOTIENT)?, "by 3")?;
-    expect(divides(rt.alloc(), &NEGATIVE_QUOTIENT)?, "by -3")?;
-    expect(divides(rt.alloc(), &REMAINDER)?, "modulo 3")?;
-    expect(divides(rt.alloc(), &NEGATIVE_REMAINDER)?, "modulo -3")
-}
-
-/// Whether the clauses are true just where this unit has this value, of the numbers from -3 to 3, beside what is told of two terms and of the
-/// first one's truth.
+/// Whether the clauses are true just where this unit has this value, of the numbers from -4 to 4, beside what is told of two terms and of the
+/// truth of the first term.
 fn are_just(
     log: &Log,
     clauses: &[Vec<Lit>],
@@ -217,8 +59,9 @@ fn are_just(
     truth: bool,
 ) -> Result<bool, Wide> {
     let mut just = true;
-    for b in -3..4 {
+    for b in -4..5 {
         let number = Frac::whole(b);
+        // The first number that is told of a term stands, also where another one is told of the unit.
         let values = Values {
             numbers: &[(unit, number), others[0], others[1]],
             truths: &[(0, truth)],
@@ -227,6 +70,66 @@ fn are_just(
         just = just && holds == (number == value);
     }
     Ok(just)
+}
+
+/// Whether they are so of an integer, its quotient by 3 and its remainder, where this is the unit, and that the quotient by the same divisor.
+fn tell_case(
+    log: &Log,
+    clauses: &[Vec<Lit>],
+    unit: TermId,
+    quotient: TermId,
+    case: (i64, i64, i64),
+) -> Result<bool, Wide> {
+    let (a, by_three, remainder) = case;
+    let whole = signed(Frac::whole(by_three), quotient == NEGATIVE_QUOTIENT);
+    let value = if unit == quotient {
+        whole
+    } else {
+        Frac::whole(remainder)
+    };
+    let others = [(0, Frac::whole(a)), (quotient, whole)];
+    are_just(log, clauses, unit, value, others, false)
+}
+
+/// Whether they are so of each integer.
+fn tell_all(log: &Log, clauses: &[Vec<Lit>], unit: TermId, quotient: TermId) -> Result<bool, Wide> {
+    let mut tell = clauses.len() >= 2;
+    for case in CASES {
+        tell = tell && tell_case(log, clauses, unit, quotient, *case)?;
+    }
+    Ok(tell)
+}
+
+/// Whether the clauses of an operator over an integer and a divisor are true just where the unit has its value.
+fn divide(
+    alloc: Global,
+    log: &mut Log,
+    unit: TermId,
+    quotient: TermId,
+) -> Result<bool, ArithmeticStop> {
+    let clauses = clauses_of(alloc, log, Table::Units, DIVIDED, unit)?;
+    Ok(tell_all(log, &clauses, unit, quotient)?)
+}
+
+/// The same of a log of its own.
+fn divides(alloc: Global, unit: TermId, quotient: TermId) -> Result<bool, ArithmeticStop> {
+    let mut log = Log::new(alloc)?;
+    divide(alloc, &mut log, unit, quotient)
+}
+
+/// The number, or its negative.
+fn signed(number: Frac, negative: bool) -> Frac {
+    if negative { number.neg() } else { number }
+}
+
+#[test]
+fn test_quotients_and_remainders_are_bounded(rt: HostRuntime) -> Result<(), Fail> {
+    expect(divides(rt.alloc(), QUOTIENT, QUOTIENT)?, "by 3")?;
+    let by_less = divides(rt.alloc(), NEGATIVE_QUOTIENT, NEGATIVE_QUOTIENT)?;
+    expect(by_less, "by -3")?;
+    expect(divides(rt.alloc(), REMAINDER, QUOTIENT)?, "modulo 3")?;
+    let modulo_less = divides(rt.alloc(), NEGATIVE_REMAINDER, NEGATIVE_QUOTIENT)?;
+    expect(modulo_less, "modulo -3")
 }
 
 /// The size (1) of an integer (0).
@@ -247,7 +150,7 @@ fn are_sizes(log: &Log, clauses: &[Vec<Lit>]) -> Result<bool, Wide> {
 
 /// Fails unless the clauses of a size are so.
 fn bounds_a_size(alloc: Global, log: &mut Log) -> Result<(), Fail> {
-    let clauses = units_of(alloc, log, SIZE, 1)?;
+    let clauses = clauses_of(alloc, log, Table::Units, SIZE, 1)?;
     expect(are_sizes(log, &clauses)?, "the size")
 }
 
@@ -279,7 +182,7 @@ fn are_choices(log: &Log, clauses: &[Vec<Lit>]) -> Result<bool, Wide> {
 
 /// Fails unless the clauses of a choice are so.
 fn ties_a_choice(alloc: Global, log: &mut Log) -> Result<(), Fail> {
-    let clauses = units_of(alloc, log, CHOICE, 3)?;
+    let clauses = clauses_of(alloc, log, Table::Units, CHOICE, 3)?;
     expect(are_choices(log, &clauses)?, "the choice")
 }
 
@@ -305,7 +208,7 @@ fn are_roundings(log: &Log, clauses: &[Vec<Lit>]) -> Result<bool, Wide> {
 
 /// Fails unless the clauses of a rounded number are so.
 fn bounds_a_rounded_number(alloc: Global, log: &mut Log) -> Result<(), Fail> {
-    let clauses = units_of(alloc, log, ROUNDED, 1)?;
+    let clauses = clauses_of(alloc, log, Table::Units, ROUNDED, 1)?;
     expect(are_roundings(log, &clauses)?, "the rounded number")
 }
 
@@ -324,14 +227,8 @@ const WIDE: &[Term] = &[
     Over(Operator::Abs, &[3]),
 ];
 
-/// Fails unless that operation is named.
-fn is_named(alloc: Global, log: &mut Log) -> Result<(), Fail> {
-    let made = units_of(alloc, log, WIDE, 4);
-    expect(is_wide(&made, Op::Add, MOST as i128, 1), "the operation")
-}
-
 #[test]
 fn test_a_wide_unit_is_named(rt: HostRuntime) -> Result<(), Fail> {
-    let mut log = Log::new(rt.alloc())?;
-    is_named(rt.alloc(), &mut log)
+    let named = stops_at(rt.alloc(), Table::Units, WIDE, 4, Op::Add, 1)?;
+    expect(named, "the operation")
 }

@@ -82,13 +82,8 @@ pub(crate) fn halves(count: i64) -> Frac {
     }
 }
 
-/// Whether making clauses stopped at the operation of this kind over these integers.
-pub(crate) fn is_wide(
-    made: &Result<Vec<Vec<Lit>>, ArithmeticStop>,
-    op: Op,
-    a: i128,
-    b: i128,
-) -> bool {
+/// Whether something stopped at the operation of this kind over these integers.
+pub(crate) fn is_wide<T>(made: &Result<T, ArithmeticStop>, op: Op, a: i128, b: i128) -> bool {
     match made {
         Err(ArithmeticStop::Wide(wide)) => is_of(*wide, op, a, b),
         _ => false,
@@ -96,6 +91,6 @@ pub(crate) fn is_wide(
 }
 
 /// Whether the operation is of this kind, over these integers.
-pub(crate) fn is_of(wide: Wide, op: Op, a: i128, b: i128) -> bool {
+fn is_of(wide: Wide, op: Op, a: i128, b: i128) -> bool {
     wide.op == op && wide.a.num() == a && wide.b.num() == b
 }

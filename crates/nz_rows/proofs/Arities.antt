@@ -1,13 +1,26 @@
 -- Terms over other numbers of arguments than the tables have them have no rows.
-use Rattle.std.proofs.Common.{◌≡◌, ℕ, ◌≤◌, List, [], ◌∷◌, length, refl, arith}
+use Rattle.std.proofs.Common.{◌≡◌, ℕ, ◌≤◌, List, [], ◌∷◌, length, refl, ap, arith, ◌∙◌}
 use Rattle.nz_spec.specs.terms.Form.{Numbering}
+use Rattle.nz_spec.specs.terms.FormOf.{number_in}
 use Rattle.nz_spec.specs.clauses.Gates.{list_of}
 use Rattle.nz_spec.specs.clauses.Links.{links_over}
-use Rattle.nz_spec.specs.terms.Table.{terms_at}
-use Rattle.nz_spec.specs.terms.Term.{Sort, bool_sort, Term, less, at_most, equality, is_int, choice, integer_quotient, modulus, magnitude, to_int}
+use Rattle.nz_spec.specs.terms.Table.{Node, term_in, terms_at}
+use Rattle.nz_spec.specs.terms.Term.{Sort, bool_sort, Head, Term, Terms, apply, less, at_most, equality, is_int, choice, integer_quotient, modulus, magnitude, to_int}
 use Rattle.nz_spec.specs.clauses.Units.{units_over}
+use Rattle.nz_rows.specs.Rows.{link_rows, unit_rows}
 
-module _ (number : Numbering) (t : Term) (f : ℕ → Term) where
+module _ (ns : List Node) (ks : List ℕ) (h k : Head) (is : h ≡ k) where
+  abbrev kids : Terms
+  kids = terms_at (term_in ns) ks
+
+  -- the head is this one
+  pub no_links : ((t : Term) → links_over (number_in ns) t k (list_of kids) ≡ []) → link_rows ns (apply h kids) ≡ []
+  no_links none = ap (λ x. links_over (number_in ns) (apply h kids) x (list_of kids)) is ∙ none (apply h kids)
+
+  pub no_units : ((t : Term) → units_over (number_in ns) t k (list_of kids) ≡ []) → unit_rows ns (apply h kids) ≡ []
+  no_units none = ap (λ x. units_over (number_in ns) (apply h kids) x (list_of kids)) is ∙ none (apply h kids)
+
+module _ (number : Numbering) (f : ℕ → Term) (t : Term) where
   -- ---- Links
 
   pub links_of_many : (ks : List ℕ) → 3 ≤ length ks

@@ -1,5 +1,5 @@
 -- Rows as they are made of the computations of their literals, and rows one after another.
-use Rattle.std.proofs.Common.{◌≡◌, ◌<◌, List, [], ◌∷◌, ◌++◌, length, None, Result, Ok, Err, refl, sym, subst, ◌∙◌}
+use Rattle.std.proofs.Common.{◌≡◌, ◌<◌, List, [], ◌∷◌, ◌++◌, length, None, Result, Ok, Err, refl, ap, sym, subst, ◌∙◌}
 use Rattle.std.specs.Prelude.{⊤}
 use Rattle.std.specs.declared.vec.Vec.{Vec}
 use Rattle.std.specs.declared.alloc.Global.{Global}
@@ -60,9 +60,6 @@ module _ (ns : List Node) where
     pub front_stops : (cs : Row) (s : ArithmeticStop) → IsLiteral ns c (Err s) → ComesOfRow ns (c ∷ cs) (Err s)
     front_stops cs s h = stop_before c.operations (in_turn cs).operations s h
 
-    pub behind_stops : (cs : Row) (b : Bound) (s : ArithmeticStop) → IsLiteral ns c (Ok b) → ComesOfRow ns cs (Err s) → ComesOfRow ns (c ∷ cs) (Err s)
-    behind_stops cs b s h stop = stop_behind c.operations (in_turn cs).operations s h.0.fits stop
-
     pub pair_made : (l : TermLit) (b : Bound) (ys : List RowLiteral) → ys ≡ said.Term l ∷ said.Bound b ∷ [] → l.term < length ns → IsLiteral ns c (Ok b)
         → IsRowOf ns (at_once (literal_of ns l) ∷ c ∷ []) ys
     pair_made l b ys is within h = row_made (at_once (literal_of ns l) ∷ c ∷ []) (said.Term l ∷ said.Bound b ∷ []) ys is (term_made l within, ((h.0, h.1), tt))
@@ -72,10 +69,11 @@ module _ (ns : List Node) where
           → IsRowOf ns (c ∷ d ∷ []) ys
       both_made b e ys is h k = row_made (c ∷ d ∷ []) (said.Bound b ∷ said.Bound e ∷ []) ys is ((h.0, h.1), ((k.0, k.1), tt))
 
-      pub triple_made : (l : TermLit) (b e : Bound) (ys : List RowLiteral) → ys ≡ said.Term l ∷ said.Bound b ∷ said.Bound e ∷ [] → l.term < length ns → IsLiteral ns c (Ok b)
-          → IsLiteral ns d (Ok e) → IsRowOf ns (at_once (literal_of ns l) ∷ c ∷ d ∷ []) ys
-      triple_made l b e ys is within h k =
-          row_made (at_once (literal_of ns l) ∷ c ∷ d ∷ []) (said.Term l ∷ said.Bound b ∷ said.Bound e ∷ []) ys is (term_made l within, ((h.0, h.1), ((k.0, k.1), tt)))
+      pub triple_made : (l : TermLit) (b e : Bound) (xs ys zs : List RowLiteral) → xs ≡ said.Term l ∷ [] → ys ≡ xs ++ said.Bound b ∷ [] → zs ≡ ys ++ said.Bound e ∷ [] → l.term < length ns
+          → IsLiteral ns c (Ok b) → IsLiteral ns d (Ok e) → IsRowOf ns (at_once (literal_of ns l) ∷ c ∷ d ∷ []) zs
+      triple_made l b e xs ys zs first second third within h k =
+          row_made (at_once (literal_of ns l) ∷ c ∷ d ∷ []) (said.Term l ∷ said.Bound b ∷ said.Bound e ∷ []) zs
+          (third ∙ ap (λ (ls : List RowLiteral). ls ++ said.Bound e ∷ []) (second ∙ ap (λ (ls : List RowLiteral). ls ++ said.Bound b ∷ []) first)) (term_made l within, ((h.0, h.1), ((k.0, k.1), tt)))
 
   -- ---- Rows one after another
 
@@ -121,3 +119,7 @@ module _ (ns : List Node) where
   pub on_term : (l m : TermLit) → l ≡ m → (cs : Row) (r : Result (Vec RowLiteral Global) ArithmeticStop) → (l.term < length ns → ComesOfRow ns (at_once (literal_of ns l) ∷ cs) r) → m.term < length ns
       → ComesOfRow ns (at_once (literal_of ns m) ∷ cs) r
   on_term l m e cs r h = subst (λ (k : TermLit). k.term < length ns → ComesOfRow ns (at_once (literal_of ns k) ∷ cs) r) e h
+
+  -- what is no row
+  pub none_there : (rows : List Row) (r : Result (Vec (Vec RowLiteral Global) Global) ArithmeticStop) → rows ≡ [] → ComeOfRows ns [] r → ComeOfRows ns rows r
+  none_there rows r none = subst (λ rs. ComeOfRows ns rs r) (sym none)

@@ -11,6 +11,7 @@ ghost use Rattle.nz_spec.specs.terms.Table.{IsTable, Node, term_in};
 ghost use Rattle.nz_spec.specs.clauses.Units.{at_most_number, below_number, times_unit};
 ghost use Rattle.nz_lin.specs.Bounds.{IsLiteral};
 ghost use Rattle.nz_lin.specs.Comes.{IsFormed};
+ghost use Rattle.nz_rows.specs.Comparisons.{limit_of};
 ghost use Rattle.nz_rows.specs.Opposites.{AreOpposites};
 ghost use Rattle.nz_rows.specs.Rows.{IsLinearIn};
 
@@ -61,6 +62,7 @@ pub(crate) fn opposite(alloc: Global, form: Formed) -> Formed
 }
 
 /// The sum of two forms.
+#[tactic(auto, using(crate::proofs::Formed::both_first, crate::proofs::Formed::both_second, crate::proofs::Formed::both_formed))]
 pub(crate) fn plus(left: Formed, right: Formed) -> Formed
     ensures formed { (ns : List Node) (c d : Computation spec.Form) → IsTable ns → IsFormed ns c left → IsFormed ns d right → IsFormed ns (plus (number_in ns) c d) result }
 {
@@ -70,6 +72,7 @@ pub(crate) fn plus(left: Formed, right: Formed) -> Formed
 }
 
 /// The first form less the second.
+#[tactic(auto, using(crate::proofs::Formed::both_first, crate::proofs::Formed::both_second, crate::proofs::Formed::both_formed))]
 pub(crate) fn minus(left: Formed, right: Formed) -> Formed
     ensures formed { (ns : List Node) (c d : Computation spec.Form) → IsTable ns → IsFormed ns c left → IsFormed ns d right → IsFormed ns (minus (number_in ns) c d) result }
 {
@@ -97,6 +100,7 @@ pub(crate) struct Opposites {
 }
 
 /// What two forms differ by. It is made once: the one difference is the negation of the other.
+#[tactic(auto, using(crate::proofs::Formed::both_first, crate::proofs::Formed::both_second, crate::proofs::Formed::both_stop))]
 pub(crate) fn differences(
     alloc: Global,
     left: Formed,
@@ -147,7 +151,19 @@ pub(crate) fn below_zero(form: Formed) -> Bounded
     Ok(Bound::below_zero(form?))
 }
 
+/// The form is below 0, where the bound is strict, and else at most 0.
+pub(crate) fn limited(form: Formed, strict: bool) -> Bounded
+    ensures literal { (ns : List Node) (c : Computation spec.Form) → IsFormed ns c form → IsLiteral ns (turned_into (limit_of strict) c) result }
+{
+    if strict {
+        below_zero(form)
+    } else {
+        at_most_zero(form)
+    }
+}
+
 /// The form is at most a number.
+#[tactic(auto, using(crate::proofs::Operations::stop_before))]
 pub(crate) fn at_most_number(form: Formed, number: Frac) -> Bounded
     ensures literal { (ns : List Node) (c : Computation spec.Form) → IsFormed ns c form → IsLiteral ns (at_most_number number c) result }
 {
@@ -155,6 +171,7 @@ pub(crate) fn at_most_number(form: Formed, number: Frac) -> Bounded
 }
 
 /// The form is below a number.
+#[tactic(auto, using(crate::proofs::Operations::stop_before))]
 pub(crate) fn below_number(form: Formed, number: Frac) -> Bounded
     ensures literal { (ns : List Node) (c : Computation spec.Form) → IsFormed ns c form → IsLiteral ns (below_number number c) result }
 {

@@ -5,12 +5,12 @@ ghost use Rattle.nz_spec.specs.terms.Linear.{is_linear};
 ghost use Rattle.nz_spec.specs.clauses.Links.{links_over};
 ghost use Rattle.nz_spec.specs.terms.Order.{HasCompanions, IsInTable};
 ghost use Rattle.nz_spec.specs.terms.Table.{term_in, terms_at};
-ghost use Rattle.nz_spec.specs.terms.Term.{apply, at_most, is_int, less, to_int};
+ghost use Rattle.nz_spec.specs.terms.Term.{apply, is_int, to_int};
 ghost use Rattle.nz_term.specs.Heads.{head_of};
-ghost use Rattle.nz_rows.specs.Comparisons.{IsComparison, number_rows};
+ghost use Rattle.nz_rows.specs.Comparisons.{IsComparison, number_rows, order_rows};
 ghost use Rattle.nz_rows.specs.Rows.{ComeOfRows, IsLinearIn, link_rows};
 
-use crate::bounds::{Opposites, at_most_zero, below_zero, copied, term_differences};
+use crate::bounds::{Opposites, at_most_zero, below_zero, copied, limited, term_differences};
 use crate::rows::{RowLiteral, Rows, no_rows, pair, then_row, triple, two_rows};
 use crate::terms::{is_boolean, listed};
 use nz_term::{ArithmeticStop, Head, Operator, TermId, TermLit, Terms};
@@ -42,8 +42,8 @@ pub fn link_rows(
     ensures rows { ComeOfRows terms.now (link_rows terms.now (term_in terms.now term)) result }
 {
     match compared(terms, term) {
-        Some(Comparison::Less(left, right)) => less_rows(alloc, terms, term, left, right),
-        Some(Comparison::AtMost(left, right)) => at_most_rows(alloc, terms, term, left, right),
+        Some(Comparison::Less(left, right)) => order_rows(alloc, terms, term, left, right, true),
+        Some(Comparison::AtMost(left, right)) => order_rows(alloc, terms, term, left, right, false),
         Some(Comparison::Equal(left, right)) => number_rows(alloc, terms, term, left, right),
         Some(Comparison::IsInt(argument)) => is_int_rows(alloc, terms, term, argument),
         None => no_rows(alloc),
@@ -94,33 +94,29 @@ fn comparison_over(terms: &Terms, head: Head<'_>, kids: &[TermId]) -> Option<Com
     }
 }
 
-/// The rows of `left < right`.
-fn less_rows(alloc: Global, terms: &Terms, term: TermId, left: TermId, right: TermId) -> Rows
+/// The rows of `left < right` where it is strict, and else of `left <= right`.
+#[tactic(auto, using(crate::proofs::Operations::stop_before))]
+fn order_rows(
+    alloc: Global,
+    terms: &Terms,
+    term: TermId,
+    left: TermId,
+    right: TermId,
+    strict: bool,
+) -> Rows
     requires term { term < length terms.now }
     requires left { IsLinearIn terms.now left }
     requires right { IsLinearIn terms.now right }
-    ensures rows { ComeOfRows terms.now (links_over (number_in terms.now) (term_in terms.now term) less (term_in terms.now left ∷ term_in terms.now right ∷ [])) result }
+    ensures rows { ComeOfRows terms.now (order_rows (number_in terms.now) strict (term_in terms.now term) (term_in terms.now left) (term_in terms.now right)) result }
 {
     let Opposites { forward, backward } = term_differences(alloc, terms, left, right)?;
-    let below = pair(alloc, TermLit::fails(term), below_zero(Ok(forward)));
-    let above = pair(alloc, TermLit::holds(term), at_most_zero(Ok(backward)));
-    two_rows(alloc, below, above)
-}
-
-/// The rows of `left <= right`.
-fn at_most_rows(alloc: Global, terms: &Terms, term: TermId, left: TermId, right: TermId) -> Rows
-    requires term { term < length terms.now }
-    requires left { IsLinearIn terms.now left }
-    requires right { IsLinearIn terms.now right }
-    ensures rows { ComeOfRows terms.now (links_over (number_in terms.now) (term_in terms.now term) at_most (term_in terms.now left ∷ term_in terms.now right ∷ [])) result }
-{
-    let Opposites { forward, backward } = term_differences(alloc, terms, left, right)?;
-    let below = pair(alloc, TermLit::fails(term), at_most_zero(Ok(forward)));
-    let above = pair(alloc, TermLit::holds(term), below_zero(Ok(backward)));
+    let below = pair(alloc, TermLit::fails(term), limited(Ok(forward), strict));
+    let above = pair(alloc, TermLit::holds(term), limited(Ok(backward), !strict));
     two_rows(alloc, below, above)
 }
 
 /// The rows of an equation of numbers.
+#[tactic(auto, using(crate::proofs::Operations::stop_before))]
 fn number_rows(alloc: Global, terms: &Terms, term: TermId, left: TermId, right: TermId) -> Rows
     requires term { term < length terms.now }
     requires left { IsLinearIn terms.now left }
@@ -150,5 +146,5 @@ fn is_int_rows(alloc: Global, terms: &Terms, term: TermId, argument: TermId) -> 
     ensures rows { ComeOfRows terms.now (links_over (number_in terms.now) (term_in terms.now term) is_int (term_in terms.now argument ∷ [])) result }
 {
     let rounded = listed(terms, Operator::ToInt, &[argument])?;
-    at_most_rows(alloc, terms, term, argument, rounded)
+    order_rows(alloc, terms, term, argument, rounded, false)
 }

@@ -32,6 +32,7 @@ pub(crate) type Rows = Result<Vec<Vec<RowLiteral>>, ArithmeticStop>;
 // ---- One row
 
 /// The row of a bound.
+#[tactic(auto, using(crate::proofs::RowLists::alone_made, crate::proofs::RowLists::front_stops))]
 pub(crate) fn alone(alloc: Global, bound: Bounded) -> Row
     ensures row { (ns : List Node) (c : Computation spec.Literal) → IsLiteral ns c bound → ComesOfRow ns (c ∷ []) result }
 {
@@ -40,6 +41,7 @@ pub(crate) fn alone(alloc: Global, bound: Bounded) -> Row
 }
 
 /// The row of two bounds.
+#[tactic(auto, using(crate::proofs::Operations::stop_before, crate::proofs::Operations::stop_behind, crate::proofs::RowLists::both_made))]
 pub(crate) fn both(alloc: Global, first: Bounded, second: Bounded) -> Row
     ensures row { (ns : List Node) (c d : Computation spec.Literal) → IsLiteral ns c first → IsLiteral ns d second → ComesOfRow ns (c ∷ d ∷ []) result }
 {
@@ -50,6 +52,7 @@ pub(crate) fn both(alloc: Global, first: Bounded, second: Bounded) -> Row
 }
 
 /// The row of a literal on a term and a bound.
+#[tactic(auto, using(crate::proofs::RowLists::pair_made, crate::proofs::RowLists::front_stops))]
 pub(crate) fn pair(alloc: Global, literal: TermLit, bound: Bounded) -> Row
     ensures row { (ns : List Node) (c : Computation spec.Literal) → literal.term < length ns → IsLiteral ns c bound → ComesOfRow ns (at_once (literal_of ns literal) ∷ c ∷ []) result }
 {
@@ -59,6 +62,7 @@ pub(crate) fn pair(alloc: Global, literal: TermLit, bound: Bounded) -> Row
 }
 
 /// The row of a literal on a term and two bounds.
+#[tactic(auto, using(crate::proofs::Operations::stop_before, crate::proofs::Operations::stop_behind))]
 pub(crate) fn triple(alloc: Global, literal: TermLit, first: Bounded, second: Bounded) -> Row
     ensures row { (ns : List Node) (c d : Computation spec.Literal) → literal.term < length ns → IsLiteral ns c first → IsLiteral ns d second → ComesOfRow ns (at_once (literal_of ns literal) ∷ c ∷ d ∷ []) result }
 {
@@ -95,6 +99,7 @@ pub(crate) fn no_rows(alloc: Global) -> Rows
 }
 
 /// Rows, and then one more.
+#[tactic(auto, using(crate::proofs::RowLists::rows_joined))]
 pub(crate) fn then_row(rows: Rows, row: Row) -> Rows
     ensures rows { (ns : List Node) (given : List table.Row) (last : table.Row) → ComeOfRows ns given rows → ComesOfRow ns last row → ComeOfRows ns (given ++ last ∷ []) result }
 {
@@ -112,6 +117,7 @@ pub(crate) fn two_rows(alloc: Global, first: Row, second: Row) -> Rows
 }
 
 /// Rows, and then others.
+#[tactic(auto, using(crate::proofs::RowLists::second_stops, crate::proofs::RowLists::rows_joined))]
 pub(crate) fn joined(rows: Rows, others: Rows) -> Rows
     ensures rows { (ns : List Node) (given more : List table.Row) → ComeOfRows ns given rows → ComeOfRows ns more others → ComeOfRows ns (given ++ more) result }
 {

@@ -40,6 +40,7 @@ pub(crate) enum Meaning {
 /// # Errors
 ///
 /// `Wide` with the first operation of the rows' forms that leaves the numbers; `Memory`.
+#[tactic(auto, using(crate::proofs::LinearArguments::first_linear, crate::proofs::LinearArguments::left_linear, crate::proofs::LinearArguments::right_linear))]
 pub fn unit_rows(
     alloc: Global,
     terms: &Terms,
@@ -139,6 +140,7 @@ fn choice_rows(
 }
 
 /// The rows by which a literal is true, or two numbers are one.
+#[tactic(auto, using(crate::proofs::Operations::stop_before))]
 fn equal_rows(alloc: Global, terms: &Terms, literal: TermLit, left: TermId, right: TermId) -> Rows
     requires literal { literal.term < length terms.now }
     requires left { IsLinearIn terms.now left }

@@ -69,7 +69,7 @@ fn is_answered(
     status: u8,
     kept: usize,
     replies: &[u8],
-) -> Result<(), Memory> {
+) -> Result<(), Fail> {
     let mut out = sink_with(alloc, ROOM)?;
     let ended = run_pieces(alloc, script, piece, &mut out)?;
     has_ended(rt, &ended, status, kept);
@@ -80,22 +80,19 @@ fn is_answered(
 #[test]
 fn test_pieces_of_any_length_are_answered_alike(rt: HostRuntime) -> Result<(), Fail> {
     is_answered(&rt, rt.alloc(), SCRIPT, 43, DONE, 5, REPLIES)?;
-    is_answered(&rt, rt.alloc(), SCRIPT, 1, DONE, 5, REPLIES)?;
-    Ok(())
+    is_answered(&rt, rt.alloc(), SCRIPT, 1, DONE, 5, REPLIES)
 }
 
 #[test]
 fn test_no_bytes_have_no_reply(rt: HostRuntime) -> Result<(), Fail> {
-    is_answered(&rt, rt.alloc(), b"", 43, DONE, 0, b"")?;
-    Ok(())
+    is_answered(&rt, rt.alloc(), b"", 43, DONE, 0, b"")
 }
 
 #[test]
 fn test_an_open_command_is_an_error(rt: HostRuntime) -> Result<(), Fail> {
     let script = b"(check-sat) (check-sat";
     let wanted = b"sat\n(error \"10 incomplete command\")\n";
-    is_answered(&rt, rt.alloc(), script, 43, ERROR, 2, wanted)?;
-    Ok(())
+    is_answered(&rt, rt.alloc(), script, 43, ERROR, 2, wanted)
 }
 
 fn faulty_source(alloc: Global, script: &[u8], fails: &[u64]) -> Result<MemSource, Memory> {
@@ -130,14 +127,11 @@ fn test_a_write_that_fails_ends_the_run(rt: HostRuntime) -> Result<(), Fail> {
 }
 
 /// A run by these words over an empty script has this status.
-fn ends_with(rt: &impl Abort, alloc: Global, words: &[&str], status: u8) -> Result<(), Memory> {
+fn ends_with(rt: &impl Abort, alloc: Global, words: &[&str], status: u8) -> Result<(), Fail> {
     let mut input = source_of(alloc, b"", 43)?;
     let mut out = sink_with(alloc, ROOM)?;
-    is(
-        rt,
-        run_words(alloc, words, &mut input, &mut out)?.status,
-        status,
-    );
+    let ended = run_words(alloc, words, &mut input, &mut out)?;
+    is(rt, ended.status, status);
     Ok(())
 }
 
@@ -148,8 +142,7 @@ fn test_other_words_are_not_taken(rt: HostRuntime) -> Result<(), Fail> {
     ends_with(&rt, alloc, &["nuz", "solve", "--work", "x"], USAGE)?;
     ends_with(&rt, alloc, &["nuz", "solve", "--work", "1000001"], USAGE)?;
     ends_with(&rt, alloc, &["nuz", "solve", "--help"], USAGE)?;
-    ends_with(&rt, alloc, &["nuz", "solve", "--work=1000000"], DONE)?;
-    Ok(())
+    ends_with(&rt, alloc, &["nuz", "solve", "--work=1000000"], DONE)
 }
 
 const UNDECIDED: &[u8] = b"(declare-const p Bool)(declare-const q Bool)(assert (or p q))
@@ -163,7 +156,7 @@ fn writes_within(
     script: &[u8],
     count: usize,
     wanted: &[u8],
-) -> Result<(), Memory> {
+) -> Result<(), Fail> {
     let mut input = source_of(alloc, script, 43)?;
     let mut out = sink_with(alloc, ROOM)?;
     let words = &["nuz", "solve", "--work", units];
@@ -176,8 +169,7 @@ fn writes_within(
 #[test]
 fn test_a_check_uses_no_more_units_than_the_words_allow(rt: HostRuntime) -> Result<(), Fail> {
     let wanted = b"unknown\n(:reason-unknown (spent 0))\n";
-    writes_within(&rt, rt.alloc(), "0", UNDECIDED, 5, wanted)?;
-    Ok(())
+    writes_within(&rt, rt.alloc(), "0", UNDECIDED, 5, wanted)
 }
 
 // Each of the bounds that are excluded is false by propagation alone, also where a level between two of them was popped.
@@ -187,8 +179,7 @@ const EXCLUDED: &[u8] = b"(declare-const x Real)(assert (or (< x 1.0) (< x 2.0))
 
 #[test]
 fn test_a_bound_excludes_others_of_its_form_without_a_unit(rt: HostRuntime) -> Result<(), Fail> {
-    writes_within(&rt, rt.alloc(), "0", EXCLUDED, 9, b"unsat\nunsat\n")?;
-    Ok(())
+    writes_within(&rt, rt.alloc(), "0", EXCLUDED, 9, b"unsat\nunsat\n")
 }
 
 // Both sums stand at their bounds from the start, so no exchange is left; nothing is decided by the search.
@@ -197,8 +188,7 @@ const CHAIN: &[u8] = b"(declare-const x Real)(declare-const y Real)(declare-cons
 
 #[test]
 fn test_a_conjunction_takes_no_unit(rt: HostRuntime) -> Result<(), Fail> {
-    writes_within(&rt, rt.alloc(), "0", CHAIN, 6, b"sat\n")?;
-    Ok(())
+    writes_within(&rt, rt.alloc(), "0", CHAIN, 6, b"sat\n")
 }
 
 // The second sum joins behind the first check, and is broken there.
@@ -208,6 +198,5 @@ const GROWING_CHAIN: &[u8] = b"(declare-const x Real)(declare-const y Real)(decl
 #[test]
 fn test_an_exchange_takes_a_unit(rt: HostRuntime) -> Result<(), Fail> {
     writes_within(&rt, rt.alloc(), "0", GROWING_CHAIN, 7, b"sat\nunknown\n")?;
-    writes_within(&rt, rt.alloc(), "1", GROWING_CHAIN, 7, b"sat\nsat\n")?;
-    Ok(())
+    writes_within(&rt, rt.alloc(), "1", GROWING_CHAIN, 7, b"sat\nsat\n")
 }

@@ -113,20 +113,30 @@ fn run_engine(alloc: Global, script: &[u8], sink: &mut PlainSink) -> Result<Outc
     run_script(alloc, Engine::new(alloc)?, UNITS, script, sink)
 }
 
-/// A script in one piece, how it ends, and what is written.
+/// A script in one piece, and what is written.
 struct ScriptCase {
     script: &'static [u8],
-    ended: Fed,
     replies: &'static [u8],
 }
 
-/// The script is answered so, where a check may use so many units.
-fn tells(rt: &impl Abort, alloc: Global, units: u64, told: &ScriptCase) -> Result<(), Memory> {
+/// The script is answered so, and ends so, where a check may use so many units.
+fn ends_so(
+    rt: &impl Abort,
+    alloc: Global,
+    units: u64,
+    told: &ScriptCase,
+    wanted: Fed,
+) -> Result<(), Fail> {
     let mut sink = sink_with(alloc, ROOM)?;
     let ended = run_script(alloc, Engine::new(alloc)?, units, told.script, &mut sink)?;
-    is(rt, ended.ended, told.ended);
+    is(rt, ended.ended, wanted);
     sink_is(rt, &sink, told.replies);
     Ok(())
+}
+
+/// The same of one after which the session goes on.
+fn tells(rt: &impl Abort, alloc: Global, units: u64, told: &ScriptCase) -> Result<(), Fail> {
+    ends_so(rt, alloc, units, told, Fed::Going)
 }
 
 /// Lists that nest one deeper than they may, and a command that stays open.
@@ -210,35 +220,30 @@ const REASON: ScriptCase = ScriptCase {
     script: b"(declare-const a Bool)(declare-const b Bool)(assert (or a b))
         (check-sat)(get-info :reason-unknown)(assert x)(get-info :reason-unknown)
         (assert b)(get-info :reason-unknown)",
-    ended: Fed::Going,
     replies: b"unknown\n(:reason-unknown (spent 0))\n(error \"2 unknown symbol\")\n\
         (:reason-unknown (spent 0))\n(error \"7 no answer to show\")\n",
 };
 
 #[test]
 fn test_a_reason_is_shown_until_an_assertion_is_accepted(rt: HostRuntime) -> Result<(), Fail> {
-    tells(&rt, rt.alloc(), 0, &REASON)?;
-    Ok(())
+    tells(&rt, rt.alloc(), 0, &REASON)
 }
 
 const ONLY_THE_LAST: ScriptCase = ScriptCase {
     script: b"(get-model)(get-info :reason-unknown)(check-sat)(get-info :reason-unknown)
         (assert false)(check-sat)(get-model)",
-    ended: Fed::Going,
     replies: b"(error \"7 no answer to show\")\n(error \"7 no answer to show\")\nsat\n\
         (error \"7 no answer to show\")\nunsat\n(error \"7 no answer to show\")\n",
 };
 
 #[test]
 fn test_only_what_was_answered_last_is_shown(rt: HostRuntime) -> Result<(), Fail> {
-    tells(&rt, rt.alloc(), UNITS, &ONLY_THE_LAST)?;
-    Ok(())
+    tells(&rt, rt.alloc(), UNITS, &ONLY_THE_LAST)
 }
 
 const REFUSALS: ScriptCase = ScriptCase {
     script: b"(declare-const p Bool)(assert q)(assert (not p p))
         (set-info :size 170141183460469231731687303715884105728)(get-model)(declare-const p Bool)",
-    ended: Fed::Going,
     replies: b"(error \"2 unknown symbol\")\n(error \"3 sort\")\n\
         (error \"5 number too wide\")\n(error \"7 no answer to show\")\n\
         (error \"9 already declared\")\n",
@@ -246,80 +251,68 @@ const REFUSALS: ScriptCase = ScriptCase {
 
 #[test]
 fn test_a_refusal_is_told_by_its_number(rt: HostRuntime) -> Result<(), Fail> {
-    tells(&rt, rt.alloc(), UNITS, &REFUSALS)?;
-    Ok(())
+    tells(&rt, rt.alloc(), UNITS, &REFUSALS)
 }
 
 const VALUES: ScriptCase = ScriptCase {
     script: b"(get-value (true))(declare-const p Bool)(assert p)(check-sat)
         (get-value (p (ite p 1 2) (/ 1 2)))",
-    ended: Fed::Going,
     replies: b"(error \"7 no answer to show\")\nsat\n\
         ((p true) ((ite p 1 2) 1) ((/ 1 2) (/ 1.0 2.0)))\n",
 };
 
 #[test]
 fn test_values_are_told_of_terms_over_numbers(rt: HostRuntime) -> Result<(), Fail> {
-    tells(&rt, rt.alloc(), UNITS, &VALUES)?;
-    Ok(())
+    tells(&rt, rt.alloc(), UNITS, &VALUES)
 }
 
 const WIDE: ScriptCase = ScriptCase {
     script: b"(check-sat)(get-value ((+ 170141183460469231731687303715884105727 1)))",
-    ended: Fed::Going,
     replies: b"sat\n(((+ 170141183460469231731687303715884105727 1) \
         (wide add 170141183460469231731687303715884105727 1)))\n",
 };
 
 #[test]
 fn test_an_operation_that_leaves_the_numbers_is_told(rt: HostRuntime) -> Result<(), Fail> {
-    tells(&rt, rt.alloc(), UNITS, &WIDE)?;
-    Ok(())
+    tells(&rt, rt.alloc(), UNITS, &WIDE)
 }
 
 const SUCCESS: ScriptCase = ScriptCase {
     script: b"(declare-const p Bool)(set-option :print-success true)(assert p)
         (set-info :status sat)(set-option :print-success false)(assert p)(exit)",
-    ended: Fed::Exited,
     replies: b"success\nsuccess\nsuccess\n",
 };
 
 #[test]
 fn test_success_is_told_from_the_option_on(rt: HostRuntime) -> Result<(), Fail> {
-    tells(&rt, rt.alloc(), UNITS, &SUCCESS)?;
-    Ok(())
+    ends_so(&rt, rt.alloc(), UNITS, &SUCCESS, Fed::Exited)
 }
 
 const INFOS: ScriptCase = ScriptCase {
     script: b"(echo \"say \"\"no\"\"\")(get-info :name)(get-info :assertion-stack-levels)",
-    ended: Fed::Going,
     replies: b"\"say \"\"no\"\"\"\n(:name \"nuz\")\n(:assertion-stack-levels 0)\n",
 };
 
 #[test]
 fn test_texts_and_infos_are_told(rt: HostRuntime) -> Result<(), Fail> {
-    tells(&rt, rt.alloc(), UNITS, &INFOS)?;
-    Ok(())
+    tells(&rt, rt.alloc(), UNITS, &INFOS)
 }
 
 const REALS: ScriptCase = ScriptCase {
     script: b"(declare-const a Real)(declare-const b Real)(assert (< a b))(assert (<= (+ a b) 3))
         (assert (= a 1))(check-sat)(get-value ((* 2 a)))(assert (>= b 2.5))(check-sat)",
-    ended: Fed::Going,
     replies: b"sat\n(((* 2 a) 2.0))\nunsat\n",
 };
 
 #[test]
 fn test_reals_are_checked(rt: HostRuntime) -> Result<(), Fail> {
-    tells(&rt, rt.alloc(), UNITS, &REALS)?;
-    Ok(())
+    tells(&rt, rt.alloc(), UNITS, &REALS)
 }
 
 const STOPPED: ScriptCase = ScriptCase {
     script: b"(declare-const x Real)
         (assert (< x (+ 170141183460469231731687303715884105727 1.0)))
         (check-sat)(get-info :reason-unknown)(get-model)",
-    ended: Fed::Going,
     replies: b"unknown\n\
         (:reason-unknown (wide add 170141183460469231731687303715884105727 1))\n\
         (error \"7 no answer to show\")\n",
@@ -327,88 +320,75 @@ const STOPPED: ScriptCase = ScriptCase {
 
 #[test]
 fn test_a_check_that_stops_is_told_with_the_operation(rt: HostRuntime) -> Result<(), Fail> {
-    tells(&rt, rt.alloc(), UNITS, &STOPPED)?;
-    Ok(())
+    tells(&rt, rt.alloc(), UNITS, &STOPPED)
 }
 
 const INTEGERS: ScriptCase = ScriptCase {
     script: b"(define-fun two () Int 2)(check-sat)(get-value ((+ two two)))
         (declare-const x Int)(assert (= (* x x) two))(check-sat)",
-    ended: Fed::Going,
     replies: b"sat\n(((+ two two) 4))\n(error \"4 not linear\")\nunsupported\n",
 };
 
 #[test]
 fn test_integers_are_defined_and_not_checked(rt: HostRuntime) -> Result<(), Fail> {
-    tells(&rt, rt.alloc(), UNITS, &INTEGERS)?;
-    Ok(())
+    tells(&rt, rt.alloc(), UNITS, &INTEGERS)
 }
 
 const ASSUMED: ScriptCase = ScriptCase {
     script: b"(declare-const p Bool)(declare-const q Bool)(assert (or p q))
         (check-sat-assuming ((not p)))(get-value (p q))(check-sat-assuming ((not p) (not q)))
         (check-sat-assuming (p (not p)))(get-model)(check-sat)",
-    ended: Fed::Going,
     replies: b"sat\n((p false) (q true))\nunsat\nunsat\n\
         (error \"7 no answer to show\")\nsat\n",
 };
 
 #[test]
 fn test_what_is_assumed_is_for_one_check(rt: HostRuntime) -> Result<(), Fail> {
-    tells(&rt, rt.alloc(), UNITS, &ASSUMED)?;
-    Ok(())
+    tells(&rt, rt.alloc(), UNITS, &ASSUMED)
 }
 
 const POPPED: ScriptCase = ScriptCase {
     script: b"(declare-const p Bool)(push)(assert p)(check-sat)(push)(assert (not p))
         (check-sat)(pop)(check-sat)(pop)(get-model)(assert (not p))(check-sat)(get-value (p))",
-    ended: Fed::Going,
     replies: b"sat\nunsat\nsat\n(error \"7 no answer to show\")\nsat\n((p false))\n",
 };
 
 #[test]
 fn test_what_is_asserted_goes_with_its_level(rt: HostRuntime) -> Result<(), Fail> {
-    tells(&rt, rt.alloc(), UNITS, &POPPED)?;
-    Ok(())
+    tells(&rt, rt.alloc(), UNITS, &POPPED)
 }
 
 const DECLARED_AGAIN: ScriptCase = ScriptCase {
     script: b"(push)(declare-const p Bool)(assert p)(check-sat)(pop)(assert p)
         (declare-const p Real)(assert (< p 1))(check-sat)(assert (> p 1))(check-sat)(pop)",
-    ended: Fed::Going,
     replies: b"sat\n(error \"2 unknown symbol\")\nsat\nunsat\n(error \"8 pop below zero\")\n",
 };
 
 #[test]
 fn test_a_name_of_a_popped_level_is_free(rt: HostRuntime) -> Result<(), Fail> {
-    tells(&rt, rt.alloc(), UNITS, &DECLARED_AGAIN)?;
-    Ok(())
+    tells(&rt, rt.alloc(), UNITS, &DECLARED_AGAIN)
 }
 
 const POPPED_UNDECIDED: ScriptCase = ScriptCase {
     script: b"(declare-const a Bool)(declare-const b Bool)(push)(assert (or a b))(check-sat)
         (get-info :reason-unknown)(pop)(get-info :reason-unknown)(check-sat)",
-    ended: Fed::Going,
     replies: b"unknown\n(:reason-unknown (spent 0))\n(error \"7 no answer to show\")\nsat\n",
 };
 
 #[test]
 fn test_a_pop_ends_an_answer_that_none_was_found_for(rt: HostRuntime) -> Result<(), Fail> {
-    tells(&rt, rt.alloc(), 0, &POPPED_UNDECIDED)?;
-    Ok(())
+    tells(&rt, rt.alloc(), 0, &POPPED_UNDECIDED)
 }
 
 const RESETS: ScriptCase = ScriptCase {
     script: b"(set-option :print-success true)(declare-const p Bool)(push 3)(assert false)
         (check-sat)(reset-assertions)(get-info :assertion-stack-levels)(assert p)(check-sat)
         (reset)(declare-const p Bool)(assert p)(check-sat)",
-    ended: Fed::Going,
     replies: b"success\nsuccess\nsuccess\nsuccess\nunsat\nsuccess\n\
         (:assertion-stack-levels 0)\n(error \"2 unknown symbol\")\nsat\nsat\n",
 };
 
 #[test]
 fn test_resets_forget_what_is_live(rt: HostRuntime) -> Result<(), Fail> {
-    tells(&rt, rt.alloc(), UNITS, &RESETS)?;
-    Ok(())
+    tells(&rt, rt.alloc(), UNITS, &RESETS)
 }

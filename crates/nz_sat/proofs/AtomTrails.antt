@@ -23,10 +23,9 @@ use Rattle.nz_sat.specs.Clauses.{IsImplied, IsReasonOf}
 use Rattle.nz_sat.specs.Conflicts.{is_marked}
 use Rattle.nz_sat.specs.Theories.{AreLast, IsTrailOn, is_bound, is_bound_at, told_on}
 use Rattle.nz_sat.specs.Trails.{DropsLast, EachBehind, GoesOn, IsNext, IsTrail, TrailState, assigned, below, depth, with_entry}
-use Rattle.nz_sat.proofs.CutTrails.{below_all, below_join, below_none}
 use Rattle.nz_sat.proofs.LearnedClauses.{all_from}
-use Rattle.nz_sat.proofs.Levels.{below_front}
-use Rattle.nz_sat.proofs.AtomPreservation.{same_at}
+use Rattle.nz_sat.proofs.Levels.{below_all, below_front, below_join, below_none}
+use Rattle.nz_sat.proofs.LogGrowth.{same_at}
 use Rattle.nz_sat.proofs.TrailEntries.{each_front, each_push, each_weaker, level_within, order_put}
 use Rattle.nz_sat.proofs.VisitedClauses.{goes_depth}
 

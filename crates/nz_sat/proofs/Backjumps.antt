@@ -34,14 +34,13 @@ use Rattle.nz_sat.specs.Theories.{AreLast, EndsLegally, IsTrailOn, TellsTrail, T
 use Rattle.nz_sat.specs.Trails.{EachBehind, IsFalseOn, IsFreeOn, IsFrontOf, IsNext, IsTrail, IsTrueOn, TrailState, assigned, below, depth, implied, is_decision, literals_on}
 use Rattle.nz_sat.proofs.SearchSteps.{StaysAt, cut_stands, told_taken}
 use Rattle.nz_sat.proofs.Clausal.{free_missing, open_grows, truth_found, truth_missing}
-use Rattle.nz_sat.proofs.CutTrails.{above_level, below_join}
 use Rattle.nz_sat.proofs.TrailGrowth.{held_live}
 use Rattle.nz_sat.proofs.LearnedClauses.{all_from}
-use Rattle.nz_sat.proofs.Levels.{below_decided, below_depth, below_false, below_free, below_front, below_twice}
+use Rattle.nz_sat.proofs.Levels.{above_level, below_decided, below_depth, below_false, below_free, below_front, below_join, below_twice}
 use Rattle.nz_sat.proofs.SearchLines.{search_more}
 use Rattle.nz_sat.proofs.LearnedLines as learned_lines
 use Rattle.nz_sat.proofs.LearnedLines.{IsTaught, all, decisions_on, front_depth, learned_named, learned_within, line_legal, was_learned, was_told}
-use Rattle.nz_sat.proofs.AtomPreservation.{literals_stay, names_stay}
+use Rattle.nz_sat.proofs.LogGrowth.{literals_stay, names_stay}
 use Rattle.nz_sat.proofs.ToldTrails.{entry_from, stands_so, told_among}
 use Rattle.nz_sat.proofs.AtomTrails.{cut_short, cut_told, last_push, literals_kept, names_some, reason_kept, trail_cut, trail_grown}
 use Rattle.nz_sat.proofs.TrailEntries.{assigned_one, each_front, each_push, each_weaker}

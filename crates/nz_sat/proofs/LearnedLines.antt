@@ -1,9 +1,7 @@
 -- What a search knows of a learned clause, and that its line may follow.
-use Rattle.std.proofs.Common.{◌≡◌, ℕ, ◌-◌, ◌<◌, ◌≤◌, ◌++◌, Bool, not, List, [], length, map, refl, sym, ap, subst, ◌∙◌, arith, inl, inr}
+use Rattle.std.proofs.Common.{◌≡◌, ℕ, ◌-◌, ◌<◌, ◌≤◌, ◌++◌, Bool, not, List, [], length, map, refl, sym, ap, subst, ◌∙◌, arith, inl, inr, Result, Err}
 use Rattle.std.specs.Prelude.{⊤, All, Contains, IsTrue, filter}
 use Rattle.std.specs.List.{AllByRecursion}
-use Rattle.std.specs.declared.result.Result.{Result}
-use Rattle.std.specs.declared.result.Result.TheVariants.{Err}
 use Rattle.std.proofs.lemmas.List.{length-append, length-map, map-append}
 use Rattle.std.proofs.lemmas.List.Elements.{All-contains, All-weaker, filter-append}
 use Rattle.std.proofs.lemmas.List.Sums.{length-filter}
@@ -37,14 +35,12 @@ use Rattle.nz_sat.specs.Sats.{AreOn, HoldsMore, IsAsked}
 use Rattle.nz_sat.specs.Searching.{Advances, IsConflict, IsSearch, StaysInOrder, WasNoted, WereOpen, ids, learned_line}
 use Rattle.nz_sat.specs.Theories.{EndsLegally, Keeps, TellsTrail, TheoryState, told_lits}
 use Rattle.nz_sat.specs.Trails.{EachBehind, IsFreeOn, IsFrontOf, IsNext, below, depth, is_decision, level_on}
-use Rattle.nz_sat.proofs.LogGrowth.{on_kept, order_over}
-use Rattle.nz_sat.proofs.DeadEnds.{clause_true, literals_numbered, recursion_left, task_falsified}
+use Rattle.nz_sat.proofs.LogGrowth.{atoms_stay, names_stay, on_kept, order_over}
+use Rattle.nz_sat.proofs.DeadEnds.{clause_true, literals_numbered, numbers_once, numbers_within, open_differs, recursion_left, task_falsified}
 use Rattle.nz_sat.proofs.LearnedClauses.{all_from}
 use Rattle.nz_sat.proofs.Levels.{below_front, below_true, free_high}
 use Rattle.nz_sat.proofs.SearchLines.{adds_line, line_lead}
 use Rattle.nz_sat.proofs.Marks.{false_entry, level_found, not_itself}
-use Rattle.nz_sat.proofs.Newness.{numbers_once, numbers_within, open_differs}
-use Rattle.nz_sat.proofs.AtomPreservation.{atoms_stay, names_stay}
 use Rattle.nz_sat.proofs.AtomTrails.{names_some}
 use Rattle.nz_sat.proofs.TrailEntries.{assigned_place, level_within}
 

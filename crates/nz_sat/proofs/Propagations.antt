@@ -1,6 +1,5 @@
 -- What a search that follows its clauses carries on.
-use Rattle.std.proofs.Common.{◌≡◌, ℕ, ◌≤◌, Bool, if◌then◌else◌, List, [], ◌∷◌, ◌++◌, length, map, refl, sym, ap, subst, ◌∙◌, arith}
-use Rattle.std.specs.Prelude.{All, IsSome, filter}
+use Rattle.std.proofs.Common.{◌≡◌, ℕ, ◌≤◌, Bool, if◌then◌else◌, List, [], ◌∷◌, ◌++◌, length, map, refl, sym, ap, subst, ◌∙◌, arith, All, IsSome, filter}
 use Rattle.std.proofs.lemmas.List.{append-nil, take-append-le}
 use Rattle.std.proofs.lemmas.List.Elements.{All-head, All-tail, filter-append}
 use Rattle.nz_spec.specs.search.Work.{WorkList}
@@ -14,7 +13,7 @@ use Rattle.nz_sat.specs.Numbers.{numbered}
 use Rattle.nz_sat.specs.Searching.{Carries, KeepsFirst}
 use Rattle.nz_sat.specs.Theories.{TellsTrail, bounds_on, told_literal, told_on}
 use Rattle.nz_sat.proofs.Clausal.{truth_found}
-use Rattle.nz_sat.proofs.CutTrails.{below_join}
+use Rattle.nz_sat.proofs.Levels.{below_join}
 use Rattle.nz_sat.proofs.VisitedClauses.{no_decision}
 
 -- ---- The trail goes on

@@ -1,8 +1,5 @@
 -- What the steps of a search keep, one after another.
-use Rattle.std.proofs.Common.{◌≡◌, ℕ, ◌≤◌, Bool, List, [], ◌++◌, length, min, take, drop, map, Option, inl, inr, sym, ap, subst, ◌∙◌, arith, append_assoc}
-use Rattle.std.specs.Prelude.{All, filter}
-use Rattle.std.specs.declared.result.Result.{Result}
-use Rattle.std.specs.declared.result.Result.TheVariants.{Ok, Err}
+use Rattle.std.proofs.Common.{◌≡◌, ℕ, ◌≤◌, Bool, List, [], ◌++◌, length, min, take, drop, map, Option, inl, inr, sym, ap, subst, ◌∙◌, arith, append_assoc, All, filter, Result, Ok, Err}
 use Rattle.std.proofs.Math.Nat.{min-eq_left, min-eq_right}
 use Rattle.std.proofs.lemmas.Bool.Decides.{leb_tells}
 use Rattle.std.proofs.lemmas.List.{append-nil, length-map, map-append, take-append-drop, take-append-le, take-map, take-take, take_all}
@@ -34,9 +31,8 @@ use Rattle.nz_sat.specs.Sats.{AreHeld, AreOn, HoldsMore, IsAsked}
 use Rattle.nz_sat.specs.Searching.{Advances, IsSearch, StaysInOrder, Steps}
 use Rattle.nz_sat.specs.Theories.{AddsLines, EndsLegally, IsOfSearch, Keeps, StandsAt, TellsTrail, TheoryState, told_lits, told_on}
 use Rattle.nz_sat.specs.Trails.{IsFrontOf}
-use Rattle.nz_sat.proofs.LogGrowth.{asked_on, grows_far, held_on, on_kept}
+use Rattle.nz_sat.proofs.LogGrowth.{asked_on, atoms_stay, grows_far, held_on, on_kept}
 use Rattle.nz_sat.proofs.SearchLines.{adds_far, adds_none}
-use Rattle.nz_sat.proofs.AtomPreservation.{atoms_stay}
 use Rattle.nz_sat.proofs.ToldTrails.{keeps_far, keeps_none, stands_by}
 
 -- ---- Where a list leads

@@ -1,8 +1,7 @@
 -- What a search knows where it begins, and what its end tells its callers.
-use Rattle.std.proofs.Common.{◌≡◌, ℕ, zero, suc, ◌≤◌, Bool, true, if◌then◌else◌, List, [], ◌∷◌, ◌++◌, length, take, map, get_or, Option, Some, None, refl, sym, ap, subst, ◌∙◌, arith, append_assoc}
+use Rattle.std.proofs.Common.{◌≡◌, ℕ, zero, suc, ◌≤◌, Bool, true, if◌then◌else◌, List, [], ◌∷◌, ◌++◌, length, take, map, get_or, Option, Some, None, refl, sym, ap, subst, ◌∙◌, arith, append_assoc, Ok}
 use Rattle.std.specs.Prelude.{All, Contains, IsSome, filter, option_map, slice_get}
 use Rattle.std.specs.declared.result.Result.{Result}
-use Rattle.std.specs.declared.result.Result.TheVariants.{Ok}
 use Rattle.std.proofs.lemmas.List.{append-nil, take_all}
 use Rattle.std.proofs.lemmas.List.Elements.{All-contains, All-map, All-nil, All-same, Contains-get_or}
 use Rattle.std.proofs.lemmas.List.Sums.{sum_by-cons}
@@ -38,7 +37,7 @@ use Rattle.nz_sat.proofs.TrailGrowth.{held_has}
 use Rattle.nz_sat.proofs.LearnedClauses.{all_from}
 use Rattle.nz_sat.proofs.Levels.{below_true}
 use Rattle.nz_sat.proofs.LearnedLines.{held_named}
-use Rattle.nz_sat.proofs.AtomPreservation.{said}
+use Rattle.nz_sat.proofs.LogGrowth.{said}
 use Rattle.nz_sat.proofs.ToldTrails.{entry_from, front_has, stands_by, told_among, told_entry}
 use Rattle.nz_sat.proofs.AtomTrails.{bound_marked, marked_bound}
 use Rattle.nz_sat.proofs.TrailEntries.{assigned_at, assigned_place}

@@ -41,14 +41,11 @@ use Rattle.nz_sat.specs.Numbers.{IsAtomAt, atom_literal, number_of, numbered}
 use Rattle.nz_sat.specs.Sats.{IsAsked}
 use Rattle.nz_sat.specs.Theories.{Consults, EndsLegally, IsTrailOn, Keeps, StandsAt, StaysSoundOver, TellsOne, TellsTrail, TheoryState, bounds_on, told_line, told_literal, told_lits, told_on}
 use Rattle.nz_sat.specs.Trails.{EachBehind, IsNext, TrailState, assigned, depth, is_decision, literals_on}
-use Rattle.nz_sat.proofs.LogGrowth.{asked_on, grows_far, grows_none, order_over}
+use Rattle.nz_sat.proofs.LogGrowth.{asked_on, grows_far, grows_none, lit_stays, names_stay, order_over}
 use Rattle.nz_sat.proofs.Chains.{filter_from}
-use Rattle.nz_sat.proofs.DeadEnds.{literal_numbered, number_at, task_entry}
+use Rattle.nz_sat.proofs.DeadEnds.{literal_numbered, map_from, number_at, same_atom, task_entry}
 use Rattle.nz_sat.proofs.LearnedClauses.{all_from}
-use Rattle.nz_sat.proofs.SearchLines.{adds_far, adds_none, adds_pivots, search_more}
-use Rattle.nz_sat.proofs.Newness.{map_from, same_atom}
-use Rattle.nz_sat.proofs.AtomPreservation.{lit_stays, names_stay}
-use Rattle.nz_sat.proofs.TheoryLines.{check_ends, pivots_stay}
+use Rattle.nz_sat.proofs.SearchLines.{adds_far, adds_none, adds_pivots, check_ends, pivots_stay, search_more}
 use Rattle.nz_sat.proofs.AtomTrails.{names_some, names_told, trail_grown}
 use Rattle.nz_sat.proofs.TrailEntries.{assigned_at}
 

@@ -1,10 +1,10 @@
 -- Clauses that are visited: what one makes true, and that each is open once every literal was looked at.
-use Rattle.std.proofs.Common.{◌≡◌, ℕ, ◌+◌, ◌<◌, ◌≤◌, Bool, false, if◌then◌else◌, List, [], ◌∷◌, ◌++◌, length, get_or, Option, Some, None, inl, inr, refl, sym, ap, subst, ◌∙◌, arith, append_assoc, append-nil, below_more}
-use Rattle.std.specs.Prelude.{All, Contains, IsSome, nat_lt, slice_get, option_map}
+use Rattle.std.proofs.Common.{◌≡◌, ℕ, ◌+◌, ◌<◌, ◌≤◌, Bool, false, if◌then◌else◌, List, [], ◌∷◌, ◌++◌, length, get_or, Option, Some, None, inl, inr, refl, sym, ap, subst, ◌∙◌, arith, append_assoc, append-nil, below_more, ◌≢◌, take, Contains}
+use Rattle.std.specs.Prelude.{All, IsSome, nat_lt, slice_get, option_map}
 use Rattle.std.proofs.lemmas.Bool.{cases_eq}
 use Rattle.std.proofs.lemmas.List.Sums.{sum_by-append, sum_by-cons}
-use Rattle.std.proofs.lemmas.List.{get_or_default, length-append}
-use Rattle.std.proofs.lemmas.List.Elements.{All-append, All-cons, All-contains, All-head, All-nil, All-tail, Contains-get_or}
+use Rattle.std.proofs.lemmas.List.{get_or_default, length-append, take_all, take_more}
+use Rattle.std.proofs.lemmas.List.Elements.{All-append, All-cons, All-contains, All-head, All-nil, All-tail, Contains-get_or, Contains-push_cases}
 use Rattle.std.proofs.lemmas.Option.{same_Some, slice_get_within}
 use Rattle.nz_lists.proofs.Places.{slice_get_kept}
 use Rattle.nz_log.specs.declared.lits.Lit.{Lit}
@@ -13,8 +13,8 @@ use Rattle.nz_log.specs.Logs.{LogState, literals_at}
 use Rattle.nz_sat.specs.declared.clauses.Held.{Held}
 use Rattle.nz_sat.specs.declared.clauses.Index.{Index}
 use Rattle.nz_sat.specs.declared.trail.Assigned.{Assigned}
-use Rattle.nz_sat.specs.Trails.{EachBehind, GoesOn, depth, implied, is_decision, truth_on}
-use Rattle.nz_sat.specs.Clauses.{IsImplied, IsListed, IsOpen, by_true, IsUnit, AreUsable, IsUsable, Waits, ids_of}
+use Rattle.nz_sat.specs.Trails.{EachBehind, GoesOn, depth, implied, is_decision, truth_on, IsFalseOn, IsFreeOn, TrailState}
+use Rattle.nz_sat.specs.Clauses.{IsImplied, IsListed, IsOpen, by_true, IsUnit, AreUsable, IsUsable, Waits, ids_of, IsFalsified, Visits}
 use Rattle.nz_sat.proofs.TrailEntries.{assigned_missing, assigned_one, each_push}
 use Rattle.nz_sat.proofs.Clausal.{free_missing, waits_grow, open_grows}
 
@@ -42,7 +42,7 @@ goes_depth es es' g =
     let same : depth es' ≡ depth (es ++ g.more) = ap depth g.joined in
     omega arith
 
-pub goes_same : (es : List Assigned) → GoesOn es es
+goes_same : (es : List Assigned) → GoesOn es es
 goes_same es =
     record {
       more = [];
@@ -57,7 +57,7 @@ goes_one es e by_reason level =
     let L : Assigned → Type 0 = λ x. x.level ≡ depth es in
     record { more = e ∷ []; joined = refl; implied = All-cons P e [] by_reason (All-nil P); last = All-cons L e [] level (All-nil L) }
 
-pub goes_far : (a b c : List Assigned) → GoesOn a b → GoesOn b c → GoesOn a c
+goes_far : (a b c : List Assigned) → GoesOn a b → GoesOn b c → GoesOn a c
 goes_far a b c g h =
     let P : Assigned → Type 0 = λ x. IsSome x.reason in
     let L : Assigned → Type 0 = λ x. x.level ≡ depth a in
@@ -74,6 +74,22 @@ goes_longer a b g = let long = ap length g.joined ∙ length-append a g.more in 
 
 pub waits_on : (es es' : List Assigned) (head : ℕ) (c : List Lit) → GoesOn es es' → head ≤ length es → Waits es head c → Waits es' head c
 waits_on es es' head c g before w = subst (λ (xs : List Assigned). Waits xs head c) (sym g.joined) (waits_grow es g.more head c before w)
+
+-- ---- Trails that clauses are visited on
+
+pub visits_none : {s : LogState} (among : List ℕ → Type 0) (t : TrailState) → Visits s among t t
+visits_none among t = record { size = refl; order = λ h. h; goes_on = goes_same t.entries; implied = λ h. h; reasons = λ us all h. h }
+
+pub visits_more : {s : LogState} {first next : List ℕ → Type 0} {a b c : TrailState} (among : List ℕ → Type 0) → Visits s first a b → Visits s next b c
+    → ((us : List ℕ) → among us → first us) → ((us : List ℕ) → among us → next us) → Visits s among a c
+visits_more {a = a} {b = b} {c = c} among v w f g =
+    record {
+      size = w.size ∙ v.size;
+      order = λ h. w.order (v.order h);
+      goes_on = goes_far a.entries b.entries c.entries v.goes_on w.goes_on;
+      implied = λ h. w.implied (v.implied h);
+      reasons = λ us all h. w.reasons us (g us all) (v.reasons us (f us all) h);
+    }
 
 -- ---- A clause with one literal left
 
@@ -155,3 +171,42 @@ pub usable_all : (s : LogState) (m n : ℕ) (x : Index) (l : Lit) (xs : List ℕ
 usable_all s m n x l xs size same usable k d inside =
     subst (λ (z : ℕ). IsUsable s z (get_or xs k d)) (sym size)
     (usable l (get_or xs k d) (subst (λ (ys : List ℕ). Contains ys (get_or xs k d)) same (Contains-get_or xs k d inside)))
+
+-- ---- What is known of a clause when so many of its literals were looked at
+
+-- each literal of the front is false, but for one that is undecided
+abbrev pub IsLeft : List Assigned → (c front : List Lit) → Option Lit → Type 0
+IsLeft es c front None = (m : Lit) → Contains front m → IsFalseOn es m
+IsLeft es c front (Some u) = Contains c u × IsFreeOn es u × ((m : Lit) → Contains front m → m ≢ u → IsFalseOn es m)
+
+module _ (es : List Assigned) (c : List Lit) (i : ℕ) (d : Lit) (inside : i < length c) where
+  last_or_before : (m : Lit) → Contains (take (i + 1) c) m → (Q : Lit → Type 0) → ((n : Lit) → Contains (take i c) n → Q n) → Q (get_or c i d) → Q m
+  last_or_before m has Q before last =
+      elim (Contains-push_cases (take i c) (get_or c i d) m (subst (λ (xs : List Lit). Contains xs m) (take_more c i d inside) has)) [
+        | inl old ↦ before m old
+        | inr same ↦ subst Q same last
+      ]
+
+  -- one more that is false
+  pub left_false : (o : Option Lit) → IsFalseOn es (get_or c i d) → IsLeft es c (take i c) o → IsLeft es c (take (i + 1) c) o
+  left_false None false' h = λ m has. last_or_before m has (IsFalseOn es) h false'
+  left_false (Some u) false' h =
+      (h.0, h.1, λ m has. last_or_before m has (λ n. n ≢ u → IsFalseOn es n) h.2 (λ other. false'))
+
+  -- the first that is undecided
+  pub left_first : IsFreeOn es (get_or c i d) → IsLeft es c (take i c) None → IsLeft es c (take (i + 1) c) (Some (get_or c i d))
+  left_first free h =
+      (Contains-get_or c i d inside, free, λ m has. last_or_before m has (λ n. n ≢ get_or c i d → IsFalseOn es n) (λ n old other. h n old) (λ other. absurd (other refl)))
+
+  -- the same one again
+  pub left_again : (u : Lit) → u ≡ get_or c i d → IsLeft es c (take i c) (Some u) → IsLeft es c (take (i + 1) c) (Some u)
+  left_again u same h =
+      (h.0, h.1, λ m has. last_or_before m has (λ n. n ≢ u → IsFalseOn es n) h.2 (λ other. absurd (other (sym same))))
+
+-- all were looked at
+pub left_unit : (es : List Assigned) (c : List Lit) (n : ℕ) (u : Lit) → length c ≤ n → IsLeft es c (take n c) (Some u) → IsUnit es c u
+left_unit es c n u all h =
+    record { has = h.0; free = h.1; others = λ m has. h.2 m (subst (λ (xs : List Lit). Contains xs m) (sym (take_all n c all)) has) }
+
+pub left_falsified : (es : List Assigned) (c : List Lit) (n : ℕ) → length c ≤ n → IsLeft es c (take n c) None → IsFalsified es c
+left_falsified es c n all h m has = h m (subst (λ (xs : List Lit). Contains xs m) (sym (take_all n c all)) has)

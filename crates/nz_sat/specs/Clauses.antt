@@ -1,5 +1,5 @@
 -- Clauses under a trail, and an index of them by their literals.
-use Rattle.std.specs.Prelude.{◌≡◌, ◌≢◌, ℕ, ◌<◌, ◌≤◌, ◌⊎◌, List, [], length, Contains, Option, Some, None, slice_get, if◌then◌else◌, ⊤}
+use Rattle.std.specs.Prelude.{◌≡◌, ◌≢◌, ℕ, ◌<◌, ◌≤◌, ◌⊎◌, List, [], length, All, Contains, Option, Some, None, slice_get, if◌then◌else◌, ⊤}
 use Rattle.std.specs.declared.vec.Vec.{Vec}
 use Rattle.std.specs.declared.alloc.Global.{Global}
 use Rattle.nz_log.specs.declared.lits.Lit.{Lit}
@@ -9,7 +9,7 @@ use Rattle.nz_sat.specs.declared.clauses.Index.{Index}
 use Rattle.nz_sat.specs.declared.propagate.Status.{Status}
 use Rattle.nz_sat.specs.declared.propagate.Status.TheVariants.{Open, Unit, Falsified}
 use Rattle.nz_sat.specs.declared.trail.Assigned.{Assigned}
-use Rattle.nz_sat.specs.Trails.{IsTrueOn, IsFalseOn, IsFreeOn}
+use Rattle.nz_sat.specs.Trails.{EachBehind, GoesOn, IsFalseOn, IsFreeOn, IsTrail, IsTrueOn, TrailState}
 
 -- ---- The status of a clause
 
@@ -114,3 +114,13 @@ pub record IsUsable (s : LogState) (size : ℕ) (i : ℕ) : Type 0 where
 -- each clause of the index is one
 abbrev pub AreUsable : LogState → ℕ → Index → Type 0
 AreUsable s size x = (l : Lit) (i : ℕ) → Contains (ids_of x l) i → IsUsable s size i
+
+-- ---- Clauses that are visited
+
+-- The trail goes on, in order, by reasons that are of any clauses that are so.
+pub record Visits (s : LogState) (among : List ℕ → Type 0) (old new : TrailState) : Type 0 where
+  pub size : new.size ≡ old.size
+  pub order : IsTrail old → IsTrail new
+  pub goes_on : GoesOn old.entries new.entries
+  pub implied : EachBehind (IsImplied s) old.entries → EachBehind (IsImplied s) new.entries
+  pub reasons : (us : List ℕ) → among us → All (HasReasonOf us) old.entries → All (HasReasonOf us) new.entries

@@ -1,9 +1,8 @@
 //! Propagation: what a clause makes true whose other literals are false.
-ghost use Rattle.std.specs.Prelude.{◌≡◌, ℕ, ◌≤◌, true, false, All, Contains, List, length, map, IfSome};
+ghost use Rattle.std.specs.Prelude.{◌≡◌, ℕ, ◌≤◌, true, false, All, Contains, length, map, IfSome};
 ghost use Rattle.nz_log.specs.declared.lits.Lit.{Lit};
 ghost use Rattle.nz_log.specs.Logs.{literals_at};
-ghost use Rattle.nz_sat.specs.Clauses.{AreUsable, HasReasonOf, HasStatus, IsFalsified, IsImplied, IsListed, IsOpen, IsUsable, Waits, ids_of};
-ghost use Rattle.nz_sat.specs.Trails.{EachBehind, GoesOn, IsTrail};
+ghost use Rattle.nz_sat.specs.Clauses.{AreUsable, HasStatus, IsFalsified, IsListed, IsOpen, IsUsable, Visits, Waits, ids_of};
 
 use crate::clauses::{Held, Index};
 use crate::trail::Trail;
@@ -49,11 +48,7 @@ fn status_of(trail: &Trail, literals: &[Lit]) -> Status
 /// Looks at a clause, and makes its literal true where it has but one left. Answers whether some literal is left.
 fn visit(log: &Log, trail: &mut Trail, id: ClauseId) -> bool
     requires usable { IsUsable log.now trail.old.size id }
-    ensures size { trail.new.size ≡ trail.old.size }
-    ensures order { IsTrail trail.old → IsTrail trail.new }
-    ensures goes_on { GoesOn trail.old.entries trail.new.entries }
-    ensures implied { EachBehind (IsImplied log.now) trail.old.entries → EachBehind (IsImplied log.now) trail.new.entries }
-    ensures reasons { (us : List ℕ) → Contains us id → All (HasReasonOf us) trail.old.entries → All (HasReasonOf us) trail.new.entries }
+    ensures visits { Visits log.now (λ us. Contains us id) trail.old trail.new }
     ensures all_open { result ≡ true → IsOpen trail.new.entries (literals_at log.now id) }
     ensures falsified { result ≡ false → IsFalsified trail.new.entries (literals_at log.now id) }
 {
@@ -70,11 +65,7 @@ fn visit(log: &Log, trail: &mut Trail, id: ClauseId) -> bool
 /// Looks at these clauses, up to the first one in which each literal is false.
 pub fn visit_all(log: &Log, trail: &mut Trail, ids: &[ClauseId]) -> Option<ClauseId>
     requires usable { All (IsUsable log.now trail.old.size) ids.now }
-    ensures size { trail.new.size ≡ trail.old.size }
-    ensures order { IsTrail trail.old → IsTrail trail.new }
-    ensures goes_on { GoesOn trail.old.entries trail.new.entries }
-    ensures implied { EachBehind (IsImplied log.now) trail.old.entries → EachBehind (IsImplied log.now) trail.new.entries }
-    ensures reasons { (us : List ℕ) → All (Contains us) ids.now → All (HasReasonOf us) trail.old.entries → All (HasReasonOf us) trail.new.entries }
+    ensures visits { Visits log.now (λ us. All (Contains us) ids.now) trail.old trail.new }
     // What was made true after a clause was looked at is still to be looked at itself.
     ensures waits { result ≡ None → All (λ i. Waits trail.new.entries (length trail.old.entries) (literals_at log.now i)) ids.now }
     ensures falsified { IfSome result (λ id. Contains ids.now id × IsFalsified trail.new.entries (literals_at log.now id)) }
@@ -90,11 +81,7 @@ pub fn visit_all(log: &Log, trail: &mut Trail, ids: &[ClauseId]) -> Option<Claus
 /// Looks at these clauses of a search, up to the first one in which each literal is false.
 pub fn visit_held(log: &Log, trail: &mut Trail, held: &[Held]) -> Option<ClauseId>
     requires usable { All (λ h. IsUsable log.now trail.old.size h.id) held.now }
-    ensures size { trail.new.size ≡ trail.old.size }
-    ensures order { IsTrail trail.old → IsTrail trail.new }
-    ensures goes_on { GoesOn trail.old.entries trail.new.entries }
-    ensures implied { EachBehind (IsImplied log.now) trail.old.entries → EachBehind (IsImplied log.now) trail.new.entries }
-    ensures reasons { (us : List ℕ) → All (λ h. Contains us h.id) held.now → All (HasReasonOf us) trail.old.entries → All (HasReasonOf us) trail.new.entries }
+    ensures visits { Visits log.now (λ us. All (λ h. Contains us h.id) held.now) trail.old trail.new }
     ensures waits { result ≡ None → All (λ h. Waits trail.new.entries (length trail.old.entries) (literals_at log.now h.id)) held.now }
     ensures falsified { IfSome result (λ id. Contains (map (λ h. h.id) held.now) id × IsFalsified trail.new.entries (literals_at log.now id)) }
 {
@@ -111,12 +98,8 @@ pub fn visit_held(log: &Log, trail: &mut Trail, held: &[Held]) -> Option<ClauseI
 pub fn propagate(log: &Log, index: &Index, trail: &mut Trail, from: usize) -> Option<ClauseId>
     requires usable { AreUsable log.now trail.old.size index.now }
     requires from { from ≤ length trail.old.entries }
-    ensures size { trail.new.size ≡ trail.old.size }
-    ensures order { IsTrail trail.old → IsTrail trail.new }
-    ensures goes_on { GoesOn trail.old.entries trail.new.entries }
-    ensures implied { EachBehind (IsImplied log.now) trail.old.entries → EachBehind (IsImplied log.now) trail.new.entries }
     // Each reason is a clause of the index.
-    ensures reasons { (us : List ℕ) → ((l : Lit) (i : ℕ) → Contains (ids_of index.now l) i → Contains us i) → All (HasReasonOf us) trail.old.entries → All (HasReasonOf us) trail.new.entries }
+    ensures visits { Visits log.now (λ us. (l : Lit) (i : ℕ) → Contains (ids_of index.now l) i → Contains us i) trail.old trail.new }
     // A clause that stands beside each of its literals in the index, and was open or had a literal that was to be looked at, is open.
     ensures all_open { result ≡ None → (i : ℕ) → IsListed log.now index.now i → Waits trail.old.entries from (literals_at log.now i) → IsOpen trail.new.entries (literals_at log.now i) }
     ensures falsified { IfSome result (λ id. ((l : Lit) × Contains (ids_of index.now l) id) × IsFalsified trail.new.entries (literals_at log.now id)) }

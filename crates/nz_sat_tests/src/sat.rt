@@ -179,54 +179,26 @@ fn test_three_birds_have_three_holes(rt: HostRuntime) -> Result<(), Fail> {
     run(rt.alloc(), THREE_IN_THREE)
 }
 
-/// A clause, and its bit in a set of clauses.
-struct Row {
-    bit: u8,
-    clause: &'static [Number],
-}
-
-// The clauses over all of three atoms.
-const ROWS: &[Row] = &[
-    Row {
-        bit: 1,
-        clause: &[-1, -2, -3],
-    },
-    Row {
-        bit: 2,
-        clause: &[1, -2, -3],
-    },
-    Row {
-        bit: 4,
-        clause: &[-1, 2, -3],
-    },
-    Row {
-        bit: 8,
-        clause: &[1, 2, -3],
-    },
-    Row {
-        bit: 16,
-        clause: &[-1, -2, 3],
-    },
-    Row {
-        bit: 32,
-        clause: &[1, -2, 3],
-    },
-    Row {
-        bit: 64,
-        clause: &[-1, 2, 3],
-    },
-    Row {
-        bit: 128,
-        clause: &[1, 2, 3],
-    },
+// The clauses over all of three atoms, each of which is a bit of a set of clauses.
+const ROWS: &[&[Number]] = &[
+    &[-1, -2, -3],
+    &[1, -2, -3],
+    &[-1, 2, -3],
+    &[1, 2, -3],
+    &[-1, -2, 3],
+    &[1, -2, 3],
+    &[-1, 2, 3],
+    &[1, 2, 3],
 ];
 
 /// Asserts the clauses of a set.
 fn assert_rows(alloc: Global, problem: &mut Problem, set: u8) -> Result<(), Memory> {
+    let mut rest = set;
     for row in ROWS {
-        if set & row.bit != 0 {
-            assert_one(alloc, problem, row.clause)?;
+        if rest % 2 == 1 {
+            assert_one(alloc, problem, row)?;
         }
+        rest /= 2;
     }
     Ok(())
 }

@@ -6,6 +6,7 @@ use Rattle.std.specs.declared.cmp.Ordering.{Ordering}
 use Rattle.std.specs.Cmp.{IsTotalOrder}
 use Rattle.std.proofs.lemmas.List.Sums.{fold_push}
 use Rattle.nz_lists.proofs.Places.{slice_index_or-map}
+use Rattle.nz_lists.proofs.Numbers.{equal-number, other-number, same-number}
 use Rattle.nz_fractions.specs.Fraction.{Fraction}
 use Rattle.nz_spec.specs.numbers.Infinitesimal.{Infinitesimal, infinitesimal_cmp}
 use Rattle.nz_spec.specs.simplex.Bland.{IsOutside, Position}
@@ -19,8 +20,7 @@ use Rattle.nz_simplex.specs.Standing.{Held, half, is_side, is_bound_of, is_news,
 use Rattle.nz_simplex.specs.State.{State, nonbasic_in, value_in, point_in}
 use Rattle.nz_simplex.specs.Stored.{state_of}
 use Rattle.nz_simplex.specs.Tabled.{marks_in}
-use Rattle.nz_simplex.proofs.Standings.{on_told, tighter_news}
-use Rattle.nz_simplex.proofs.ValuesAfter.{equal_number, other_number, same_number}
+use Rattle.nz_simplex.proofs.Standings.{on_told, tighter_news, side_same}
 
 -- ---- What stands was asserted
 
@@ -120,14 +120,8 @@ swapped : (k v : ℕ) → (v == k) ≡ (k == v)
 swapped k v = by_test (k == v) refl
   where
     by_test : (b : Bool) → (k == v) ≡ b → (v == k) ≡ b
-    by_test true e = equal_number v k (sym (same_number k v e))
-    by_test false e = other_number v k (λ (is : v ≡ k). true≢false (sym (equal_number k v (sym is)) ∙ e))
-
-pub side_is : (a b : Side) → is_side a b ≡ true → b ≡ a
-side_is Lower Lower e = refl
-side_is Lower Upper e = absurd (true≢false (sym e))
-side_is Upper Lower e = absurd (true≢false (sym e))
-side_is Upper Upper e = refl
+    by_test true e = equal-number v k (sym (same-number k v e))
+    by_test false e = other-number v k (λ (is : v ≡ k). true≢false (sym (equal-number k v (sym is)) ∙ e))
 
 module _ (bs : List Held) (b : Held) (news : is_news b.side b.value (standing bs b.var b.side) ≡ true) (k : ℕ) (side : Side) where
   standing_more : standing (bs ++ b ∷ []) k side ≡ (if (k == b.var) && is_side side b.side then Some b else standing bs k side)
@@ -137,8 +131,8 @@ module _ (bs : List Held) (b : Held) (news : is_news b.side b.value (standing bs
           → (if (c && d) && is_news side b.value (standing bs k side) then Some b else standing bs k side) ≡ (if c && d then Some b else standing bs k side)
       by_tests true true e f =
           let own : is_news side b.value (standing bs k side) ≡ true =
-          subst (λ (n : ℕ). is_news side b.value (standing bs n side) ≡ true) (sym (same_number k b.var e))
-          (subst (λ (s : Side). is_news s b.value (standing bs b.var s) ≡ true) (side_is side b.side f) news) in
+          subst (λ (n : ℕ). is_news side b.value (standing bs n side) ≡ true) (sym (same-number k b.var e))
+          (subst (λ (s : Side). is_news s b.value (standing bs b.var s) ≡ true) (side_same side b.side f) news) in
           ap (λ (c : Bool). if c then Some b else standing bs k side) own
       by_tests true false e f = refl
       by_tests false d e f = refl
@@ -192,7 +186,7 @@ module _ {S : Type 0} (stands_for : S → Infinitesimal) (side : Side) (bound : 
         by_mark false e h = refl
 
         by_test : (b : Bool) → (k == v) ≡ b → point_in here k ≡ (if b then within (point_in here k) else point_in here k)
-        by_test true e = subst (λ (n : ℕ). point_in here n ≡ within (point_in here n)) (sym (same_number k v e)) (by_mark (nonbasic_in here v) refl still)
+        by_test true e = subst (λ (n : ℕ). point_in here n ≡ within (point_in here n)) (sym (same-number k v e)) (by_mark (nonbasic_in here v) refl still)
         by_test false e = refl
 
     pub moving_marked : is_moving stands_for (marks_in tab) values v side bound ≡ true → nonbasic_in here v ≡ true

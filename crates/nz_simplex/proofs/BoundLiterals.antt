@@ -5,7 +5,7 @@ use Rattle.nz_ints.proofs.Ring.{Atom, Literal, ◌⊕◌, ◌⊗◌, Minus}
 use Rattle.nz_fractions.specs.Fraction.{Fraction, whole, ◌=ℚ◌, ◌*ℚ◌, neg_ℚ}
 use Rattle.nz_fractions.proofs.Laws.{=ℚ_refl}
 use Rattle.nz_fractions.proofs.Arithmetic.{+ℚ-same, neg_ℚ-same}
-use Rattle.nz_fractions.proofs.Identities.{neg-nonzero}
+use Rattle.nz_fractions.proofs.Identities.{neg-nonzero, neg-zero}
 use Rattle.nz_fractions.proofs.Solver.{◌∙ℚ◌, solve}
 use Rattle.nz_spec.specs.terms.Term.{is_zero}
 use Rattle.nz_spec.specs.terms.Form.{Numbering, Part, AreRising, MayPrecede, negated_part}
@@ -51,9 +51,6 @@ neg_times_neg m q = solve (m ∷ q ∷ []) (Minus (Atom 0 ⊗ Minus (Atom 1))) (
 neg_one : neg_ℚ (whole (pos 1)) =ℚ whole (negsuc 0)
 neg_one = solve [] (Minus (Literal (pos 1))) (Literal (negsuc 0)) refl
 
-neg_none : neg_ℚ (whole (pos 0)) =ℚ whole (pos 0)
-neg_none = solve [] (Minus (Literal (pos 0))) (Literal (pos 0)) refl
-
 -- ---- The laws
 
 pub literals_say_bounds : LiteralsSayBounds
@@ -70,7 +67,7 @@ literals_say_bounds = record {
     },
   );
   lower = λ number f ps factor limit b sum positive parts is. (
-    record { linear = refl; sum = sum; positive = positive; parts = parts; limit = is; strict = neg_none },
+    record { linear = refl; sum = sum; positive = positive; parts = parts; limit = is; strict = neg-zero },
     record {
       linear = refl;
       sum = negated_sum number ps sum;

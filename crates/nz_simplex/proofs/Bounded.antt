@@ -5,6 +5,7 @@ use Rattle.std.specs.declared.cmp.Ordering.{Ordering}
 use Rattle.std.specs.Cmp.{IsTotalOrder}
 use Rattle.std.proofs.Math.Path.{fun_ext}
 use Rattle.std.proofs.lemmas.List.{length-map, map_push}
+use Rattle.nz_lists.proofs.Numbers.{same-number}
 use Rattle.nz_fractions.specs.Fraction.{Fraction}
 use Rattle.nz_spec.specs.numbers.Infinitesimal.{Infinitesimal, infinitesimal_cmp}
 use Rattle.nz_spec.specs.laws.InfinitesimalMoves.{InfinitesimalsMove}
@@ -28,7 +29,7 @@ use Rattle.nz_simplex.specs.Tabled.{marks_in, rows_in}
 use Rattle.nz_simplex.proofs.AssertedBounds.{bound_more, moving_marked, moving_point, news_told, point_kept, value_left, within}
 use Rattle.nz_simplex.proofs.HelpfulForms.{bound_told, half_other}
 use Rattle.nz_simplex.proofs.NonbasicMoves.{known_there, point_there, right_there}
-use Rattle.nz_simplex.proofs.ValuesAfter.{same_number}
+use Rattle.nz_simplex.proofs.StoredStates.{Soundly}
 
 module _ {S : Type 0} (stands_for : S → Infinitesimal) (order : S → S → Ordering) (total : IsTotalOrder order)
     (same : (x y : S) → order x y ≡ infinitesimal_cmp (stands_for x) (stands_for y))
@@ -124,7 +125,7 @@ module _ {S : Type 0} (stands_for : S → Infinitesimal) (order : S → S → Or
       where
         by_test : (b : Bool) → (k == v) ≡ b → (if b then Some (stands_for bound) else point_in here k) ≡ (if b then within stands_for side bound (point_in here k) else point_in here k)
         by_test true e =
-            sym (subst (λ (n : ℕ). within stands_for side bound (point_in here n) ≡ Some (stands_for bound)) (sym (same_number k v e)) (moving_point stands_for side bound tab trail old why v moving))
+            sym (subst (λ (n : ℕ). within stands_for side bound (point_in here n) ≡ Some (stands_for bound)) (sym (same-number k v e)) (moving_point stands_for side bound tab trail old why v moving))
         by_test false e = refl
 
     pub bounded_moved : IsBounded here there (asserted v side (stands_for bound) reason)
@@ -163,10 +164,6 @@ module _ {S : Type 0} (stands_for : S → Infinitesimal) (order : S → S → Or
 
 -- ---- By what is shown of the simplex
 
-pub record IsBoundedSoundly (old new : State) (b : Held) : Type 0 where
-  pub bounded : IsBounded old new b
-  pub sound : IsSound new
-
 pub asserted_shown : {S : Type 0} (stands_for : S → Infinitesimal) (order : S → S → Ordering) (total : IsTotalOrder order)
     (same : (x y : S) → order x y ≡ infinitesimal_cmp (stands_for x) (stands_for y))
     (tab : Table) (trail later : TrailState S) (old now new : List (Option S)) (why : List (ℕ × Fraction)) (seen : State) (v : ℕ) (side : Side) (bound : S) (reason : ℕ)
@@ -178,7 +175,7 @@ pub asserted_shown : {S : Type 0} (stands_for : S → Infinitesimal) (order : S 
     → (is_moving stands_for (marks_in tab) now v side bound ≡ true → (k : ℕ) → k ≢ v → slice_index_or (marks_in tab) k false ≡ true → slice_index_or new k None ≡ slice_index_or now k None)
     → (is_moving stands_for (marks_in tab) now v side bound ≡ true → (k : ℕ) → k < length tab.forms → slice_index_or (marks_in tab) k false ≡ false
     → IsFollowed stands_for (slice_index_or now v None) bound (rows_in tab k v) (slice_index_or now k None) (slice_index_or new k None))
-    → IsBoundedSoundly seen (state_of stands_for tab later new why) (asserted v side (stands_for bound) reason)
+    → Soundly (λ s. IsBounded seen s (asserted v side (stands_for bound) reason)) (state_of stands_for tab later new why)
 asserted_shown {S} stands_for order total same tab trail later old now new why seen v side bound reason view sound listed news grown law sums values infinitesimals itself tableau is_now long still moved stays follows =
     let listed_here : v < length tab.forms = subst (λ (s : State). v < length s.forms) (sym view) listed in
     let moving : List (Option S) → Bool = λ vs. is_moving stands_for (marks_in tab) vs v side bound in
@@ -193,7 +190,7 @@ asserted_shown {S} stands_for order total same tab trail later old now new why s
     → IsFollowed stands_for (slice_index_or vs v None) bound (rows_in tab k v) (slice_index_or vs k None) (slice_index_or new k None))
     is_now follows) in
     record {
-      bounded =
+      shown =
           subst (λ (t : TrailState S). IsBounded seen (state_of stands_for tab t new why) (asserted v side (stands_for bound) reason)) (sym grown)
           (subst (λ (s : State). IsBounded s (state_of stands_for tab (with_bound trail (asserted v side bound reason)) new why) (asserted v side (stands_for bound) reason)) view both.0);
       sound = subst (λ (t : TrailState S). IsSound (state_of stands_for tab t new why)) (sym grown) both.1;

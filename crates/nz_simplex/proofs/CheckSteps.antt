@@ -5,6 +5,7 @@ use Rattle.std.specs.List.{AllByRecursion}
 use Rattle.std.proofs.Math.Path.{fun_ext}
 use Rattle.std.proofs.lemmas.List.{length-map}
 use Rattle.nz_lists.proofs.Places.{slice_index_or-map}
+use Rattle.nz_lists.proofs.Numbers.{same_or_other, equal-number, other-number, same-number}
 use Rattle.nz_fractions.specs.Fraction.{Fraction}
 use Rattle.nz_fractions.proofs.Laws.{=ℚ_refl}
 use Rattle.nz_spec.specs.numbers.Infinitesimal.{Infinitesimal, ◌+δ◌, ◌-δ◌, scaled}
@@ -29,7 +30,7 @@ use Rattle.nz_simplex.specs.State.{State, nonbasic_in, value_in, point_in, IsOve
 use Rattle.nz_simplex.specs.Stored.{state_of}
 use Rattle.nz_simplex.specs.Tabled.{marks_in, rows_in}
 use Rattle.nz_simplex.proofs.Pointed.{AreKnown, known_row}
-use Rattle.nz_simplex.proofs.ValuesAfter.{one_or_other, equal_number, other_number, equal_value, point_is_value, same_number, some_inside, some_told}
+use Rattle.nz_simplex.proofs.ValuesAfter.{equal_value, point_is_value, some_inside, some_told}
 
 -- ---- The step that may be next
 
@@ -85,14 +86,14 @@ module _ {S : Type 0} (stands_for : S → Infinitesimal) (old_tab new_tab : Tabl
 
   -- a form that isn't exchanged was nonbasic before
   nonbasic_before : (k : ℕ) → k ≢ i → nonbasic_in there k ≡ true → (k ≢ j) × (nonbasic_in here k ≡ true)
-  nonbasic_before k other e = by_test (k == j) refl (sym (ap (λ (b : Bool). if b then true else if k == j then false else nonbasic_in here k) (other_number k i other)) ∙ sym (marks_after k) ∙ e)
+  nonbasic_before k other e = by_test (k == j) refl (sym (ap (λ (b : Bool). if b then true else if k == j then false else nonbasic_in here k) (other-number k i other)) ∙ sym (marks_after k) ∙ e)
     where
       by_test : (b : Bool) → (k == j) ≡ b → (if b then false else nonbasic_in here k) ≡ true → (k ≢ j) × (nonbasic_in here k ≡ true)
       by_test true t h = absurd (true≢false (sym h))
-      by_test false t h = (λ (same : k ≡ j). true≢false (sym (equal_number k j same) ∙ t), h)
+      by_test false t h = (λ (same : k ≡ j). true≢false (sym (equal-number k j same) ∙ t), h)
 
   pub known_after : AreKnown there
-  known_after k e = by_case (one_or_other k i)
+  known_after k e = by_case (same_or_other k i)
     where
       by_case : (k ≡ i) ⊎ (k ≢ i) → IsSome (value_in there k)
       by_case (inl same) = subst (λ (o : Option Infinitesimal). IsSome o) (sym (ap (value_in there) same ∙ value_moved)) refl
@@ -109,10 +110,10 @@ module _ {S : Type 0} (stands_for : S → Infinitesimal) (old_tab new_tab : Tabl
 
       by_tests : (b c : Bool) → (k == i) ≡ b → (k == j) ≡ c
           → (if (if b then true else if c then false else nonbasic_in here k) then value_in there k else None) ≡ (if b then Some (stands_for target) else if c then None else point_in here k)
-      by_tests true c e f = ap (value_in there) (same_number k i e) ∙ value_moved
+      by_tests true c e f = ap (value_in there) (same-number k i e) ∙ value_moved
       by_tests false true e f = refl
       by_tests false false e f =
-          by_mark (nonbasic_in here k) refl (λ (same : k ≡ i). true≢false (sym (equal_number k i same) ∙ e))
+          by_mark (nonbasic_in here k) refl (λ (same : k ≡ i). true≢false (sym (equal-number k i same) ∙ e))
           (marks_after k ∙ ap (λ (b : Bool). if b then true else if k == j then false else nonbasic_in here k) e ∙ ap (λ (b : Bool). if b then false else nonbasic_in here k) f)
 
   forms_after : (ns : List Node) → map (parts_over ns) new_tab.forms ≡ map (parts_over ns) old_tab.forms

@@ -1,11 +1,14 @@
 -- The literals that say clashing bounds, with the multipliers that are told, sum to a contradiction.
-use Rattle.std.proofs.Common.{◌≡◌, ℕ, zero, suc, Bool, true, false, true≢false, ◌⊎◌, inl, inr, List, [], ◌∷◌, ◌++◌, length, map, flat_map, Option, Some, None, pos, refl, sym, ap, ap₂, ◌∙◌, subst, arith, Ordering, Less, Equal, Greater}
+use Rattle.std.proofs.Common.{◌≡◌, ℕ, zero, suc, Bool, true, false, ◌⊎◌, inl, inr, List, [], ◌∷◌, ◌++◌, length, map, flat_map, Option, Some, None, pos, refl, sym, ap, ap₂, ◌∙◌, subst, arith, Ordering, Less, Equal, Greater}
 use Rattle.std.specs.Prelude.{◌==◌, ◌&&◌, ◌||◌, fold, is_some, option_map, unwrap_or, if◌then◌else◌}
 use Rattle.std.specs.Ordering.{MatchOrdering, ordering_reverse, ordering_then}
 use Rattle.std.specs.List.{list_all, AllByRecursion}
 use Rattle.std.proofs.lemmas.Int.{ints}
 use Rattle.std.proofs.lemmas.Grind.{flat_map-append}
 use Rattle.std.proofs.lemmas.List.{append-nil, length-map, map-append}
+use Rattle.std.proofs.Math.Bool.{or-true}
+use Rattle.std.proofs.lemmas.Bool.{and_parts}
+use Rattle.nz_lists.proofs.Numbers.{same-number}
 use Rattle.nz_ints.proofs.Ring.{Atom, Literal as Number, ◌⊕◌, ◌⊗◌, Minus}
 use Rattle.nz_fractions.specs.Fraction.{Fraction, whole, ◌=ℚ◌, ◌<ℚ◌, ◌+ℚ◌, ◌*ℚ◌, neg_ℚ, fraction_cmp, fraction_lt, denominator}
 use Rattle.nz_fractions.proofs.Laws.{=ℚ_refl, =ℚ-from_same, =ℚ_sym, ≤ℚ-from_eq, <ℚ-≤ℚ_trans, ≤ℚ-<ℚ_trans, <ℚ_irrefl}
@@ -40,6 +43,7 @@ use Rattle.nz_simplex.specs.State.{State, nonbasic_in, value_in, position_over}
 use Rattle.nz_simplex.proofs.HelpfulForms.{bound_told, half_other}
 use Rattle.nz_simplex.proofs.SumsInOrder.{no_units, onto_sum}
 use Rattle.nz_simplex.proofs.Totals.{onto-lax, onto-limit, onto-worth, total}
+use Rattle.nz_simplex.proofs.Standings.{side_same}
 
 -- ---- Numbers
 
@@ -202,14 +206,10 @@ module _ (number : Numbering) (literal : ℕ → Literal) (factor : ℕ → Frac
       (lax_none hs ms counts.1 are.2 lax.1)
       ∙ℚ +ℚ-zero none
 
-  either_true : (b : Bool) → (b || true) ≡ true
-  either_true true = refl
-  either_true false = refl
-
   by_limit : (b : Fraction) (strict : Bool) → (b <ℚ none) ⊎ ((b =ℚ none) × (strict ≡ true)) → (fraction_lt b none || is_zero b && strict) ≡ true
   by_limit b strict (inl h) = ap (λ (t : Bool). t || is_zero b && strict) (lt_is b none h)
   by_limit b strict (inr h) =
-      ap₂ (λ (t u : Bool). fraction_lt b none || t && u) (fraction_eq-same b none h.0) h.1 ∙ either_true (fraction_lt b none)
+      ap₂ (λ (t u : Bool). fraction_lt b none || t && u) (fraction_eq-same b none h.0) h.1 ∙ or-true (fraction_lt b none)
 
   module _ (terms : TellsTerms) (by_units : WorthIsByUnits) (hs : List (Held × Fraction)) (ms : List Multiple) (counts : Counts hs) (are : AreFor hs ms) where
     abbrev sum : Bound
@@ -254,19 +254,6 @@ module _ (number : Numbering) (literal : ℕ → Literal) (factor : ℕ → Frac
 
 -- ---- Bounds that stand
 
-side_itself : (side other : Side) → is_side side other ≡ true → other ≡ side
-side_itself Lower Lower e = refl
-side_itself Lower Upper e = absurd (true≢false (sym e))
-side_itself Upper Lower e = absurd (true≢false (sym e))
-side_itself Upper Upper e = refl
-
-number_itself : (k v : ℕ) → (k == v) ≡ true → k ≡ v
-number_itself k v e = grind (arith, e)
-
-both_parts : (b c : Bool) → (b && c) ≡ true → (b ≡ true) × (c ≡ true)
-both_parts true c e = (refl, e)
-both_parts false c e = absurd (true≢false (sym e))
-
 -- it is one of those that were asserted, of this form and on this side
 record IsOne (P : Held → Type 0) (k : ℕ) (on : Side) (b : Held) : Type 0 where
   holds : P b
@@ -279,9 +266,9 @@ module _ (P : Held → Type 0) (k : ℕ) (on : Side) where
     where
       by_tests : (c d : Bool) → is_bound_of k on b ≡ c → (if c && d then Some b else o) ≡ Some x → IsOne P k on x
       by_tests true true t e =
-          let parts = both_parts (b.var == k) (is_side on b.side) t in
+          let parts = and_parts (b.var == k) (is_side on b.side) t in
           let same : b ≡ x = ap (λ (o : Option Held). unwrap_or o b) e in
-          subst (IsOne P k on) same (record { holds = p; var = number_itself b.var k parts.0; side = side_itself on b.side parts.1 })
+          subst (IsOne P k on) same (record { holds = p; var = same-number b.var k parts.0; side = side_same on b.side parts.1 })
       by_tests true false t e = before x e
       by_tests false d t e = before x e
 

@@ -43,20 +43,9 @@ module _ {S : Type 0} (stands_for : S → Infinitesimal) (tab : Table) (trail : 
   abbrev here : State
   here = state_of stands_for tab trail values why
 
-  -- what was found among the nonbasic forms
-  pub record IsFound (o : Option ℕ) : Type 0 where
-    pub slice : List (Option S)
-    pub listing : List ℕ
-    pub is_values : slice ≡ values
-    pub is_nonbasic : listing ≡ nonbasic_numbers here
-    pub found : o ≡ first_passing (λ k. is_helping stands_for trail.asserted slice (other_side side) k (rows_in tab i k)) listing
-
-  first_told : (o : Option ℕ) → IsFound o → first_passing (λ k. is_helping stands_for trail.asserted values (other_side side) k (rows_in tab i k)) (nonbasic_numbers here) ≡ o
-  first_told o f =
-      sym
-      (f.found
-      ∙ ap (λ (vs : List (Option S)). first_passing (λ k. is_helping stands_for trail.asserted vs (other_side side) k (rows_in tab i k)) f.listing) f.is_values
-      ∙ ap (first_passing (λ k. is_helping stands_for trail.asserted values (other_side side) k (rows_in tab i k))) f.is_nonbasic)
+  -- what is found first among the nonbasic forms
+  abbrev first_found : Option ℕ
+  first_found = first_passing (λ k. is_helping stands_for trail.asserted values (other_side side) k (rows_in tab i k)) (nonbasic_numbers here)
 
   listed_here : i < length tab.forms
   listed_here = subst (λ (s : State). i < length s.forms) (sym view) listed
@@ -64,26 +53,26 @@ module _ {S : Type 0} (stands_for : S → Infinitesimal) (tab : Table) (trail : 
   basic_here : nonbasic_in here i ≡ false
   basic_here = ap (λ (s : State). nonbasic_in s i) view ∙ basic
 
-  module _ (j : ℕ) (found : IsFound (Some j)) where
+  module _ (j : ℕ) (found : first_found ≡ Some j) where
     pub enters_nonbasic : is_nonbasic tab.grid j ≡ true
     enters_nonbasic =
-        (first_least (length tab.forms) (nonbasic_in here) (λ k. is_helping stands_for trail.asserted values (other_side side) k (rows_in tab i k)) j (first_told (Some j) found)).is_listed
+        (first_least (length tab.forms) (nonbasic_in here) (λ k. is_helping stands_for trail.asserted values (other_side side) k (rows_in tab i k)) j found).is_listed
 
     pub enters_nonzero : is_zero (rows_of tab.grid i j) ≡ false
     enters_nonzero =
         helping_nonzero stands_for trail values (other_side side) j (rows_in tab i j)
-        (first_least (length tab.forms) (nonbasic_in here) (λ k. is_helping stands_for trail.asserted values (other_side side) k (rows_in tab i k)) j (first_told (Some j) found)).passes
+        (first_least (length tab.forms) (nonbasic_in here) (λ k. is_helping stands_for trail.asserted values (other_side side) k (rows_in tab i k)) j found).passes
 
   module _ (law : RowsTell) (tableau : IsTableau tab) where
-    pub helpless : IsFound None → (ns : List Node) → IsOver ns seen → (k : ℕ) → CanHelp (position_over ns seen) i (bland.other_side (half side)) k → ⊥
+    pub helpless : first_found ≡ None → (ns : List Node) → IsOver ns seen → (k : ℕ) → CanHelp (position_over ns seen) i (bland.other_side (half side)) k → ⊥
     helpless found =
         subst (λ (s : State). (ns : List Node) → IsOver ns s → (k : ℕ) → CanHelp (position_over ns s) i (bland.other_side (half side)) k → ⊥) view
-        (none_helps stands_for tab trail values why sound law tableau i listed_here basic_here side (first_told None found))
+        (none_helps stands_for tab trail values why sound law tableau i listed_here basic_here side found)
 
-    module _ (j : ℕ) (found : IsFound (Some j)) (target : S) (broken : (ns : List Node) → IsOver ns seen → IsFirstBroken (position_over ns seen) (half side) (stands_for target) i) where
+    module _ (j : ℕ) (found : first_found ≡ Some j) (target : S) (broken : (ns : List Node) → IsOver ns seen → IsFirstBroken (position_over ns seen) (half side) (stands_for target) i) where
       chosen : (ns : List Node) → IsOver ns here → IsChosen (position_over ns here) (half side) (stands_for target) i j
       chosen ns over =
-          chosen_found stands_for tab trail values why sound law tableau i listed_here basic_here side (stands_for target) j (first_told (Some j) found) ns over
+          chosen_found stands_for tab trail values why sound law tableau i listed_here basic_here side (stands_for target) j found ns over
           (subst (λ (s : State). (ns : List Node) → IsOver ns s → IsFirstBroken (position_over ns s) (half side) (stands_for target) i) (sym view) broken ns over)
 
       may_exchange : (ns : List Node) → IsOver ns here → MayPivot (position_over ns here) (pivot i j)

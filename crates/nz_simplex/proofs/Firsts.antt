@@ -1,6 +1,7 @@
 -- The first of the numbers that passes a test is the least one that does.
 use Rattle.std.proofs.Common.{◌≡◌, ℕ, zero, suc, ◌<◌, ◌⊎◌, inl, inr, Bool, true, false, List, [], ◌∷◌, ◌++◌, Option, Some, None, refl, sym, ap, ◌∙◌, subst, true≢false, arith}
 use Rattle.std.specs.Prelude.{if◌then◌else◌}
+use Rattle.nz_lists.proofs.Numbers.{same_or_below}
 use Rattle.nz_spec.specs.simplex.BasisMoves.{numbers}
 use Rattle.nz_simplex.specs.Stored.{first_passing}
 
@@ -39,9 +40,6 @@ pub record IsLeast (n : ℕ) (listed test : ℕ → Bool) (j : ℕ) : Type 0 whe
 abbrev IsFirstFound : ℕ → (ℕ → Bool) → (ℕ → Bool) → Option ℕ → Type 0
 IsFirstFound n f t None = (k : ℕ) → k < n → f k ≡ true → t k ≡ false
 IsFirstFound n f t (Some j) = IsLeast n f t j
-
-same_or_below : (k n : ℕ) → k < suc n → (k ≡ n) ⊎ (k < n)
-same_or_below k n h = grind (arith, h)
 
 module _ (n : ℕ) (f t : ℕ → Bool) where
   -- the last number is the first that passes, or doesn't pass either

@@ -1,9 +1,9 @@
 -- The position when forms have joined: with their units, one after another, and then with the form.
 use Rattle.std.proofs.Common.{◌≡◌, ℕ, suc, ◌+◌, ◌<◌, ◌≤◌, ◌⊎◌, inl, inr, Bool, true, false, List, [], ◌∷◌, ◌++◌, length, map, take, Option, Some, None, refl, sym, ap, ap₂, ◌∙◌, true≢false, arith, append_assoc, length-append}
-use Rattle.std.specs.Prelude.{◌==◌, is_some, nat_lt, slice_index_or, if◌then◌else◌}
+use Rattle.std.specs.Prelude.{is_some, nat_lt, slice_index_or, if◌then◌else◌}
 use Rattle.std.proofs.Math.Path.{fun_ext}
 use Rattle.std.proofs.lemmas.List.{append-nil, get_or_past, length-map, length_push, map-append}
-use Rattle.nz_lists.proofs.Numbers.{below, below_or_past, not_below}
+use Rattle.nz_lists.proofs.Numbers.{below, below_or_past, not_below, equal-number, other-number}
 use Rattle.nz_fractions.specs.Fraction.{Fraction}
 use Rattle.nz_spec.specs.numbers.Infinitesimal.{Infinitesimal}
 use Rattle.nz_spec.specs.simplex.Bland.{Point, Position, zero_infinitesimal}
@@ -22,7 +22,6 @@ use Rattle.nz_simplex.specs.State.{State, value_in, point_in, IsSound, position_
 use Rattle.nz_simplex.specs.Stored.{state_of}
 use Rattle.nz_simplex.specs.Tabled.{marks_in}
 use Rattle.nz_simplex.proofs.JoinedForms.{IsTabJoined, point_new, point_old}
-use Rattle.nz_simplex.proofs.ValuesAfter.{equal_number, other_number}
 
 -- ---- Units
 
@@ -62,26 +61,23 @@ one_first p u us =
     count : length (p.forms ++ parts_of u ∷ []) ≡ length p.forms + 1
     count = length_push p.forms (parts_of u)
 
-    unit_point : ℕ → Option Infinitesimal
-    unit_point k = if k == length p.forms then Some zero_infinitesimal else p.point k
-
     same : (k : ℕ) → (k < length p.forms) ⊎ ((k ≡ length p.forms) ⊎ (suc (length p.forms) ≤ k)) → point_with (with_unit p u) (length us) k ≡ point_with p (suc (length us)) k
     same k (inl h) =
         ap (λ (b : Bool). if b then (with_unit p u).point k else if nat_lt k (length (p.forms ++ parts_of u ∷ []) + length us) then Some zero_infinitesimal else (with_unit p u).point k)
         (below k (length (p.forms ++ parts_of u ∷ [])) (omega (arith, h, count)))
-        ∙ ap (λ (b : Bool). if b then Some zero_infinitesimal else p.point k) (other_number k (length p.forms) (omega (arith, h)))
+        ∙ ap (λ (b : Bool). if b then Some zero_infinitesimal else p.point k) (other-number k (length p.forms) (omega (arith, h)))
         ∙ sym (ap (λ (b : Bool). if b then p.point k else if nat_lt k (length p.forms + suc (length us)) then Some zero_infinitesimal else p.point k) (below k (length p.forms) h))
     same k (inr (inl e)) =
         ap (λ (b : Bool). if b then (with_unit p u).point k else if nat_lt k (length (p.forms ++ parts_of u ∷ []) + length us) then Some zero_infinitesimal else (with_unit p u).point k)
         (below k (length (p.forms ++ parts_of u ∷ [])) (omega (arith, e, count)))
-        ∙ ap (λ (b : Bool). if b then Some zero_infinitesimal else p.point k) (equal_number k (length p.forms) e)
+        ∙ ap (λ (b : Bool). if b then Some zero_infinitesimal else p.point k) (equal-number k (length p.forms) e)
         ∙ sym
         (ap (λ (b : Bool). if b then p.point k else if nat_lt k (length p.forms + suc (length us)) then Some zero_infinitesimal else p.point k) (not_below k (length p.forms) (omega (arith, e)))
         ∙ ap (λ (b : Bool). if b then Some zero_infinitesimal else p.point k) (below k (length p.forms + suc (length us)) (omega (arith, e))))
     same k (inr (inr h)) =
         ap (λ (b : Bool). if b then (with_unit p u).point k else if nat_lt k (length (p.forms ++ parts_of u ∷ []) + length us) then Some zero_infinitesimal else (with_unit p u).point k)
         (not_below k (length (p.forms ++ parts_of u ∷ [])) (omega (arith, h, count)))
-        ∙ ap₂ (λ (b c : Bool). if b then Some zero_infinitesimal else if c then Some zero_infinitesimal else p.point k) sums (other_number k (length p.forms) (omega (arith, h)))
+        ∙ ap₂ (λ (b c : Bool). if b then Some zero_infinitesimal else if c then Some zero_infinitesimal else p.point k) sums (other-number k (length p.forms) (omega (arith, h)))
         ∙ sym (ap (λ (b : Bool). if b then p.point k else if nat_lt k (length p.forms + suc (length us)) then Some zero_infinitesimal else p.point k) (not_below k (length p.forms) (omega (arith, h))))
       where
         more : length (p.forms ++ parts_of u ∷ []) + length us ≡ length p.forms + suc (length us)

@@ -5,7 +5,6 @@ pub mod Bounded
 pub mod BrokenBounds
 pub mod CheckSteps
 pub mod ContradictionSums
-pub mod Empty
 pub mod EntryChoice
 pub mod Exchanges
 pub mod Firsts
@@ -25,6 +24,7 @@ pub mod SettledForms
 pub mod Standings
 pub mod StartBases
 pub mod StepSequences
+pub mod StoredStates
 pub mod SumsInOrder
 pub mod Totals
 pub mod ValueUpdates

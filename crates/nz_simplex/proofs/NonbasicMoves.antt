@@ -4,6 +4,7 @@ use Rattle.std.specs.Prelude.{◌==◌, ◌≢◌, IsSome, option_map, slice_ind
 use Rattle.std.proofs.Math.Path.{fun_ext}
 use Rattle.std.proofs.lemmas.List.{length-map}
 use Rattle.nz_lists.proofs.Places.{slice_index_or-map}
+use Rattle.nz_lists.proofs.Numbers.{equal-number, same_or_other, other-number, same-number}
 use Rattle.nz_fractions.specs.Fraction.{Fraction}
 use Rattle.nz_spec.specs.numbers.Infinitesimal.{Infinitesimal, ◌=δ◌, ◌+δ◌, ◌-δ◌, scaled}
 use Rattle.nz_spec.specs.laws.InfinitesimalMoves.{InfinitesimalsMove}
@@ -19,7 +20,7 @@ use Rattle.nz_simplex.specs.State.{State, nonbasic_in, value_in, point_in, IsOve
 use Rattle.nz_simplex.specs.Stored.{state_of}
 use Rattle.nz_simplex.specs.Tabled.{marks_in, rows_in}
 use Rattle.nz_simplex.proofs.Pointed.{AreKnown, known_marks, known_row, point_marks, row_told}
-use Rattle.nz_simplex.proofs.ValuesAfter.{equal_number, one_or_other, other_number, point_is_value, same_number, some_inside, some_told}
+use Rattle.nz_simplex.proofs.ValuesAfter.{point_is_value, some_inside, some_told}
 
 module _ {S : Type 0} (stands_for : S → Infinitesimal) (tab : Table) (trail later : TrailState S) (old new : List (Option S)) (why : List (ℕ × Fraction)) (v : ℕ) (target : S)
     (moved : slice_index_or new v None ≡ Some target)
@@ -43,7 +44,7 @@ module _ {S : Type 0} (stands_for : S → Infinitesimal) (tab : Table) (trail la
       ∙ sym (slice_index_or-map (option_map stands_for) old k None)
 
   pub known_there : AreKnown there
-  known_there k e = by_case (one_or_other k v)
+  known_there k e = by_case (same_or_other k v)
     where
       by_case : (k ≡ v) ⊎ (k ≢ v) → IsSome (value_in there k)
       by_case (inl same) = subst (λ (o : Option Infinitesimal). IsSome o) (sym (ap (value_in there) same ∙ value_moved)) refl
@@ -58,15 +59,15 @@ module _ {S : Type 0} (stands_for : S → Infinitesimal) (tab : Table) (trail la
 
       by_test : (b : Bool) → (k == v) ≡ b → point_in there k ≡ (if b then Some (stands_for target) else point_in here k)
       by_test true e =
-          let same = same_number k v e in
+          let same = same-number k v e in
           ap (λ (b : Bool). if b then value_in there k else None) (ap (nonbasic_in here) same ∙ nonbasic) ∙ ap (value_in there) same ∙ value_moved
-      by_test false e = by_mark (nonbasic_in here k) refl (λ (same : k ≡ v). true≢false (sym (equal_number k v same) ∙ e))
+      by_test false e = by_mark (nonbasic_in here k) refl (λ (same : k ≡ v). true≢false (sym (equal-number k v same) ∙ e))
 
   pub point_moved : point_in there v ≡ Some (stands_for target)
-  point_moved = point_there v ∙ ap (λ (b : Bool). if b then Some (stands_for target) else point_in here v) (equal_number v v refl)
+  point_moved = point_there v ∙ ap (λ (b : Bool). if b then Some (stands_for target) else point_in here v) (equal-number v v refl)
 
   pub point_stays : (k : ℕ) → k ≢ v → point_in there k ≡ point_in here k
-  point_stays k other = point_there k ∙ ap (λ (b : Bool). if b then Some (stands_for target) else point_in here k) (other_number k v other)
+  point_stays k other = point_there k ∙ ap (λ (b : Bool). if b then Some (stands_for target) else point_in here k) (other-number k v other)
 
   pub marks_same : is_nonbasic (point_in here) ≡ is_nonbasic (point_in there)
   marks_same = fun_ext (λ k. point_marks here sound k ∙ sym (known_marks there known_there k))

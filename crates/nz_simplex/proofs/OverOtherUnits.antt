@@ -2,6 +2,7 @@
 use Rattle.std.proofs.Common.{◌≡◌, Bool, true, false, true≢false, List, [], ◌∷◌, map, pos, refl, sym, ap, ap₂, ◌∙◌}
 use Rattle.std.specs.Prelude.{◌&&◌, ◌||◌}
 use Rattle.std.specs.List.{list_all, AllByRecursion}
+use Rattle.std.proofs.lemmas.Bool.{and_parts}
 use Rattle.nz_fractions.specs.Fraction.{Fraction, whole, ◌=ℚ◌, ◌+ℚ◌, ◌*ℚ◌, Sum, Product, fraction_lt, outcome}
 use Rattle.nz_fractions.proofs.Laws.{=ℚ-from_same, =ℚ_sym}
 use Rattle.nz_fractions.proofs.Identities.{zero_left}
@@ -21,10 +22,6 @@ use Rattle.nz_simplex.proofs.Totals.{onto-worth, total}
 no_parts : (ps : List Part) → is_without_units ps ≡ true → ps ≡ []
 no_parts [] e = refl
 no_parts (p ∷ ps) e = absurd (true≢false (sym e))
-
-first_part : (b c : Bool) → (b && c) ≡ true → (b ≡ true) × (c ≡ true)
-first_part true c e = (refl, e)
-first_part false c e = absurd (true≢false (sym e))
 
 module _ (other : Term → Term) where
   -- ---- Literals
@@ -92,7 +89,7 @@ module _ (other : Term → Term) where
       sum_then = (sum_of_multiples later (map (other_multiple other) ms)).result
 
       both : (is_without_units sum.parts ≡ true) × ((fraction_lt sum.limit (whole (pos 0)) || is_zero sum.limit && sum.is_strict) ≡ true)
-      both = first_part (is_without_units sum.parts) (fraction_lt sum.limit (whole (pos 0)) || is_zero sum.limit && sum.is_strict) c.contradiction
+      both = and_parts (is_without_units sum.parts) (fraction_lt sum.limit (whole (pos 0)) || is_zero sum.limit && sum.is_strict) c.contradiction
 
       -- the units come to nothing
       nothing : (v : Valuation) → total (λ (l : Literal). worth v (bound_of l).parts) ms =ℚ whole (pos 0)

@@ -5,6 +5,7 @@ use Rattle.std.specs.List.{AllByRecursion}
 use Rattle.std.proofs.lemmas.List.{length-map, length_push}
 use Rattle.std.proofs.lemmas.List.Elements.{All-from_recursion}
 use Rattle.nz_lists.proofs.Places.{slice_index_or-map}
+use Rattle.nz_lists.proofs.Numbers.{same_or_below}
 use Rattle.nz_fractions.specs.Fraction.{Fraction, IsNumber, Operation, first_wide}
 use Rattle.nz_spec.specs.numbers.Infinitesimal.{Infinitesimal, ◌=δ◌}
 use Rattle.nz_spec.specs.simplex.Basis.{Coefficients, IsRow}
@@ -74,11 +75,8 @@ count_at_most (suc n) f = by_test (f n) (count_at_most n f)
 
 pub count_below : (n : ℕ) (f : ℕ → Bool) (i : ℕ) → i < n → f i ≡ false → length (numbers n f) < n
 count_below zero f i h e = absurd (omega (arith, h))
-count_below (suc n) f i h e = by_test (f n) refl (one_or_below i n h) (λ below. count_below n f i below e)
+count_below (suc n) f i h e = by_test (f n) refl (same_or_below i n h) (λ below. count_below n f i below e)
   where
-    one_or_below : (i n : ℕ) → i < suc n → (i ≡ n) ⊎ (i < n)
-    one_or_below i n h = grind (arith, h)
-
     by_test : (b : Bool) → f n ≡ b → (i ≡ n) ⊎ (i < n) → (i < n → length (numbers n f) < n) → length (if b then numbers n f ++ n ∷ [] else numbers n f) < suc n
     by_test true g (inl same) rest = absurd (true≢false (sym g ∙ ap f (sym same) ∙ e))
     by_test true g (inr below) rest = let fewer = rest below in omega (arith, fewer, length_push (numbers n f) n)

@@ -1,9 +1,10 @@
 -- The value of a basic form is known from now on, and nothing else changes.
-use Rattle.std.proofs.Common.{◌≡◌, ℕ, ◌<◌, Bool, true, false, List, length, map, Option, Some, None, refl, sym, ap, ◌∙◌, subst, true≢false, arith}
+use Rattle.std.proofs.Common.{◌≡◌, ℕ, ◌<◌, Bool, true, false, List, length, map, Option, Some, None, refl, sym, ap, ◌∙◌, subst, true≢false}
 use Rattle.std.specs.Prelude.{◌==◌, ◌≢◌, IsSome, is_some, option_map, unwrap_or, set, if◌then◌else◌}
 use Rattle.std.proofs.Math.Path.{fun_ext}
 use Rattle.std.proofs.lemmas.List.{length-map, length-set, get_or-set_same, get_or-set_other}
 use Rattle.nz_lists.proofs.Places.{slice_index_or-map}
+use Rattle.nz_lists.proofs.Numbers.{equal-number, same-number}
 use Rattle.nz_fractions.specs.Fraction.{Fraction}
 use Rattle.nz_spec.specs.numbers.Infinitesimal.{Infinitesimal}
 use Rattle.nz_spec.specs.simplex.Bland.{Point, Position, HasValue}
@@ -14,12 +15,6 @@ use Rattle.nz_trail.specs.Bounds.{TrailState}
 use Rattle.nz_simplex.specs.Checks.{IsRenewed}
 use Rattle.nz_simplex.specs.State.{State, nonbasic_in, value_in, point_in, IsOver, IsSound, position_over}
 use Rattle.nz_simplex.specs.Stored.{state_of}
-
-number_same : (k v : ℕ) → (k == v) ≡ true → k ≡ v
-number_same k v e = grind (arith, e)
-
-number_other : (k v : ℕ) → (k == v) ≡ false → k ≢ v
-number_other k v e = λ (same : k ≡ v). grind (arith, e, same)
 
 module _ {S : Type 0} (stands_for : S → Infinitesimal) (tab : Table) (trail : TrailState S) (values : List (Option S)) (why : List (ℕ × Fraction)) (var : ℕ) (x : S)
     (sound : IsSound (state_of stands_for tab trail values why)) (inside : var < length values) (basic : nonbasic_in (state_of stands_for tab trail values why) var ≡ false)
@@ -65,11 +60,11 @@ module _ {S : Type 0} (stands_for : S → Infinitesimal) (tab : Table) (trail : 
     where
       by_test : (b : Bool) → (k == var) ≡ b → HasValue (position_over ns here) k y
       by_test true t =
-          let same = number_same k var t in
+          let same = same-number k var t in
           let value : stands_for x ≡ y = ap (λ (o : Option Infinitesimal). unwrap_or o y) (sym same_var ∙ ap (value_in there) (sym same) ∙ e) in
           subst (λ (n : ℕ). HasValue (position_over ns here) n y) (sym same)
           (subst (λ (v : Infinitesimal). HasValue (position_over ns here) var v) value (right ns (again ns over)))
-      by_test false t = sound.right ns k y (again ns over) (sym (same_other k (number_other k var t)) ∙ e)
+      by_test false t = sound.right ns k y (again ns over) (sym (same_other k (λ same. true≢false (sym (equal-number k var same) ∙ t))) ∙ e)
 
   pub sound_renewed : IsSound there
   sound_renewed = record {
@@ -97,10 +92,10 @@ module _ {S : Type 0} (stands_for : S → Infinitesimal) (tab : Table) (trail : 
         where
           by_test : (b : Bool) → (k == var) ≡ b → value_in there k ≡ Some y
           by_test true t =
-              let same = number_same k var t in
+              let same = same-number k var t in
               let none : None ≡ Some y = sym unknown ∙ ap (value_in here) (sym same) ∙ e in
               absurd (cc)
-          by_test false t = same_other k (number_other k var t) ∙ e
+          by_test false t = same_other k (λ same. true≢false (sym (equal-number k var same) ∙ t)) ∙ e
 
 -- ---- By what is shown of the simplex
 

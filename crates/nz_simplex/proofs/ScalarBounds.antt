@@ -72,6 +72,12 @@ module _ {X Y : Type 0} (f : X → Y) where
 
 -- ---- Bounds
 
+-- what an outcome tells of a bound, over those that were asserted
+pub record Tells (bs : List Held) (b : Held) (o : AssertOutcome) : Type 0 where
+  pub kept : (o ≡ Kept) ↔ IsImplied infinitesimal_cmp bs b
+  pub clash : (r : ℕ) → (s : ℕ) → (o ≡ Clash r s) ↔ ((r ≡ b.reason) × ClashesWith infinitesimal_cmp bs b s)
+  pub tighter : (o ≡ Tighter) ↔ ((¬ IsImplied infinitesimal_cmp bs b) × (¬ IsExcluded infinitesimal_cmp bs b))
+
 module _ {S : Type 0} (stands_for : S → Infinitesimal) (order : S → S → Ordering) (same : (x y : S) → order x y ≡ infinitesimal_cmp (stands_for x) (stands_for y)) where
   pub tighter_to : (side : Side) (x y : S) → IsTighter order side x y → IsTighter infinitesimal_cmp side (stands_for x) (stands_for y)
   tighter_to Lower x y h = sym (same x y) ∙ h
@@ -190,19 +196,16 @@ module _ {S : Type 0} (stands_for : S → Infinitesimal) (order : S → S → Or
 
     -- ---- What comes of a bound
 
-    pub kept_shown : (b : Asserted S) (o : AssertOutcome) → (o ≡ Kept) ↔ IsImplied order list b → (o ≡ Kept) ↔ IsImplied infinitesimal_cmp numbers (told stands_for b)
-    kept_shown b o h = (λ e. (implied_same b).0 (h.0 e), λ i. h.1 ((implied_same b).1 i))
-
-    pub clash_shown : (b : Asserted S) (o : AssertOutcome) → ((r : ℕ) → (s : ℕ) → (o ≡ Clash r s) ↔ ((r ≡ b.reason) × ClashesWith order list b s))
-        → (r : ℕ) → (s : ℕ) → (o ≡ Clash r s) ↔ ((r ≡ b.reason) × ClashesWith infinitesimal_cmp numbers (told stands_for b) s)
-    clash_shown b o h r s = (
-      λ e. let there = (h r s).0 e in (there.0, (clash_same b s).0 there.1),
-      λ p. (h r s).1 (p.0, (clash_same b s).1 p.1),
-    )
-
-    pub tighter_shown : (b : Asserted S) (o : AssertOutcome) → (o ≡ Tighter) ↔ ((¬ IsImplied order list b) × (¬ IsExcluded order list b))
-        → (o ≡ Tighter) ↔ ((¬ IsImplied infinitesimal_cmp numbers (told stands_for b)) × (¬ IsExcluded infinitesimal_cmp numbers (told stands_for b)))
-    tighter_shown b o h = (
-      λ e. let there = h.0 e in (λ i. there.0 ((implied_same b).1 i), λ x. there.1 ((excluded_same b).1 x)),
-      λ p. h.1 (λ i. p.0 ((implied_same b).0 i), λ x. p.1 ((excluded_same b).0 x)),
-    )
+    pub outcome_shown : (b : Asserted S) (o : AssertOutcome) → (o ≡ Kept) ↔ IsImplied order list b → ((r : ℕ) → (s : ℕ) → (o ≡ Clash r s) ↔ ((r ≡ b.reason) × ClashesWith order list b s))
+        → (o ≡ Tighter) ↔ ((¬ IsImplied order list b) × (¬ IsExcluded order list b)) → Tells numbers (told stands_for b) o
+    outcome_shown b o kept clash tighter = record {
+      kept = (λ e. (implied_same b).0 (kept.0 e), λ i. kept.1 ((implied_same b).1 i));
+      clash = λ r s. (
+        λ e. let there = (clash r s).0 e in (there.0, (clash_same b s).0 there.1),
+        λ p. (clash r s).1 (p.0, (clash_same b s).1 p.1),
+      );
+      tighter = (
+        λ e. let there = tighter.0 e in (λ i. there.0 ((implied_same b).1 i), λ x. there.1 ((excluded_same b).1 x)),
+        λ p. tighter.1 (λ i. p.0 ((implied_same b).0 i), λ x. p.1 ((excluded_same b).0 x)),
+      );
+    }

@@ -2,6 +2,7 @@
 use Rattle.std.proofs.Common.{◌≡◌, ℕ, zero, suc, arith, ◌<◌, ◌⊎◌, inl, inr, Bool, true, false, List, [], ◌∷◌, ◌++◌, length, Option, Some, None, refl, sym, ap, ◌∙◌, subst, true≢false}
 use Rattle.std.specs.Prelude.{◌==◌, ◌≢◌, ◌||◌, option_map, slice_index_or, unwrap_or, is_some, if◌then◌else◌}
 use Rattle.std.proofs.lemmas.List.{length-map}
+use Rattle.nz_lists.proofs.Numbers.{equal-number, same_or_other, same-number}
 use Rattle.nz_fractions.specs.Fraction.{Fraction}
 use Rattle.nz_spec.specs.numbers.Infinitesimal.{Infinitesimal}
 use Rattle.nz_spec.specs.laws.InfinitesimalMoves.{InfinitesimalsMove}
@@ -20,7 +21,7 @@ use Rattle.nz_simplex.specs.State.{State, nonbasic_in, value_in, IsOver, IsSound
 use Rattle.nz_simplex.specs.Stored.{state_of}
 use Rattle.nz_simplex.specs.Tabled.{marks_in, rows_in}
 use Rattle.nz_simplex.proofs.NonbasicMoves.{basis_there, known_there, over_before, point_stays, right_there, value_moved, value_stays}
-use Rattle.nz_simplex.proofs.ValuesAfter.{equal_number, one_or_other, same_number}
+use Rattle.nz_simplex.proofs.StoredStates.{Soundly}
 
 -- ---- One form
 
@@ -42,11 +43,11 @@ module _ {S : Type 0} (stands_for : S → Infinitesimal) (tab : Table) (trail : 
         where
           by_test : (b : Bool) → (k == v) ≡ b → value_in there k ≡ (if b || false then Some zero_infinitesimal else value_in here k)
           by_test true t =
-              ap (value_in there) (same_number k v t)
+              ap (value_in there) (same-number k v t)
               ∙ value_moved stands_for tab trail trail old new why v target moved stays sound nonbasic
               ∙ ap Some at_zero
           by_test false t =
-              value_stays stands_for tab trail trail old new why v target moved stays sound nonbasic k (λ (same : k ≡ v). true≢false (sym (equal_number k v same) ∙ t)) e
+              value_stays stands_for tab trail trail old new why v target moved stays sound nonbasic k (λ (same : k ≡ v). true≢false (sym (equal-number k v same) ∙ t)) e
 
   module _ (lower : standing here.asserted v Lower ≡ None) (upper : standing here.asserted v Upper ≡ None) where
     no_bound : (ns : List Node) (side : bland.Side) → bound_on side (position_over ns there) v ≡ None
@@ -58,7 +59,7 @@ module _ {S : Type 0} (stands_for : S → Infinitesimal) (tab : Table) (trail : 
     same_bound ns upper_side k = refl
 
     fit_there : (ns : List Node) → IsOver ns there → NonbasicFormsFit (position_over ns there)
-    fit_there ns over side k bound e stands out = by_case (one_or_other k v)
+    fit_there ns over side k bound e stands out = by_case (same_or_other k v)
       where
         by_case : (k ≡ v) ⊎ (k ≢ v) → ⊥
         by_case (inl same) =
@@ -91,11 +92,6 @@ module _ {S : Type 0} (stands_for : S → Infinitesimal) (tab : Table) (trail : 
           right_there stands_for tab trail trail old new why v target moved stays sound nonbasic sums values infinitesimals itself tableau long follows ns over k x e;
     }
 
--- what holds of the simplex then, by what is shown of it
-pub record IsSettledSoundly (old new : State) (vars : List ℕ) : Type 0 where
-  pub settled : IsSettled old new vars
-  pub sound : IsSound new
-
 pub settled_shown : {S : Type 0} (stands_for : S → Infinitesimal) (tab : Table) (trail : TrailState S) (old now new : List (Option S)) (why : List (ℕ × Fraction)) (seen : State) (v : ℕ) (target : S)
     → state_of stands_for tab trail old why ≡ seen → IsSound (state_of stands_for tab trail old why) → nonbasic_in seen v ≡ true → standing seen.asserted v Lower ≡ None → standing seen.asserted v Upper ≡ None
     → stands_for target ≡ zero_infinitesimal → SumMoves → PositionsHaveValues → InfinitesimalsMove → NonbasicFormIsItself → IsTableau tab → now ≡ old → length new ≡ length now
@@ -103,7 +99,7 @@ pub settled_shown : {S : Type 0} (stands_for : S → Infinitesimal) (tab : Table
     → ((k : ℕ) → k ≢ v → slice_index_or (marks_in tab) k false ≡ true → slice_index_or new k None ≡ slice_index_or now k None)
     → ((k : ℕ) → k < length tab.forms → slice_index_or (marks_in tab) k false ≡ false
     → IsFollowed stands_for (slice_index_or now v None) target (rows_in tab k v) (slice_index_or now k None) (slice_index_or new k None))
-    → IsSettledSoundly seen (state_of stands_for tab trail new why) (v ∷ [])
+    → Soundly (λ s. IsSettled seen s (v ∷ [])) (state_of stands_for tab trail new why)
 settled_shown {S} stands_for tab trail old now new why seen v target view sound nonbasic lower upper at_zero sums values infinitesimals itself tableau is_now long moved stays follows =
     let here : State = state_of stands_for tab trail old why in
     let marked : nonbasic_in here v ≡ true = ap (λ (s : State). nonbasic_in s v) view ∙ nonbasic in
@@ -116,7 +112,7 @@ settled_shown {S} stands_for tab trail old now new why seen v target view sound 
     → IsFollowed stands_for (slice_index_or vs v None) target (rows_in tab k v) (slice_index_or vs k None) (slice_index_or new k None))
     is_now follows in
     record {
-      settled = subst (λ (s : State). IsSettled s (state_of stands_for tab trail new why) (v ∷ [])) view (settled_one stands_for tab trail old new why v target moved stays_here sound marked at_zero);
+      shown = subst (λ (s : State). IsSettled s (state_of stands_for tab trail new why) (v ∷ [])) view (settled_one stands_for tab trail old new why v target moved stays_here sound marked at_zero);
       sound =
           sound_settled stands_for tab trail old new why v target moved stays_here sound marked
           (ap (λ (s : State). standing s.asserted v Lower) view ∙ lower)

@@ -1,11 +1,13 @@
 -- What a trail tells that stands is what stands of the numbers.
-use Rattle.std.proofs.Common.{◌≡◌, ℕ, Bool, true, false, List, [], ◌∷◌, ◌++◌, map, Option, Some, None, refl, sym, ap, ap₂, ◌∙◌, subst, true≢false, arith}
+use Rattle.std.proofs.Common.{◌≡◌, ℕ, Bool, true, false, List, [], ◌∷◌, ◌++◌, map, Option, Some, None, refl, sym, ap, ap₂, ◌∙◌, subst, true≢false}
 use Rattle.std.specs.Prelude.{◌==◌, ◌&&◌, All, fold, option_map, if◌then◌else◌}
 use Rattle.std.specs.Ordering.{is_lt, ordering_reverse}
 use Rattle.std.specs.declared.cmp.Ordering.{Ordering}
 use Rattle.std.specs.declared.cmp.Ordering.TheVariants.{Less, Equal, Greater}
 use Rattle.std.specs.Cmp.{IsTotalOrder}
 use Rattle.std.proofs.lemmas.List.Elements.{All-head, All-tail}
+use Rattle.std.proofs.lemmas.Bool.{and_parts}
+use Rattle.nz_lists.proofs.Numbers.{equal-number, same-number}
 use Rattle.nz_spec.specs.numbers.Infinitesimal.{Infinitesimal, infinitesimal_cmp}
 use Rattle.nz_spec.specs.simplex.PositionMoves.{is_outside}
 use Rattle.nz_trail.specs.Bounds.{Asserted, IsOn, IsTighter, Stands, asserted}
@@ -30,25 +32,11 @@ side_itself : (side : Side) → is_side side side ≡ true
 side_itself Lower = refl
 side_itself Upper = refl
 
-side_same : (side other : Side) → is_side side other ≡ true → other ≡ side
+pub side_same : (side other : Side) → is_side side other ≡ true → other ≡ side
 side_same Lower Lower e = refl
 side_same Lower Upper e = cc
 side_same Upper Lower e = cc
 side_same Upper Upper e = refl
-
-number_itself : (v : ℕ) → (v == v) ≡ true
-number_itself v = grind arith
-
-number_same : (k v : ℕ) → (k == v) ≡ true → k ≡ v
-number_same k v e = grind (arith, e)
-
-and_first : (a b : Bool) → (a && b) ≡ true → a ≡ true
-and_first true b e = refl
-and_first false b e = cc
-
-and_second : (a b : Bool) → (a && b) ≡ true → b ≡ true
-and_second true b e = e
-and_second false b e = cc
 
 module _ {S : Type 0} (stands_for : S → Infinitesimal) (order : S → S → Ordering) (total : IsTotalOrder order)
     (same : (x y : S) → order x y ≡ infinitesimal_cmp (stands_for x) (stands_for y)) where
@@ -63,8 +51,8 @@ module _ {S : Type 0} (stands_for : S → Infinitesimal) (order : S → S → Or
   module _ (v : ℕ) (side : Side) where
     pub on_told : (e : Asserted S) → is_bound_of v side (told stands_for e) ≡ true → IsOn v side e
     on_told e t = record {
-      var = number_same e.var v (and_first (e.var == v) (is_side side e.side) t);
-      side = side_same side e.side (and_second (e.var == v) (is_side side e.side) t);
+      var = same-number e.var v (and_parts (e.var == v) (is_side side e.side) t).0;
+      side = side_same side e.side (and_parts (e.var == v) (is_side side e.side) t).1;
     }
 
     -- what stands before the tightest is looser
@@ -121,7 +109,7 @@ module _ {S : Type 0} (stands_for : S → Infinitesimal) (order : S → S → Or
         → standing_with v side o (told stands_for (asserted v side x r)) ≡ Some (told stands_for (asserted v side x r))
     taken x r o news =
         ap₂ (λ (m n : Bool). if m && n then Some (told stands_for (asserted v side x r)) else o)
-        (ap₂ (λ (a b : Bool). a && b) (number_itself v) (side_itself side)) news
+        (ap₂ (λ (a b : Bool). a && b) (equal-number v v refl) (side_itself side)) news
 
     folded : (o : Option Held) (xs ys : List (Asserted S))
         → fold (standing_with v side) o (map (told stands_for) (xs ++ ys)) ≡ fold (standing_with v side) (fold (standing_with v side) o (map (told stands_for) xs)) (map (told stands_for) ys)

@@ -4,6 +4,7 @@ use Rattle.std.specs.Prelude.{◌==◌, ◌≢◌, IsSome, option_map, set, slic
 use Rattle.std.proofs.Math.Path.{fun_ext}
 use Rattle.std.proofs.lemmas.List.{length-map, length-set, get_or-set_same, get_or-set_other}
 use Rattle.nz_lists.proofs.Places.{slice_index_or-map}
+use Rattle.nz_lists.proofs.Numbers.{equal-number, same-number}
 use Rattle.nz_fractions.specs.Fraction.{Fraction, first_wide, whole}
 use Rattle.nz_fractions.proofs.Order.{same-fraction_eq}
 use Rattle.nz_spec.specs.numbers.Infinitesimal.{Infinitesimal}
@@ -26,7 +27,8 @@ use Rattle.nz_simplex.specs.Stored.{state_of}
 use Rattle.nz_simplex.specs.Tabled.{rows_in}
 use Rattle.nz_simplex.proofs.Pointed.{AreKnown, known_marks, point_marks, row_told, rows_told}
 use Rattle.nz_simplex.proofs.SettledForms.{marked_inside}
-use Rattle.nz_simplex.proofs.ValuesAfter.{equal_number, point_is_value, same_number}
+use Rattle.nz_simplex.proofs.ValuesAfter.{point_is_value}
+use Rattle.nz_simplex.proofs.StoredStates.{Soundly}
 
 -- ---- Soundness without bounds
 
@@ -77,10 +79,10 @@ value_set {S} stands_for values v o inside k = slice_index_or-map (option_map st
     by_test : (b : Bool) → (k == v) ≡ b
         → option_map stands_for (slice_index_or (set values v o) k None) ≡ (if b then option_map stands_for o else slice_index_or (map (option_map stands_for) values) k None)
     by_test true t =
-        ap (λ (n : ℕ). option_map stands_for (slice_index_or (set values v o) n None)) (same_number k v t)
+        ap (λ (n : ℕ). option_map stands_for (slice_index_or (set values v o) n None)) (same-number k v t)
         ∙ ap (option_map stands_for) (get_or-set_same values v o None inside)
     by_test false t =
-        ap (option_map stands_for) (get_or-set_other values v k o None (λ (same : k ≡ v). true≢false (sym (equal_number k v same) ∙ t)))
+        ap (option_map stands_for) (get_or-set_other values v k o None (λ (same : k ≡ v). true≢false (sym (equal-number k v same) ∙ t)))
         ∙ sym (slice_index_or-map (option_map stands_for) values k None)
 
 inside_values : {S : Type 0} (stands_for : S → Infinitesimal) (tab : Table) (trail : TrailState S) (values : List (Option S)) (why : List (ℕ × Fraction))
@@ -107,17 +109,12 @@ module _ (s t : State) (v : ℕ) (x : Infinitesimal) (h : StandsAt s t v x) wher
       basic = sym (marks_stay k) ∙ e
 
       by_test : (b : Bool) → (k == v) ≡ b → (if b then Some x else value_in s k) ≡ None
-      by_test true same = absurd (true≢false (sym nonbasic ∙ ap (nonbasic_in s) (sym (same_number k v same)) ∙ basic))
+      by_test true same = absurd (true≢false (sym nonbasic ∙ ap (nonbasic_in s) (sym (same-number k v same)) ∙ basic))
       by_test false other = alone k basic
-
--- what holds of the simplex then, by what is shown of it
-pub record StandsSoundly (old new : State) (v : ℕ) (x : Infinitesimal) : Type 0 where
-  pub stands : StandsAt old new v x
-  pub sound : IsSound new
 
 pub stands_shown : {S : Type 0} (stands_for : S → Infinitesimal) (tab : Table) (trail : TrailState S) (values : List (Option S)) (why : List (ℕ × Fraction)) (seen : State) (v : ℕ) (x : S)
     → state_of stands_for tab trail values why ≡ seen → IsSound (state_of stands_for tab trail values why) → nonbasic_in seen v ≡ true → seen.asserted ≡ [] → KnowsNonbasicAlone seen
-    → NonbasicFormIsItself → IsTableau tab → StandsSoundly seen (state_of stands_for tab trail (set values v (Some x)) why) v (stands_for x)
+    → NonbasicFormIsItself → IsTableau tab → Soundly (λ s. StandsAt seen s v (stands_for x)) (state_of stands_for tab trail (set values v (Some x)) why)
 stands_shown {S} stands_for tab trail values why seen v x view sound nonbasic unbounded alone itself tableau =
     let here : State = state_of stands_for tab trail values why in
     let there : State = state_of stands_for tab trail (set values v (Some x)) why in
@@ -126,7 +123,7 @@ stands_shown {S} stands_for tab trail values why seen v x view sound nonbasic un
     let stands : StandsAt here there v (stands_for x) = record { forms = refl; marks = refl; values = value_set stands_for values v (Some x) inside; asserted = refl; why = refl } in
     let known : AreKnown there = stands_known here there v (stands_for x) stands sound.known in
     record {
-      stands = subst (λ (s : State). StandsAt s there v (stands_for x)) view stands;
+      shown = subst (λ (s : State). StandsAt s there v (stands_for x)) view stands;
       sound =
           sound_unbounded there (ap (λ (s : State). s.asserted) view ∙ unbounded) itself sound.marked
           (length-map (set values v (Some x)) (option_map stands_for) ∙ length-set values v (Some x) ∙ sym (length-map values (option_map stands_for)) ∙ sound.valued)
@@ -153,11 +150,6 @@ module _ (s t : State) (i j : ℕ) (h : IsExchanged s t i j) where
       by_tests true c m = absurd (true≢false m)
       by_tests false true m = refl
       by_tests false false m = alone k m
-
--- what holds of the simplex then
-pub record IsExchangedSoundly (old new : State) (i j : ℕ) : Type 0 where
-  pub exchanged : IsExchanged old new i j
-  pub sound : IsSound new
 
 module _ {S : Type 0} (stands_for : S → Infinitesimal) (tab : Table) (trail : TrailState S) (values : List (Option S)) (why : List (ℕ × Fraction)) (seen : State)
     (view : state_of stands_for tab trail values why ≡ seen) (sound : IsSound (state_of stands_for tab trail values why))
@@ -229,7 +221,7 @@ module _ {S : Type 0} (stands_for : S → Infinitesimal) (tab : Table) (trail : 
       where
         by_tests : (b c : Bool) → (k == i) ≡ b → (k == j) ≡ c
             → (if c then None else if b then Some (stands_for target) else value_in here k) ≡ (if b then Some zero_infinitesimal else if c then None else value_in here k)
-        by_tests true true e f = absurd (apart (sym (same_number k i e) ∙ same_number k j f))
+        by_tests true true e f = absurd (apart (sym (same-number k i e) ∙ same-number k j f))
         by_tests true false e f = ap Some at_zero
         by_tests false true e f = refl
         by_tests false false e f = refl
@@ -237,11 +229,11 @@ module _ {S : Type 0} (stands_for : S → Infinitesimal) (tab : Table) (trail : 
     exchanged_here : IsExchanged here there i j
     exchanged_here = record { forms = pivoted.forms; marks = pivoted.rows.nonbasic; values = values_after; asserted = refl; why = refl }
 
-    pub exchanged_shown : seen.asserted ≡ [] → KnowsNonbasicAlone seen → NonbasicFormIsItself → IsTableau new_tab → IsExchangedSoundly seen there i j
+    pub exchanged_shown : seen.asserted ≡ [] → KnowsNonbasicAlone seen → NonbasicFormIsItself → IsTableau new_tab → Soundly (λ s. IsExchanged seen s i j) there
     exchanged_shown unbounded alone itself tableau =
         let known : AreKnown there = exchanged_known here there i j exchanged_here sound.known in
         record {
-          exchanged = subst (λ (s : State). IsExchanged s there i j) view exchanged_here;
+          shown = subst (λ (s : State). IsExchanged s there i j) view exchanged_here;
           sound =
               sound_unbounded there (ap (λ (s : State). s.asserted) view ∙ unbounded) itself
               (pivoted.rows.count ∙ sound.marked ∙ ap length (sym pivoted.forms))

@@ -1,7 +1,8 @@
 -- What the sum of multiples of literals is: its units are worth the sum of theirs, its limit is the sum of theirs, and it is strict only where one of them is.
-use Rattle.std.proofs.Common.{◌≡◌, Bool, true, false, List, [], ◌∷◌, pos, refl, ap, true≢false}
-use Rattle.std.specs.Prelude.{◌||◌, nat_lt, if◌then◌else◌}
+use Rattle.std.proofs.Common.{◌≡◌, Bool, true, false, List, [], ◌∷◌, pos, refl, ap}
+use Rattle.std.specs.Prelude.{nat_lt, if◌then◌else◌}
 use Rattle.std.specs.List.{AllByRecursion}
+use Rattle.std.proofs.lemmas.Bool.{or_parts}
 use Rattle.nz_ints.proofs.Ring.{Atom, ◌⊕◌, ◌⊗◌}
 use Rattle.nz_fractions.specs.Fraction.{Fraction, whole, ◌=ℚ◌, ◌+ℚ◌, ◌*ℚ◌, Sum, Product, outcome}
 use Rattle.nz_fractions.proofs.Laws.{=ℚ_refl, =ℚ-from_same, =ℚ_sym}
@@ -89,14 +90,10 @@ module _ (number : Numbering) where
       ∙ℚ plus_left rest (outcome-sum x.limit y.limit ∙ℚ plus_right x.limit (outcome-product m.multiplier (bound_of m.literal).limit))
       ∙ℚ +ℚ_assoc x.limit (m.multiplier *ℚ (bound_of m.literal).limit) rest
 
-  neither : (b c : Bool) → (b || c) ≡ false → (b ≡ false) × (c ≡ false)
-  neither true c e = absurd (true≢false e)
-  neither false c e = (refl, e)
-
   pub onto-lax : (x : Bound) (ms : List Multiple) → (multiples_onto number x ms).result.is_strict ≡ false
       → (x.is_strict ≡ false) × AllByRecursion (λ (m : Multiple). (bound_of m.literal).is_strict ≡ false) ms
   onto-lax x [] e = (e, tt)
   onto-lax x (m ∷ ms) e =
       let rest = onto-lax (bounds_joined number x (bound_scaled m.multiplier (bound_of m.literal)).result).result ms e in
-      let both = neither x.is_strict (bound_of m.literal).is_strict rest.0 in
+      let both = or_parts x.is_strict (bound_of m.literal).is_strict rest.0 in
       (both.0, (both.1, rest.1))

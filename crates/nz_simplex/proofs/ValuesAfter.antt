@@ -1,6 +1,6 @@
 -- Values at a position that come of values at another one.
-use Rattle.std.proofs.Common.{◌≡◌, ℕ, zero, suc, ◌<◌, ◌⊎◌, inl, inr, Bool, true, false, List, [], ◌∷◌, length, Option, Some, None, pos, refl, sym, ap, ◌∙◌, subst, true≢false, arith}
-use Rattle.std.specs.Prelude.{◌==◌, ◌≢◌, is_some, option_map, slice_index_or, unwrap_or}
+use Rattle.std.proofs.Common.{◌≡◌, ℕ, zero, suc, ◌<◌, true, List, [], ◌∷◌, length, Option, Some, None, pos, refl, ap, subst, arith}
+use Rattle.std.specs.Prelude.{is_some, option_map, slice_index_or, unwrap_or}
 use Rattle.nz_fractions.specs.Fraction.{whole}
 use Rattle.nz_fractions.proofs.Laws.{=ℚ_sym}
 use Rattle.nz_spec.specs.numbers.Infinitesimal.{Infinitesimal, ◌=δ◌}
@@ -35,24 +35,6 @@ equal_value law p k x y e h = record {
   is_row = h.is_row;
   at = law.along x y (sum_at (length p.forms) h.row (value_in p.point)) e h.at;
 }
-
--- ---- Numbers
-
-pub same_number : (k i : ℕ) → (k == i) ≡ true → k ≡ i
-same_number k i e = grind (arith, e)
-
-pub equal_number : (k i : ℕ) → k ≡ i → (k == i) ≡ true
-equal_number k i e = grind (arith, e)
-
-pub other_number : (k i : ℕ) → k ≢ i → (k == i) ≡ false
-other_number k i h = grind (arith, h)
-
-pub one_or_other : (k i : ℕ) → (k ≡ i) ⊎ (k ≢ i)
-one_or_other k i = by_test (k == i) refl
-  where
-    by_test : (b : Bool) → (k == i) ≡ b → (k ≡ i) ⊎ (k ≢ i)
-    by_test true e = inl (same_number k i e)
-    by_test false e = inr (λ (same : k ≡ i). true≢false (sym (equal_number k i same) ∙ e))
 
 -- ---- Values that are known
 

@@ -12,6 +12,7 @@ use nz_tab::laws::units_join;
 
 /// Where each bound that was asserted has a literal that says the same, the literals of clashing bounds, with their multipliers, sum to a
 /// contradiction: those that a check tells, and two bounds that leave a form no value.
+#[tactic(auto, using(crate::proofs::ContradictionSums::clashes_contradict))]
 pub fn clashes_contradict()
     ensures contradict { ClashesContradict }
 {
@@ -29,6 +30,7 @@ pub fn contradictions_stay()
 }
 
 /// Where a form that joins leaves the numbers, the operation is one of its row, over the position to which its units have joined.
+#[tactic(auto, using(crate::proofs::WideJoinRows::joins_stop_at_rows))]
 pub fn joins_stop_at_rows()
     ensures stop { JoinsStopAtRows }
 {
@@ -36,11 +38,13 @@ pub fn joins_stop_at_rows()
 }
 
 /// Which literals say which bounds of a form.
+#[tactic(auto, using(crate::proofs::BoundLiterals::literals_say_bounds))]
 pub fn literals_say_bounds()
     ensures say { LiteralsSayBounds }
 {}
 
 /// The parts of a term's form are a sum, and stay one when they are multiplied or negated.
+#[tactic(auto, using(crate::proofs::BoundLiterals::sums_stay))]
 pub fn sums_stay()
     ensures stay { SumsStay }
 {

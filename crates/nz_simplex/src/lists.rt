@@ -30,29 +30,21 @@ fn first_value<S: Coordinate>(is_basic: bool) -> Option<S>
     if is_basic { None } else { Some(S::zero()) }
 }
 
-/// Lists the basic forms.
-pub(crate) fn list_basic(tab: &Tab, basic: &mut Vec<Var>)
-    requires room { length tab.now.forms ≤ vec_capacity basic.old }
-    ensures listed { basic.new.items ≡ numbers (length tab.now.forms) (λ k. not (slice_index_or (marks_in tab.now) k false)) }
-    ensures capacity { vec_capacity basic.new ≡ vec_capacity basic.old }
+/// Lists the basic forms and the nonbasic ones.
+pub(crate) fn list_forms(tab: &Tab, basic: &mut Vec<Var>, nonbasic: &mut Vec<Var>)
+    requires basic_room { length tab.now.forms ≤ vec_capacity basic.old }
+    requires nonbasic_room { length tab.now.forms ≤ vec_capacity nonbasic.old }
+    ensures basic { basic.new.items ≡ numbers (length tab.now.forms) (λ k. not (slice_index_or (marks_in tab.now) k false)) }
+    ensures nonbasic { nonbasic.new.items ≡ numbers (length tab.now.forms) (λ k. slice_index_or (marks_in tab.now) k false) }
+    ensures basic_capacity { vec_capacity basic.new ≡ vec_capacity basic.old }
+    ensures nonbasic_capacity { vec_capacity nonbasic.new ≡ vec_capacity nonbasic.old }
 {
     basic.clear();
+    nonbasic.clear();
     for var in 0..tab.len() {
         if tab.is_basic(var) {
             basic.push_reserved(var);
-        }
-    }
-}
-
-/// Lists the nonbasic forms.
-pub(crate) fn list_nonbasic(tab: &Tab, nonbasic: &mut Vec<Var>)
-    requires room { length tab.now.forms ≤ vec_capacity nonbasic.old }
-    ensures listed { nonbasic.new.items ≡ numbers (length tab.now.forms) (λ k. slice_index_or (marks_in tab.now) k false) }
-    ensures capacity { vec_capacity nonbasic.new ≡ vec_capacity nonbasic.old }
-{
-    nonbasic.clear();
-    for var in 0..tab.len() {
-        if !tab.is_basic(var) {
+        } else {
             nonbasic.push_reserved(var);
         }
     }

@@ -104,11 +104,7 @@ fn test_numbers_start_anew_after_a_reset(rt: HostRuntime) -> Result<(), Fail> {
         Step::Command("(reset-assertions)", b"cleared"),
         Step::Command("(declare-const q Bool)", b"changed"),
         Step::Constants(&[Accepted { number: 0, term: 1 }]),
-        Step::Counts {
-            goals: 0,
-            wishes: 0,
-            levels: 0,
-        },
+        Step::Counts(0, 0, 0),
     ];
     run(rt.alloc(), STEPS)
 }

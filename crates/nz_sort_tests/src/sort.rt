@@ -45,11 +45,7 @@ fn test_nothing_is_sought_or_wished_yet(rt: HostRuntime) -> Result<(), Fail> {
     const STEPS: &[Step] = &[
         Step::Command("(declare-const p Bool)", b"changed"),
         Step::Command("(assert p)", b"changed"),
-        Step::Counts {
-            goals: 0,
-            wishes: 0,
-            levels: 0,
-        },
+        Step::Counts(0, 0, 0),
     ];
     run(rt.alloc(), STEPS)
 }

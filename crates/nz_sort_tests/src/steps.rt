@@ -19,11 +19,7 @@ pub(crate) enum Step {
     /// These are the assertions of the newest level.
     Assertions(&'static [Accepted]),
     /// So many goals and wishes are in the newest level, and so many levels were pushed.
-    Counts {
-        goals: usize,
-        wishes: usize,
-        levels: usize,
-    },
+    Counts(usize, usize, usize),
     /// The table has so many terms.
     Terms(usize),
     /// The live terms are listed in this order.
@@ -96,11 +92,9 @@ fn is_met(alloc: Global, trial: &mut Trial, step: &Step) -> Result<bool, Error> 
         Step::Numbers(command, wide, long) => faults(alloc, command)? == (*wide, *long),
         Step::Constants(wanted) => has_constants(trial.live(), wanted),
         Step::Assertions(wanted) => has_assertions(trial.live(), wanted),
-        Step::Counts {
-            goals,
-            wishes,
-            levels,
-        } => has_counts(trial.live(), *goals, *wishes, *levels),
+        Step::Counts(goals, wishes, levels) => {
+            has_counts(trial.live(), *goals, *wishes, *levels)
+        }
         Step::Terms(count) => trial.term_count() == *count,
         Step::Listed(wanted) => is_listed(alloc, trial, wanted)?,
     })

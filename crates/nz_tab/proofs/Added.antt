@@ -34,7 +34,7 @@ prepared vs us f n count qs len many units listed =
       listed = listed ∙ ap (λ (m : ℕ). addends (map items vs.items) m f) long;
     }
 
-module _ (forms : List (List Part)) (f : List Part) (us : List (Vec Part Global)) (count : ℕ) (qs : List (ℕ × Fraction)) (p : IsPrepared forms f us count qs) (old : Grid) (marks : length old.marks ≡ length forms) where
+module _ {forms : List (List Part)} {f : List Part} {us : List (Vec Part Global)} {count : ℕ} {qs : List (ℕ × Fraction)} (p : IsPrepared forms f us count qs) (old : Grid) (marks : length old.marks ≡ length forms) where
   pub within : All (λ (a : ℕ × Fraction). a.0 < length old.marks + count) qs
   within =
       let bound : length forms + length (new_units forms f) ≡ length old.marks + count = omega (arith, marks, p.many) in

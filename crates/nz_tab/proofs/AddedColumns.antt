@@ -11,6 +11,7 @@ use Rattle.nz_tab.specs.Rows.{Grid, IsGrid, basic, columns_of, is_nonbasic, plac
 use Rattle.nz_tab.specs.Sums.{IsStoredGrid, IsWidened, lengthened, next_columns, widened}
 use Rattle.nz_tab.proofs.Blocks.{coefficient_there, marked_within, no_coefficient}
 use Rattle.nz_tab.proofs.Numbers.{one_passes}
+use Rattle.nz_tab.proofs.StoredRows.{made}
 
 -- ---- Numbers below a bound
 
@@ -64,12 +65,10 @@ column_at w (suc n) m e = by_place (same_or_below m n e) (column_at w n m)
         ∙ ap (λ (x : ℕ). w + x) (sym h)
     by_place (inr h) rest = get_or_append_left (next_columns w n) ((w + n) ∷ []) 0 m (omega (arith, h, columns_long w n)) ∙ rest h
 
-zeros_there : (units m : ℕ) → get_or (replicate units (whole (pos 0))) m (whole (pos 0)) ≡ whole (pos 0)
-zeros_there units m = by_place (below_or_past m units)
-  where
-    by_place : (m < units) ⊎ (units ≤ m) → get_or (replicate units (whole (pos 0))) m (whole (pos 0)) ≡ whole (pos 0)
-    by_place (inl e) = get_or-replicate units m (whole (pos 0)) (whole (pos 0)) e
-    by_place (inr e) = get_or_past (replicate units (whole (pos 0))) m (whole (pos 0)) (omega (arith, e, length-replicate units (whole (pos 0))))
+pub zeros_there : (units m : ℕ) → get_or (replicate units (whole (pos 0))) m (whole (pos 0)) ≡ whole (pos 0)
+zeros_there zero m = refl
+zeros_there (suc n) zero = refl
+zeros_there (suc n) (suc m) = zeros_there n m
 
 -- a row without coefficients
 pub nothing : (g : Grid) (r k : ℕ) (b : Bool) → is_nonbasic g r ≡ true → is_nonbasic g k ≡ b → rows_of g r k ≡ whole (pos 0)
@@ -248,6 +247,3 @@ cut_back g units count width stored many wide =
     ∙ ap (λ (l : List ℕ). made g.marks l (map (take (length (columns_of g))) (widened g units).rows))
     (ap (λ (m : ℕ). take m (widened g units).places) (sym stored.placed) ∙ take-append_seam g.places (next_columns (length (columns_of g)) units))
     ∙ ap (made g.marks g.places) (cut_rows (length (columns_of g)) units g.rows (λ s e. stored.full s [] e))
-  where
-    made : List Bool → List ℕ → List (List Fraction) → Grid
-    made marks places rows = record { marks = marks; places = places; rows = rows }

@@ -3,7 +3,6 @@ use Rattle.std.proofs.Common.{◌≡◌, ℕ, zero, suc, ◌+◌, ◌*◌, ◌<�
 use Rattle.std.specs.Prelude.{if◌then◌else◌, slice_index_or, ◌≢◌, set, ◌==◌}
 use Rattle.std.proofs.Math.Seq.{take-append_seam, drop-append-add}
 use Rattle.std.proofs.lemmas.List.{get_or_past, length-map, length-append, get_or-set_same, get_or-set_other, length-set}
-use Rattle.std.proofs.lemmas.Nat.{mul-le}
 use Rattle.nz_lists.proofs.Numbers.{below_or_past, equal-number, same-number}
 use Rattle.nz_fractions.specs.Fraction.{whole}
 use Rattle.nz_spec.specs.simplex.Basis.{Coefficients}
@@ -59,12 +58,6 @@ marked_within marks k e = by_place (below_or_past k (length marks))
 
 pub columns_within : (f : ℕ → Bool) (i columns : ℕ) → columns ≡ length (numbers i f) → columns ≤ i
 columns_within f i columns counts = omega (arith, counts, count_both f i)
-
--- there is room for one row more before the end
-pub row_within : (i n width : ℕ) → i < n → i * width + width ≤ n * width
-row_within i n width inside =
-    let more : suc i * width ≤ n * width = mul-le (suc i) width n width (omega (arith, inside)) (omega arith) in
-    omega (arith, more)
 
 -- ---- Marks that are set
 

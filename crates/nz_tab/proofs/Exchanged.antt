@@ -5,6 +5,7 @@ use Rattle.std.specs.List.{AllByRecursion}
 use Rattle.std.proofs.Math.Path.{fun_ext}
 use Rattle.std.proofs.lemmas.Bool.{and_parts}
 use Rattle.std.proofs.lemmas.List.{get_or-set_other, get_or-set_same, length-set}
+use Rattle.std.proofs.Math.Bool.{and-false, and-true}
 use Rattle.nz_lists.proofs.Numbers.{equal-number, other-number, same-number}
 use Rattle.nz_fractions.specs.Fraction.{Fraction, Operation, first_wide}
 use Rattle.nz_spec.specs.simplex.Basis.{Coefficients}
@@ -99,14 +100,6 @@ module _ (f : ℕ → Bool) (i j : ℕ) (leaves : f i ≡ false) (enters : f j �
 
   -- ---- How many rows are written
 
-  and_none : (b : Bool) → (b && false) ≡ false
-  and_none true = refl
-  and_none false = refl
-
-  and_all : (b : Bool) → (b && true) ≡ b
-  and_all true = refl
-  and_all false = refl
-
   -- the form that leaves has none of them
   pub count_written : (rows : Rows) (n : ℕ) → i < n → length (numbers n (changes f rows i j)) + 1 ≤ length (numbers n (basic f))
   count_written rows n inside =
@@ -114,9 +107,9 @@ module _ (f : ℕ → Bool) (i j : ℕ) (leaves : f i ≡ false) (enters : f j �
       let fewer = count_fewer (changes f rows i j) others (λ k e. (and_parts (others k) (not (is_zero (rows k j))) e).0) n in
       let more =
       count_more others (basic f) i
-      (ap (λ (b : Bool). not (f i) && not b) (equal-number i i refl) ∙ and_none (not (f i)))
+      (ap (λ (b : Bool). not (f i) && not b) (equal-number i i refl) ∙ and-false (not (f i)))
       (ap not leaves)
-      (λ k e. ap (λ (b : Bool). not (f k) && not b) (other-number k i e) ∙ and_all (not (f k)))
+      (λ k e. ap (λ (b : Bool). not (f k) && not b) (other-number k i e) ∙ and-true (not (f k)))
       n inside in
       omega (arith, fewer, more)
 

@@ -16,6 +16,7 @@ pub mod RowSums
 pub mod SameRow
 pub mod Slots
 pub mod SolvedRows
+pub mod StoredRows
 pub mod TableStorage
 pub mod Tableau
 pub mod UnitForms

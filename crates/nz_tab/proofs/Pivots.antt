@@ -14,7 +14,7 @@ use Rattle.nz_spec.specs.simplex.Basis.{Coefficients}
 use Rattle.nz_spec.specs.simplex.BasisMoves.{Rows, exchange, exchanged, numbers, replaced}
 use Rattle.nz_tab.specs.Comes.{IsDone}
 use Rattle.nz_tab.specs.Exchanges.{IsExchanged, IsReplaced, changed_rows, changes, places_exchanged, solved_row, written_forms}
-use Rattle.nz_tab.specs.Rows.{AreSlotted, Grid, HasRoom, IsGrid, basic, is_marked, is_nonbasic, place_in, row_in, row_of, rows_of, size_of, slot_at}
+use Rattle.nz_tab.specs.Rows.{AreSlotted, Grid, HasRoom, basic, is_marked, is_nonbasic, place_in, row_in, row_of, rows_of, size_of, slot_at}
 use Rattle.nz_tab.specs.Sums.{IsStoredGrid}
 use Rattle.nz_tab.proofs.Blocks.{block_long, coefficient_there, columns_within, marked_within, no_coefficient, row_in_block}
 use Rattle.nz_tab.proofs.Exchanged.{apart, basics_then, columns_then, count_exchanged, count_written, exchange_block, exchange_fits, exchange_stops_first, exchange_stops_later, marks_are, marks_long, place_of_leaves, place_of_others, places_long, size_stays, solved_list}
@@ -34,9 +34,6 @@ pub record IsReady (g : Grid) (i j : ℕ) : Type 0 where
   pub inside : i < length g.marks
   pub leaves : is_nonbasic g i ≡ false
   pub enters : is_nonbasic g j ≡ true
-
-pub stored_of : (marks : List Bool) (places : List ℕ) (width : ℕ) (rows : List (List Fraction)) → IsGrid marks places width rows → IsStoredGrid (record { marks = marks; places = places; rows = rows })
-stored_of marks places width rows g = subst (λ (w : ℕ). IsGrid marks places w rows) g.wide g
 
 module _ {g : Grid} {i j : ℕ} (ready : IsReady g i j) where
   abbrev f : ℕ → Bool

@@ -2,9 +2,7 @@
 use Rattle.std.proofs.Common.{Vec, Global, ◌≡◌, ℕ, ◌+◌, ◌<◌, ◌≤◌, List, [], ◌∷◌, ◌++◌, drop, get_or, length, map, set, take, sym, ap, ◌∙◌, arith}
 use Rattle.std.proofs.lemmas.List.{append-nil, append_assoc, drop_all, drop_more, get_or-map, get_or_at, length-map, length-take-le, map-set, map_more, set-get_or, set_at, take_all}
 use Rattle.nz_fractions.specs.Fraction.{Fraction}
-
-abbrev pub items : Vec Fraction Global → List Fraction
-items x = x.items
+use Rattle.nz_tab.proofs.StoredRows.{items}
 
 -- a row that keeps its coefficients
 pub rows_kept : (rows : List (Vec Fraction Global)) (i : ℕ) (x v : Vec Fraction Global) → i < length rows → x ≡ get_or rows i x → v.items ≡ x.items → map items (set rows i v) ≡ map items rows

@@ -1,5 +1,5 @@
 -- A row to which forms are added one by one, qs a list of its coefficients.
-use Rattle.std.proofs.Common.{◌≡◌, ℕ, zero, suc, ◌+◌, ◌<◌, ◌≤◌, Bool, true, false, ◌⊎◌, inl, inr, List, [], ◌∷◌, ◌++◌, length, map, get_or, take, drop, set, Some, None, Result, Ok, Err, pos, refl, sym, ap, ◌∙◌, subst, arith}
+use Rattle.std.proofs.Common.{◌≡◌, ℕ, zero, suc, ◌+◌, ◌<◌, ◌≤◌, Bool, true, false, ◌⊎◌, inl, inr, List, [], ◌∷◌, ◌++◌, length, map, get_or, take, drop, set, Some, None, Result, Ok, Err, pos, refl, sym, ap, ◌∙◌, subst, arith, replicate}
 use Rattle.std.specs.Prelude.{if◌then◌else◌, ◌==◌, ◌≢◌}
 use Rattle.std.proofs.lemmas.Grind.{flat_map-append}
 use Rattle.std.proofs.lemmas.List.{append-nil, append_assoc, drop_all, drop_more, get_or-map, get_or_at, length-map, length-take-le, map_push, set-append_left, set_at, take-append-drop, take_all, take_more}
@@ -14,6 +14,7 @@ use Rattle.nz_tab.specs.Each.{with_multiple}
 use Rattle.nz_tab.specs.Rows.{AreSlotted, coefficients_at, place_in, slot_at}
 use Rattle.nz_tab.specs.Sums.{all_added, one_added}
 use Rattle.nz_fractions.proofs.FirstOperations.{first_wide-none, first_wide-some, no_operation}
+use Rattle.nz_tab.proofs.AddedColumns.{zeros_there}
 use Rattle.nz_tab.proofs.Numbers.{number_at, one_passes, place_within}
 use Rattle.nz_tab.proofs.Slots.{read_slot, set_slot}
 
@@ -290,13 +291,8 @@ module _ (n : ℕ) (f : ℕ → Bool) (rows : Rows) (c : Coefficients) (k : ℕ)
       (comes_read (coefficients_at places ks) (sum_at old (place_in places k)) (sum_at seen p) now result_there operations_there r h)
 
 -- zeros are read
-zero_at : (ks : List ℕ) (s : ℕ) → get_or (map (λ (k : ℕ). whole (pos 0)) ks) s (whole (pos 0)) ≡ whole (pos 0)
-zero_at [] s = refl
-zero_at (k ∷ ks) zero = refl
-zero_at (k ∷ ks) (suc s) = zero_at ks s
-
-pub zeros_read : (places ks : List ℕ) (row : List Fraction) (ls : List ℕ) → row ≡ map (λ (k : ℕ). whole (pos 0)) ls → coefficients_at places ks row ≡ map (λ (k : ℕ). whole (pos 0)) ks
-zeros_read places [] row ls e = refl
-zeros_read places (k ∷ ks) row ls e =
-    ap (λ (x : Fraction). x ∷ coefficients_at places ks row) (ap (λ (l : List Fraction). get_or l (place_in places k) (whole (pos 0))) e ∙ zero_at ls (place_in places k))
-    ∙ ap (λ (l : List Fraction). whole (pos 0) ∷ l) (zeros_read places ks row ls e)
+pub zeros_read : (places ks : List ℕ) (n : ℕ) → coefficients_at places ks (replicate n (whole (pos 0))) ≡ map (λ (k : ℕ). whole (pos 0)) ks
+zeros_read places [] n = refl
+zeros_read places (k ∷ ks) n =
+    ap (λ (x : Fraction). x ∷ coefficients_at places ks (replicate n (whole (pos 0)))) (zeros_there n (place_in places k))
+    ∙ ap (λ (l : List Fraction). whole (pos 0) ∷ l) (zeros_read places ks n)

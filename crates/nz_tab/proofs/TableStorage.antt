@@ -4,6 +4,7 @@ use Rattle.std.specs.Prelude.{if◌then◌else◌, ◌==◌, ◌&&◌, All, is_s
 use Rattle.std.specs.List.{AllByRecursion}
 use Rattle.std.proofs.lemmas.List.Elements.{All-from_recursion}
 use Rattle.std.proofs.lemmas.List.{length_push}
+use Rattle.std.proofs.Math.Bool.{and-false}
 use Rattle.nz_lists.proofs.Elements.{AllByRecursion-map}
 use Rattle.nz_spec.specs.simplex.BasisMoves.{JoinsKeepBasis}
 use Rattle.nz_spec.specs.terms.FormOf.{TermHasItsNumber}
@@ -21,13 +22,9 @@ use Rattle.nz_tab.proofs.JoinedUnits.{own_number}
 
 -- ---- A form that is no unit
 
-and_fails : (b : Bool) → (b && false) ≡ false
-and_fails true = refl
-and_fails false = refl
-
 no_unit : (f : List Part) (u : ℕ) → is_unit_form f ≡ false → is_form_of u f ≡ false
 no_unit [] u e = refl
-no_unit (p ∷ []) u e = ap (λ (b : Bool). (p.unit == u) && b) e ∙ and_fails (p.unit == u)
+no_unit (p ∷ []) u e = ap (λ (b : Bool). (p.unit == u) && b) e ∙ and-false (p.unit == u)
 no_unit (p ∷ q ∷ ps) u e = refl
 
 -- it takes no number from a unit

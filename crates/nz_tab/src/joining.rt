@@ -92,7 +92,7 @@ impl Rows {
         ensures unchanged { OnErr result (self.new ≡ self.old) }
         ensures columns { vec_capacity room.new.columns ≡ vec_capacity room.old.columns }
         ensures written { vec_capacity room.new.written ≡ vec_capacity room.old.written }
-        ensures solved { vec_capacity room.new.solved ≡ vec_capacity room.old.solved }
+        ensures solved { vec_capacity room.old.solved ≤ vec_capacity room.new.solved }
         ensures spare { vec_capacity room.new.spare ≡ vec_capacity room.old.spare }
     {
         // Known to be in order, so that the rows fit again where the units are taken back.
@@ -114,7 +114,7 @@ impl Rows {
         ensures unchanged { OnErr result (self.new ≡ self.old) }
         ensures columns { vec_capacity room.new.columns ≡ vec_capacity room.old.columns }
         ensures written { vec_capacity room.new.written ≡ vec_capacity room.old.written }
-        ensures solved { vec_capacity room.new.solved ≡ vec_capacity room.old.solved }
+        ensures solved { vec_capacity room.old.solved ≤ vec_capacity room.new.solved }
         ensures spare { vec_capacity room.new.spare ≡ vec_capacity room.old.spare }
     {
         // Known to be in order, so that the rows fit beside the one that joins.
@@ -133,7 +133,7 @@ impl Rows {
         ensures width { length room.new.solved.items ≡ length (columns_of self.now) }
         ensures columns { vec_capacity room.new.columns ≡ vec_capacity room.old.columns }
         ensures written { vec_capacity room.new.written ≡ vec_capacity room.old.written }
-        ensures solved { vec_capacity room.new.solved ≡ vec_capacity room.old.solved }
+        ensures solved { vec_capacity room.old.solved ≤ vec_capacity room.new.solved }
         ensures spare { vec_capacity room.new.spare ≡ vec_capacity room.old.spare }
     {
         list_marked(&mut room.columns, self.nonbasic.as_slice());
@@ -236,9 +236,8 @@ fn lengthen(row: &mut Vec<Frac>, units: usize)
     requires room { vec_len row.old + units ≤ vec_capacity row.old }
     ensures lengthened { row.new.items ≡ lengthened units row.old.items }
 {
-    for unit in 0..units {
-        row.push_reserved(Frac::whole(0));
-    }
+    let filled: Result<(), AllocError> = row.resize(row.len() + units, Frac::whole(0));
+    filled.unwrap();
 }
 
 /// Cuts rows off behind so many columns.
@@ -267,14 +266,13 @@ fn list_marked(columns: &mut Vec<Var>, marks: &[bool])
 /// Puts 0 for each column.
 fn put_zeros(row: &mut Vec<Frac>, columns: &[Var])
     requires room { length columns.now ≤ vec_capacity row.old }
-    ensures zeros { row.new.items ≡ map (λ k. whole (pos 0)) columns.now }
+    ensures zeros { row.new.items ≡ replicate (length columns.now) (whole (pos 0)) }
     ensures width { vec_len row.new ≡ length columns.now }
-    ensures capacity { vec_capacity row.new ≡ vec_capacity row.old }
+    ensures capacity { vec_capacity row.old ≤ vec_capacity row.new }
 {
     row.clear();
-    for place in 0..columns.len() {
-        row.push_reserved(Frac::whole(0));
-    }
+    let filled: Result<(), AllocError> = row.resize(columns.len(), Frac::whole(0));
+    filled.unwrap();
 }
 
 /// Adds to the coefficient at a place.

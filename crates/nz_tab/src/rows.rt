@@ -11,7 +11,7 @@ ghost use Rattle.nz_tab.specs.Rows.{AreSlotted, HasRoom, coefficients_at, empty_
 use crate::exchange::{put_sum, solve};
 use crate::row::{Row, Var, is_marked, is_none};
 use nz_frac::{Frac, Wide};
-use std::alloc::Global;
+use std::alloc::{AllocError, Global};
 use std::marker::Model;
 
 /// Which forms are nonbasic, and the rows of the others. A contract sees which forms are nonbasic, the slots, and the rows by
@@ -304,9 +304,8 @@ fn put_all(rows: &mut Vec<Frac>, row: &[Frac])
     requires room { vec_len rows.old + length row.now ≤ vec_capacity rows.old }
     ensures put { rows.new.items ≡ rows.old.items ++ row.now }
     ensures long { vec_len rows.new ≡ vec_len rows.old + length row.now }
-    ensures capacity { vec_capacity rows.new ≡ vec_capacity rows.old }
+    ensures capacity { vec_capacity rows.old ≤ vec_capacity rows.new }
 {
-    for coefficient in row {
-        rows.push_reserved(*coefficient);
-    }
+    let extended: Result<(), AllocError> = rows.extend_from_slice(row);
+    extended.unwrap();
 }

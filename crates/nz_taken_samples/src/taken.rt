@@ -5,8 +5,8 @@ ghost use Rattle.nz_spec.specs.terms.Operators.{has_sort};
 ghost use Rattle.nz_spec.specs.terms.Table.{HasItsArguments, term_in, terms_at};
 ghost use Rattle.nz_spec.specs.terms.Taken.{IsTaken};
 ghost use Rattle.nz_term.specs.Constants.{sort_of};
-ghost use Rattle.nz_term.specs.Heads.{head_of, operator_of};
-ghost use Rattle.nz_taken_samples.specs.Sorted.{AreAlike, AreBranches, AreTaken, ArePair, IsRowOf};
+ghost use Rattle.nz_term.specs.Heads.{head_of};
+ghost use Rattle.nz_taken_samples.specs.Sorted.{AreAlike, AreBranches, AreTaken, AreTakenBy, ArePair, IsRowOf};
 
 use nz_base::Memory;
 use nz_term::{Head, NumberSort, Operator, Sort, TermId, Terms};
@@ -59,7 +59,7 @@ fn need_row(terms: &Terms, head: Head<'_>, kids: &[TermId]) -> Result<(), Memory
 /// They take an operator over these.
 fn need_operator(terms: &Terms, operator: Operator, kids: &[TermId]) -> Result<(), Memory>
     requires within { All (λ k. k < length terms.now) kids.now }
-    ensures row { OnOk result (IsRowOf (operator_of operator) (terms_at (term_in terms.now) kids.now)) }
+    ensures taken { OnOk result (AreTakenBy operator (terms_at (term_in terms.now) kids.now)) }
 {
     match operator {
         Operator::True => need_alike(terms, kids, 0, 0, Sort::Bool),

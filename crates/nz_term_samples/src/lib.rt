@@ -9,6 +9,40 @@ use nz_base::{Memory, Text};
 use nz_term::{Constant, Head, NumberSort, Operator, Sort, TermId, Terms, operators_are_no_leaves};
 use std::alloc::Global;
 
+/// The largest number.
+pub const MOST: u128 = 170141183460469231731687303715884105727;
+
+/// A term of a list, in which each has its place as its number: no term stands in it twice.
+pub enum Term {
+    /// The constant of this letter and sort.
+    Constant(u8, Sort),
+    Number(u128),
+    /// The decimal of so many tenths.
+    Tenths(u128),
+    /// An operator over terms before it.
+    Over(Operator, &'static [TermId]),
+}
+
+/// Makes a term.
+fn make(alloc: Global, terms: &mut Terms, term: &Term) -> Result<TermId, Memory> {
+    match term {
+        Term::Constant(letter, sort) => constant(alloc, terms, &[*letter], *sort),
+        Term::Number(number) => numeral(terms, *number),
+        Term::Tenths(tenths) => leaf(terms, Head::Decimal(*tenths, 1)),
+        Term::Over(operator, arguments) => operation(terms, *operator, arguments),
+    }
+}
+
+/// Makes the terms of a list. Fails where some term isn't new.
+pub fn make_all(alloc: Global, terms: &mut Terms, list: &[Term]) -> Result<(), Memory> {
+    for (place, term) in list.iter().enumerate() {
+        if make(alloc, terms, term)? != place {
+            return Err(Memory);
+        }
+    }
+    Ok(())
+}
+
 /// The term of a head without arguments.
 pub fn leaf(terms: &mut Terms, head: Head<'_>) -> Result<TermId, Memory> {
     if !head.fits() {
@@ -54,6 +88,15 @@ pub fn integer(terms: &mut Terms, n: i64) -> Result<TermId, Memory> {
     } else {
         Ok(size)
     }
+}
+
+/// The negation of the negation .. of `p`.
+pub fn negations(alloc: Global, terms: &mut Terms, count: usize) -> Result<TermId, Memory> {
+    let mut last = constant(alloc, terms, b"p", Sort::Bool)?;
+    for _ in 0..count {
+        last = operation(terms, Operator::Not, &[last])?;
+    }
+    Ok(last)
 }
 
 /// A natural number times a term of this sort of numbers.

@@ -7,7 +7,7 @@ use crate::calls::{
 use nz_base::{Memory, Text};
 use nz_frac::Frac;
 use nz_term::{Constant, Head, Operator, Sort, TermId, Terms, add_companions};
-use nz_term_samples::{constant, leaf, operation};
+use nz_term_samples::{constant, leaf, negations, operation};
 use std::alloc::Global;
 use std::test::Fail;
 
@@ -83,15 +83,6 @@ fn undone(terms: &mut Terms, operator: Operator, kids: &[TermId]) -> Result<Term
     let made = operation(terms, operator, kids);
     terms.cut(mark);
     made
-}
-
-/// The negation of the negation .. of `p`.
-fn negations(alloc: Global, terms: &mut Terms, count: usize) -> Result<TermId, Memory> {
-    let mut last = constant(alloc, terms, b"p", Sort::Bool)?;
-    for _ in 0..count {
-        last = operation(terms, Operator::Not, &[last])?;
-    }
-    Ok(last)
 }
 
 /// Whether the negations of a constant come in the order of their numbers.

@@ -5,7 +5,7 @@ use crate::calls::{comes_to, have_values, leaves_numbers};
 use nz_base::Memory;
 use nz_frac::Op;
 use nz_term::{NumberSort, Operator, Sort, TermId, Terms};
-use nz_term_samples::{constant, numeral, operation};
+use nz_term_samples::{constant, negations, numeral, operation};
 use std::alloc::Global;
 use std::test::Fail;
 
@@ -35,15 +35,6 @@ pub enum Act {
 #[derive(Clone, Copy, Debug)]
 pub struct Wrong {
     pub place: usize,
-}
-
-/// The negation of the negation .. of p.
-fn negations(alloc: Global, terms: &mut Terms, count: usize) -> Result<TermId, Memory> {
-    let mut last = constant(alloc, terms, b"p", Sort::Bool)?;
-    for _ in 0..count {
-        last = operation(terms, Operator::Not, &[last])?;
-    }
-    Ok(last)
 }
 
 /// The sum of a sum .. of 1 with itself.

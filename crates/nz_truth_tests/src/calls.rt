@@ -2,12 +2,9 @@
 use nz_base::Memory;
 use nz_frac::{Op, Wide};
 use nz_term::{ArithmeticStop, Assign, TermId, Terms, Value};
-use nz_term_samples::are_below;
+use nz_term_samples::{MOST, are_below};
 use nz_truth::{Outcome, Values, eval, outcomes};
 use std::alloc::Global;
-
-/// M, the greatest number.
-pub(crate) const GREATEST: u128 = 170141183460469231731687303715884105727;
 
 /// Puts these pairs in an assignment.
 fn assign_all(assign: &mut Assign, pairs: &[(TermId, bool)]) -> Result<(), Memory> {
@@ -72,7 +69,7 @@ pub(crate) fn have_values(
 
 /// Whether this is an operation on M and this number.
 fn is_wide(wide: &Wide, op: Op, right: i128) -> bool {
-    wide.op == op && wide.a.num() == GREATEST as i128 && wide.b.num() == right
+    wide.op == op && wide.a.num() == MOST as i128 && wide.b.num() == right
 }
 
 /// Whether the first operation of these roots to leave the numbers is one on M and this number, where nothing is assigned.

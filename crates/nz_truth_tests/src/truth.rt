@@ -2,9 +2,9 @@
 //! one name, and at the edges of the numbers.
 
 use crate::acts::{Act, run};
-use crate::calls::GREATEST;
 use nz_frac::Op;
 use nz_term::{NumberSort, Operator, Sort};
+use nz_term_samples::MOST;
 use std::test::Fail;
 
 // p, `(not p)`, `(or p (not p))`, `(and p (not p))`, `(ite p (not p) p)` and `(= p (not p))`, in this order.
@@ -20,7 +20,7 @@ const OPERATIONS: &[Act] = &[
 
 // M, 1, `(+ M 1)`, `(* M M)`, `(= 1 1)`, and `(ite (= 1 1) 1 (+ M 1))`, in this order.
 const WIDE_OPERATIONS: &[Act] = &[
-    Act::Integer(GREATEST),
+    Act::Integer(MOST),
     Act::Integer(1),
     Act::Operation(Operator::Sum(NumberSort::Int), &[0, 1]),
     Act::Operation(Operator::Product(NumberSort::Int), &[0, 0]),
@@ -117,6 +117,6 @@ fn test_a_branch_that_is_not_taken_counts(rt: HostRuntime) -> Result<(), Fail> {
 
 #[test]
 fn test_the_first_wide_operation_is_named(rt: HostRuntime) -> Result<(), Fail> {
-    const PRODUCT: &[Act] = &[Act::Wide(&[1, 3, 2], Op::Mul, GREATEST as i128)];
+    const PRODUCT: &[Act] = &[Act::Wide(&[1, 3, 2], Op::Mul, MOST as i128)];
     run(rt.alloc(), WIDE_OPERATIONS, PRODUCT)
 }

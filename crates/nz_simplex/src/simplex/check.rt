@@ -14,7 +14,7 @@ use crate::answer::{Check, SimplexStop};
 use crate::choice::{Broken, broken_bound};
 use crate::coordinate::Coordinate;
 use crate::helper::first_helper;
-use crate::lists::{list_basic, list_nonbasic};
+use crate::lists::list_forms;
 use crate::steps::Steps;
 use crate::values::move_to;
 use nz_frac::Wide;
@@ -144,8 +144,7 @@ impl<S: Coordinate> Simplex<S> {
             broken.var,
             broken.limit.value,
         );
-        list_basic(&self.tab, &mut self.basic);
-        list_nonbasic(&self.tab, &mut self.nonbasic);
+        list_forms(&self.tab, &mut self.basic, &mut self.nonbasic);
         work.note(broken.var, enters);
         Ok(true)
     }

@@ -14,7 +14,7 @@ ghost use Rattle.nz_tab.specs.Units.{is_unit_form};
 
 use super::Simplex;
 use crate::coordinate::Coordinate;
-use crate::lists::{extend_values, list_basic, list_nonbasic};
+use crate::lists::{extend_values, list_forms};
 use crate::room::{count_with, reserve};
 use nz_frac::Wide;
 use nz_lin::Form;
@@ -55,8 +55,7 @@ impl<S: Coordinate> Simplex<S> {
         let var = self.tab.add_form(form)?;
         known_tableau(&self.tab);
         extend_values(&self.tab, &mut self.values);
-        list_basic(&self.tab, &mut self.basic);
-        list_nonbasic(&self.tab, &mut self.nonbasic);
+        list_forms(&self.tab, &mut self.basic, &mut self.nonbasic);
         Ok(var)
     }
 
@@ -89,8 +88,7 @@ impl<S: Coordinate> Simplex<S> {
         known_tableau(&self.tab);
         self.values[leaves] = Some(S::zero());
         self.values[enters] = None;
-        list_basic(&self.tab, &mut self.basic);
-        list_nonbasic(&self.tab, &mut self.nonbasic);
+        list_forms(&self.tab, &mut self.basic, &mut self.nonbasic);
         Ok(true)
     }
 

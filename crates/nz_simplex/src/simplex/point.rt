@@ -55,6 +55,7 @@ impl<S: Coordinate> Simplex<S> {
     }
 
     /// Computes the values that aren't known from their rows.
+    #[tactic(auto, using(crate::proofs::RenewedValues::renewed_itself))]
     pub(super) fn renew(&mut self) -> Result<(), SimplexStop>
         ensures renewed { IsRenewed self.old self.new }
         ensures valued { OnOk result ((k : ℕ) → k < length self.new.forms → IsSome (value_in self.new k)) }
@@ -67,6 +68,7 @@ impl<S: Coordinate> Simplex<S> {
     }
 
     /// Computes the value of a form from its row, where it isn't known.
+    #[tactic(auto, using(crate::proofs::RenewedValues::renewed_itself))]
     fn renew_one(&mut self, var: Var) -> Result<(), SimplexStop>
         requires known { var < length self.old.forms }
         ensures renewed { IsRenewed self.old self.new }

@@ -1,6 +1,5 @@
 -- One clause after another.
-use Rattle.std.proofs.Common.{ℕ, List, get_or, refl, subst}
-use Rattle.std.proofs.lemmas.List.{take_all}
+use Rattle.std.proofs.Common.{ℕ, List, get_or, refl, subst, take_all}
 use Rattle.std.proofs.lemmas.List.Elements.{All-get_or}
 use Rattle.nz_cform.specs.Covering.{AreBoundsListed, IsOnAtoms}
 use Rattle.nz_cform.proofs.ListedBounds.{one_of_all}

@@ -1,7 +1,5 @@
 -- One literal after another.
-use Rattle.std.proofs.Common.{List, false, get_or, subst}
-use Rattle.std.specs.Prelude.{Contains}
-use Rattle.std.proofs.lemmas.List.{take_all}
+use Rattle.std.proofs.Common.{List, false, get_or, subst, Contains, take_all}
 use Rattle.std.proofs.lemmas.List.Elements.{Contains-get_or}
 use Rattle.nz_log.specs.declared.lits.Lit.{Lit}
 use Rattle.nz_cform.proofs.ListedBounds.{IsListingClause, clause_listed, one_of_clause}

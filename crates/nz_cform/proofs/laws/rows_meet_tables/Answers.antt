@@ -1,5 +1,5 @@
 -- The law, as it is proved over plain data.
-use Rattle.nz_cform.proofs.RowsMet as laws
+use Rattle.nz_cform.proofs.PartsCovered as laws
 use Rattle.nz_cform.proofs.laws.rows_meet_tables.Goals as goal
 
 pub returns : goal.returns

@@ -1,6 +1,5 @@
 -- The closure tests, and stays as it was.
-use Rattle.std.proofs.Common.{rules}
-use Rattle.std.specs.Prelude.{is_some, slice_index_or, None}
+use Rattle.std.proofs.Common.{rules, is_some, slice_index_or, None}
 use Rattle.std.proofs.lemmas.Fn.{filter_same}
 use Rattle.nz_cform.proofs.listing.keep_listed.Goals as goal
 

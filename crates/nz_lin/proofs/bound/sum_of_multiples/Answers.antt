@@ -1,8 +1,7 @@
 -- One multiple more.
-use Rattle.std.proofs.Common.{◌≡◌, ◌+◌, ◌<◌, List, ◌∷◌, length, drop, Err, sym, ap, subst, ◌∙◌, arith}
+use Rattle.std.proofs.Common.{◌≡◌, ◌+◌, ◌<◌, List, ◌∷◌, length, drop, sym, subst, arith}
 use Rattle.std.proofs.lemmas.List.{drop_all}
 use Rattle.std.proofs.lemmas.List.Elements.{All-from_recursion}
-use Rattle.std.proofs.lemmas.Result.{err_from_is_err_and}
 use Rattle.nz_lists.proofs.Places.{drop_read}
 use Rattle.nz_spec.specs.numbers.Computation.{at_once, IsSame}
 use Rattle.nz_spec.specs.clauses.Farkas as farkas
@@ -11,7 +10,7 @@ use Rattle.nz_spec.specs.terms.Table.{Node}
 use Rattle.nz_lin.specs.declared.bound.BoundMultiple.{BoundMultiple}
 use Rattle.nz_lin.specs.Bounds.{HasUnits, IsBounded, bound_over, multiples_over}
 use Rattle.nz_lin.proofs.BoundSides.{multiple_more, multiple_stop}
-use Rattle.nz_lin.proofs.ComputationSequences.{at_once_done, same_done, same_itself}
+use Rattle.nz_lin.proofs.ComputationSequences.{at_once_done, handed_on, same_done, same_itself}
 use Rattle.nz_lin.proofs.bound.sum_of_multiples.Goals as goal
 
 abbrev Named : List Node → BoundMultiple → Type 0
@@ -39,8 +38,7 @@ returns-in_err-join_multiple c = record {
       let inside : i < length ms = omega arith in
       let left : drop i ms ≡ m ∷ rest = drop_read ms i m inside c.multiple-item.is in
       let own : HasUnits ns m.bound = subst (Named ns) (sym c.multiple-item.is) (All-from_recursion (Named ns) ms named i m inside) in
-      let error = err_from_is_err_and c.from_residual.result c.from_residual.ensures.1 in
-      subst (λ r. IsBounded ns whole r) (sym (error.1 ∙ ap Err error.2))
+      handed_on (λ r. IsBounded ns whole r) c.from_residual.result c.in_err-join_multiple.field-0.0 c.from_residual.ensures.1
       (multiple_stop n ns x m rest whole (subst (λ (l : List BoundMultiple). IsSame (farkas.multiples_onto n x (multiples_over ns l)) whole) left (c.loop-multiple.invariant.joined ns table named))
       c.in_err-join_multiple.field-0.0 (c.in_err-join_multiple.ensures.comes ns table (c.loop-multiple.invariant.units ns named) own));
 }

@@ -1,8 +1,7 @@
 -- One part more.
-use Rattle.std.proofs.Common.{◌≡◌, ◌+◌, ◌<◌, List, ◌∷◌, length, drop, Err, sym, ap, subst, ◌∙◌, arith}
+use Rattle.std.proofs.Common.{◌≡◌, ◌+◌, ◌<◌, List, ◌∷◌, length, drop, sym, subst, arith}
 use Rattle.std.proofs.lemmas.List.{drop_all}
 use Rattle.std.proofs.lemmas.List.Elements.{All-from_recursion}
-use Rattle.std.proofs.lemmas.Result.{err_from_is_err_and}
 use Rattle.nz_lists.proofs.Places.{drop_read}
 use Rattle.nz_spec.specs.numbers.Computation.{at_once, IsSame}
 use Rattle.nz_spec.specs.terms.Form.{parts_joined}
@@ -11,7 +10,7 @@ use Rattle.nz_lin.specs.declared.form.Part.{Part}
 use Rattle.nz_lin.specs.Comes.{Comes, arithmetic_of}
 use Rattle.nz_lin.specs.Forms.{NamesUnit, part_over, parts_over}
 use Rattle.nz_lin.proofs.FormAddition.{join_more, join_stop}
-use Rattle.nz_lin.proofs.ComputationSequences.{at_once_done, same_done}
+use Rattle.nz_lin.proofs.ComputationSequences.{at_once_done, handed_on, same_done}
 use Rattle.nz_lin.proofs.form.join_parts.Goals as goal
 
 pub returns-in_err-join_part-clause-joined : goal.returns-in_err-join_part-clause-joined
@@ -27,8 +26,7 @@ returns-in_err-join_part-clause-joined c ns table units others =
     let inside : i < length qs = omega arith in
     let left : drop i qs ≡ q ∷ rest = drop_read qs i q inside c.other-item.is in
     let named : NamesUnit ns q = subst (NamesUnit ns) (sym c.other-item.is) (All-from_recursion (NamesUnit ns) qs others.names i q inside) in
-    let error = err_from_is_err_and c.from_residual.result c.from_residual.ensures.1 in
-    subst (λ r. Comes whole (parts_over ns c.join_part.new.parts.items) r) (sym (error.1 ∙ ap Err error.2))
+    handed_on (λ r. Comes whole (parts_over ns c.join_part.new.parts.items) r) c.from_residual.result c.in_err-join_part.field-0.0 c.from_residual.ensures.1
     (join_stop n op (parts_over ns now) (part_over ns q) (parts_over ns rest) whole
     (subst (λ (l : List Part). IsSame (parts_joined n op (parts_over ns now) (parts_over ns l)) whole) left (c.loop-other.invariant.joined ns table units others)) _
     (c.in_err-join_part.ensures.joined ns table (c.loop-other.invariant.units ns units others) named))

@@ -1,7 +1,6 @@
 -- One part more.
-use Rattle.std.proofs.Common.{◌≡◌, ◌+◌, List, ◌∷◌, ◌++◌, drop, Err, sym, ap, subst, ◌∙◌, arith}
+use Rattle.std.proofs.Common.{◌≡◌, ◌+◌, List, ◌∷◌, ◌++◌, drop, sym, subst, arith}
 use Rattle.std.proofs.lemmas.List.{append-nil, drop_all}
-use Rattle.std.proofs.lemmas.Result.{err_from_is_err_and}
 use Rattle.nz_lists.proofs.Places.{drop_read}
 use Rattle.nz_spec.specs.terms.Form.{parts_scaled}
 use Rattle.nz_term.specs.declared.stops.ArithmeticStop.TheVariants.{Wide}
@@ -10,6 +9,7 @@ use Rattle.nz_lin.specs.Comes.{AreFormed, times}
 use Rattle.nz_lin.specs.Forms.{AreUnits, parts_over}
 use Rattle.nz_spec.specs.numbers.Computation.{IsSame}
 use Rattle.nz_lin.proofs.ScaledForms.{all_scaled, onto, scaled_more, scaled_stop, units_more}
+use Rattle.nz_lin.proofs.ComputationSequences.{handed_on}
 use Rattle.nz_lin.proofs.form.multiplied_parts.Goals as goal
 
 pub returns-in_err-coefficient-clause-scaled : goal.returns-in_err-coefficient-clause-scaled
@@ -21,8 +21,7 @@ returns-in_err-coefficient-clause-scaled c ns =
     let whole = parts_scaled t (parts_over ns ps) in
     let new = c.loop-part.new.items in
     let left : drop i ps ≡ p ∷ drop (i + 1) ps = drop_read ps i p (omega arith) c.part-item.is in
-    let error = err_from_is_err_and c.from_residual.result c.from_residual.ensures.1 in
-    subst (λ r. AreFormed ns whole r) (sym (error.1 ∙ ap Err error.2))
+    handed_on (λ r. AreFormed ns whole r) c.from_residual.result (Wide c.in_err-coefficient.field-0.0) c.from_residual.ensures.1
     (scaled_stop ns t new p (drop (i + 1) ps) whole (subst (λ (l : List Part). IsSame (onto ns t new l) whole) left (c.loop-part.invariant.scaled ns)) (Wide _) c.in_err-coefficient.ensures.product)
 
 pub loop-part-preserved : goal.loop-part-preserved

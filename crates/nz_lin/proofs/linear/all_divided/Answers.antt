@@ -1,8 +1,7 @@
 -- By one constant more.
-use Rattle.std.proofs.Common.{◌≡◌, ℕ, ◌+◌, List, ◌∷◌, Option, Some, drop, get_or, Err, sym, ap, subst, ◌∙◌, arith}
+use Rattle.std.proofs.Common.{◌≡◌, ℕ, ◌+◌, List, ◌∷◌, Option, Some, drop, get_or, sym, subst, ◌∙◌, arith}
 use Rattle.std.specs.Prelude.{IsTrue}
 use Rattle.std.proofs.lemmas.List.{drop_all, drop_more}
-use Rattle.std.proofs.lemmas.Result.{err_from_is_err_and}
 use Rattle.nz_spec.specs.numbers.Computation.{at_once, IsSame}
 use Rattle.nz_spec.specs.terms.FormOf.{divided_by_each}
 use Rattle.nz_fractions.specs.Fraction.{Fraction}
@@ -11,7 +10,7 @@ use Rattle.nz_spec.specs.terms.Table.{term_in}
 use Rattle.nz_lin.specs.Comes.{IsFormed}
 use Rattle.nz_lin.specs.Forms.{form_over}
 use Rattle.nz_lin.specs.Making.{constants_at}
-use Rattle.nz_lin.proofs.ComputationSequences.{at_once_done, same_done}
+use Rattle.nz_lin.proofs.ComputationSequences.{at_once_done, handed_on, same_done}
 use Rattle.nz_lin.proofs.Operators.{divide_more, divide_stop, later_divisors, nonzero_divisor}
 use Rattle.nz_lin.proofs.linear.all_divided.Goals as goal
 
@@ -43,8 +42,7 @@ returns-in_err-form c = record {
       let is : constant_value (term_in ns k) ≡ Some q = sym c.constant.ensures.constant ∙ c.unwrap-constant.ensures in
       let here = subst (λ (d : Option Fraction). IsSame (divided_by_each now (d ∷ rest)) whole) is
       (subst (λ (l : List ℕ). IsSame (divided_by_each now (constants_at ns l)) whole) left (c.loop-divisor.invariant.divided units)) in
-      let error = err_from_is_err_and c.from_residual.result c.from_residual.ensures.1 in
-      subst (λ r. IsFormed ns whole r) (sym (error.1 ∙ ap Err error.2))
+      handed_on (λ r. IsFormed ns whole r) c.from_residual.result c.in_err-form.field-0.0 c.from_residual.ensures.1
       (divide_stop now q rest whole here c.in_err-form.field-0.0 (c.in_err-form.ensures.formed ns (c.loop-divisor.invariant.units units)));
 }
 

@@ -1,9 +1,8 @@
 -- One form more.
-use Rattle.std.proofs.Common.{◌≡◌, ℕ, ◌+◌, ◌<◌, List, ◌∷◌, length, drop, get_or, Err, sym, ap, subst, ◌∙◌, arith}
+use Rattle.std.proofs.Common.{◌≡◌, ℕ, ◌+◌, ◌<◌, List, ◌∷◌, length, drop, get_or, subst, arith}
 use Rattle.std.specs.Prelude.{nat_eq}
 use Rattle.std.specs.HashMap.{get}
 use Rattle.std.proofs.lemmas.List.{drop_all, drop_more}
-use Rattle.std.proofs.lemmas.Result.{err_from_is_err_and}
 use Rattle.nz_spec.specs.numbers.Computation.{at_once, IsSame}
 use Rattle.nz_spec.specs.terms.Form.{all_joined}
 use Rattle.nz_spec.specs.terms.FormOf.{number_in}
@@ -11,7 +10,7 @@ use Rattle.nz_lin.specs.Comes.{IsFormed, arithmetic_of}
 use Rattle.nz_lin.specs.Forms.{AreUnits, Numbered, form_over}
 use Rattle.nz_lin.specs.Making.{made_forms}
 use Rattle.nz_lin.proofs.FormAddition.{all_more, all_stop}
-use Rattle.nz_lin.proofs.ComputationSequences.{at_once_done, same_done}
+use Rattle.nz_lin.proofs.ComputationSequences.{at_once_done, handed_on, same_done}
 use Rattle.nz_lin.proofs.TermForms.{made_is}
 use Rattle.nz_lin.proofs.linear.all_joined.Goals as goal
 
@@ -34,8 +33,7 @@ returns-in_err-join c = record {
       let here = subst (λ (h : Numbered). IsSame (all_joined n op now (form_over ns h ∷ made_forms ns m rest)) whole) is
       (subst (λ (l : List ℕ). IsSame (all_joined n op now (made_forms ns m l)) whole) left (c.loop-kid.invariant.joined ns table units have)) in
       let own : AreUnits ns f.parts = subst (λ (h : Numbered). AreUnits ns h.parts) is (have i 0 inside) in
-      let error = err_from_is_err_and c.from_residual.result c.from_residual.ensures.1 in
-      subst (λ r. IsFormed ns whole r) (sym (error.1 ∙ ap Err error.2))
+      handed_on (λ r. IsFormed ns whole r) c.from_residual.result c.in_err-join.field-0.0 c.from_residual.ensures.1
       (all_stop n op now (form_over ns f) (made_forms ns m rest) whole here c.in_err-join.field-0.0
       (c.in_err-join.ensures.comes ns table (c.loop-kid.invariant.units ns units have) own));
 }

@@ -1,8 +1,7 @@
 -- One argument more.
-use Rattle.std.proofs.Common.{◌≡◌, ℕ, ◌+◌, List, ◌∷◌, Option, Some, None, drop, get_or, Err, sym, ap, subst, ◌∙◌, arith}
+use Rattle.std.proofs.Common.{◌≡◌, ℕ, ◌+◌, List, ◌∷◌, Option, Some, None, drop, get_or, sym, ap, subst, ◌∙◌, arith}
 use Rattle.std.specs.Prelude.{unwrap_or}
 use Rattle.std.proofs.lemmas.List.{drop_all, drop_more}
-use Rattle.std.proofs.lemmas.Result.{err_from_is_err_and}
 use Rattle.nz_spec.specs.numbers.Computation.{Computation, IsSame}
 use Rattle.nz_spec.specs.terms.FormOf.{constants_product}
 use Rattle.nz_fractions.specs.Fraction.{Fraction}
@@ -12,6 +11,7 @@ use Rattle.nz_term.specs.declared.stops.ArithmeticStop.TheVariants.{Wide}
 use Rattle.nz_lin.specs.Comes.{IsDone, IsNumbered}
 use Rattle.nz_lin.specs.Making.{constants_at}
 use Rattle.nz_lin.proofs.Operators.{factor_more, factor_stop, factors_done, passed_over, rest_product}
+use Rattle.nz_lin.proofs.ComputationSequences.{handed_on}
 use Rattle.nz_lin.proofs.linear.constants_product.Goals as goal
 use Rattle.nz_lin.proofs.linear.constants_product.Goals.{in-Some+in_ok-with_factor, in_default}
 
@@ -27,9 +27,8 @@ returns-in_err-with_factor c =
     let left : drop i ks ≡ k ∷ rest = drop_more ks i 0 (omega arith) in
     let here = subst (λ (l : List ℕ). IsSame (rest_product o (constants_at ns l)) all) left c.loop-kid.invariant in
     let is : constant_value (term_in ns k) ≡ Some c.in-Some.constant = sym c.constant.ensures.constant ∙ c.in-Some.is in
-    let error = err_from_is_err_and c.from_residual.result c.from_residual.ensures.1 in
     record {
-      product = subst (λ r. IsNumbered all r) (sym (error.1 ∙ ap Err error.2))
+      product = handed_on (λ r. IsNumbered all r) c.from_residual.result (Wide c.in_err-with_factor.field-0.0) c.from_residual.ensures.1
           (factor_stop all o c.in-Some.constant (constants_at ns rest) (subst (λ (d : Option Fraction). IsSame (rest_product o (d ∷ constants_at ns rest)) all) is here)
           (Wide c.in_err-with_factor.field-0.0) c.in_err-with_factor.ensures.product);
     }

@@ -1,9 +1,8 @@
 -- The first argument that isn't constant, or none.
-use Rattle.std.proofs.Common.{◌≡◌, ℕ, ◌+◌, ◌<◌, true, List, ◌∷◌, None, length, drop, get_or, Err, sym, ap, subst, ◌∙◌, arith, rules}
+use Rattle.std.proofs.Common.{◌≡◌, ℕ, ◌+◌, ◌<◌, true, List, ◌∷◌, None, length, drop, get_or, sym, ap, subst, ◌∙◌, arith, rules}
 use Rattle.std.specs.Prelude.{is_none, nat_eq}
 use Rattle.std.specs.HashMap.{get}
 use Rattle.std.proofs.lemmas.List.{drop_all, drop_more}
-use Rattle.std.proofs.lemmas.Result.{err_from_is_err_and}
 use Rattle.nz_spec.specs.terms.FormOf.{open_form}
 use Rattle.nz_spec.specs.terms.Linear.{constant_value}
 use Rattle.nz_spec.specs.terms.Table.{term_in}
@@ -12,6 +11,7 @@ use Rattle.nz_lin.specs.Forms.{AreUnits, Numbered, form_over}
 use Rattle.nz_lin.specs.Making.{constants_at, made_form, made_forms, product_of}
 use Rattle.nz_lin.proofs.TermForms.{is_none_from, made_is}
 use Rattle.nz_lin.proofs.Operators.{one_form, open_here, product_formed, product_stop}
+use Rattle.nz_lin.proofs.ComputationSequences.{handed_on}
 use Rattle.nz_lin.proofs.linear.product.Goals as goal
 
 pub returns-in_err-factor : goal.returns-in_err-factor
@@ -20,8 +20,8 @@ returns-in_err-factor c = record {
       let ns = c.args.terms.now in
       let cs = constants_at ns c.args.kids.now in
       let fs = made_forms ns (get nat_eq c.args.forms.now) c.args.kids.now in
-      let error = err_from_is_err_and c.from_residual.result c.from_residual.ensures.1 in
-      subst (λ r. IsFormed ns (product_of cs fs) r) (sym (error.1 ∙ ap Err error.2)) (product_stop cs fs c.in_err-factor.field-0.0 c.in_err-factor.ensures.product);
+      handed_on (λ r. IsFormed ns (product_of cs fs) r) c.from_residual.result c.in_err-factor.field-0.0 c.from_residual.ensures.1
+      (product_stop cs fs c.in_err-factor.field-0.0 c.in_err-factor.ensures.product);
 }
 
 pub returns-then-is_none : goal.returns-then-is_none

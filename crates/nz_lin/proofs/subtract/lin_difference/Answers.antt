@@ -1,6 +1,4 @@
 -- One form, the other, and then the difference.
-use Rattle.std.proofs.Common.{Err, sym, ap, subst, ◌∙◌}
-use Rattle.std.proofs.lemmas.Result.{err_from_is_err_and}
 use Rattle.nz_spec.specs.numbers.Computation.{and_then}
 use Rattle.nz_spec.specs.terms.Form as spec
 use Rattle.nz_spec.specs.terms.FormOf.{form_of, number_in}
@@ -9,7 +7,7 @@ use Rattle.nz_spec.specs.clauses.Links.{minus}
 use Rattle.nz_spec.specs.terms.Table.{term_in}
 use Rattle.nz_lin.specs.Comes.{IsFormed}
 use Rattle.nz_lin.specs.Forms.{form_over}
-use Rattle.nz_lin.proofs.ComputationSequences.{done_both, stop_first, stop_second}
+use Rattle.nz_lin.proofs.ComputationSequences.{done_both, handed_on, stop_first, stop_second}
 use Rattle.nz_lin.proofs.subtract.lin_difference.Goals as goal
 
 pub returns-in_err-form : goal.returns-in_err-form
@@ -19,8 +17,7 @@ returns-in_err-form c = record {
       let n = number_in ns in
       let t = form_of n (term_in ns c.args.left) in
       let u = form_of n (term_in ns c.args.right) in
-      let error = err_from_is_err_and c.from_residual.result c.from_residual.ensures.1 in
-      subst (λ r. IsFormed ns (minus n t u) r) (sym (error.1 ∙ ap Err error.2))
+      handed_on (λ r. IsFormed ns (minus n t u) r) c.from_residual.result c.in_err-form.field-0.0 c.from_residual.ensures.1
       (stop_first t (λ (f : spec.Form). and_then u (λ g. spec.joined n Difference f g)) c.in_err-form.field-0.0 c.in_err-form.ensures.stop);
 }
 
@@ -32,8 +29,7 @@ returns-in_err-other c = record {
       let t = form_of n (term_in ns c.args.left) in
       let u = form_of n (term_in ns c.args.right) in
       let f = form_over ns c.in_ok-form.form in
-      let error = err_from_is_err_and c.from_residual-in_err-other.result c.from_residual-in_err-other.ensures.1 in
-      subst (λ r. IsFormed ns (minus n t u) r) (sym (error.1 ∙ ap Err error.2))
+      handed_on (λ r. IsFormed ns (minus n t u) r) c.from_residual-in_err-other.result c.in_err-other.field-0.0 c.from_residual-in_err-other.ensures.1
       (stop_second t (λ (x : spec.Form). and_then u (λ g. spec.joined n Difference x g)) f c.in_err-other.field-0.0
       (record { result = c.in_ok-form.ensures.form.form; fits = c.in_ok-form.ensures.form.fits })
       (stop_first u (λ (g : spec.Form). spec.joined n Difference f g) c.in_err-other.field-0.0 c.in_err-other.ensures.stop));
@@ -48,8 +44,7 @@ returns-in_err-join c = record {
       let u = form_of n (term_in ns c.args.right) in
       let f = form_over ns c.in_ok-form.form in
       let g = form_over ns c.in_ok-other.other in
-      let error = err_from_is_err_and c.from_residual-in_err-join.result c.from_residual-in_err-join.ensures.1 in
-      subst (λ r. IsFormed ns (minus n t u) r) (sym (error.1 ∙ ap Err error.2))
+      handed_on (λ r. IsFormed ns (minus n t u) r) c.from_residual-in_err-join.result c.in_err-join.field-0.0 c.from_residual-in_err-join.ensures.1
       (stop_second t (λ (x : spec.Form). and_then u (λ y. spec.joined n Difference x y)) f c.in_err-join.field-0.0
       (record { result = c.in_ok-form.ensures.form.form; fits = c.in_ok-form.ensures.form.fits })
       (stop_second u (λ (y : spec.Form). spec.joined n Difference f y) g c.in_err-join.field-0.0

@@ -1,13 +1,11 @@
 -- No operation more.
 use Rattle.std.proofs.Common.{subst}
-use Rattle.nz_spec.specs.terms.Form.{negated_form}
 use Rattle.nz_lin.specs.Comes.{IsFormed}
-use Rattle.nz_rows.proofs.Formed.{turned_formed}
+use Rattle.nz_rows.proofs.Formed.{negated_formed}
 use Rattle.nz_rows.proofs.bounds.opposite.Goals as goal
 
 pub returns : goal.returns
 returns c = record {
   formed = λ ns d formed.
-      turned_formed ns negated_form d c.in_ok-form.field-0 c.in_ok-negated.field-0 (c.in_ok-negated.ensures.negated ns) (c.in_ok-negated.ensures.units ns)
-      (subst (IsFormed ns d) c.in_ok-form.was formed);
+      negated_formed ns d c.in_ok-form.field-0 c.in_ok-negated.field-0 (c.in_ok-negated.ensures.negated ns) (c.in_ok-negated.ensures.units ns) (subst (IsFormed ns d) c.in_ok-form.was formed);
 }

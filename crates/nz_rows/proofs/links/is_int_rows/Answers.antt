@@ -1,9 +1,8 @@
 -- The rows over the rounded number that was found.
-use Rattle.std.proofs.Common.{◌∷◌, [], subst}
+use Rattle.std.proofs.Common.{false, subst}
 use Rattle.nz_spec.specs.terms.FormOf.{number_in}
-use Rattle.nz_spec.specs.clauses.Links.{links_over}
 use Rattle.nz_spec.specs.terms.Table.{term_in}
-use Rattle.nz_spec.specs.terms.Term.{at_most}
+use Rattle.nz_rows.specs.Comparisons.{order_rows}
 use Rattle.nz_rows.specs.Rows.{ComeOfRows}
 use Rattle.nz_rows.proofs.links.is_int_rows.Goals as goal
 
@@ -12,4 +11,4 @@ returns c =
     let ns = c.args.terms.now in
     let t = term_in ns c.args.term in
     let a = term_in ns c.args.argument in
-    record { rows = subst (λ u. ComeOfRows ns (links_over (number_in ns) t at_most (a ∷ u ∷ [])) c.at_most_rows.result) c.in_ok-rounded.ensures.term.term c.at_most_rows.ensures.rows }
+    record { rows = subst (λ u. ComeOfRows ns (order_rows (number_in ns) false t a u) c.order_rows.result) c.in_ok-rounded.ensures.term.term c.order_rows.ensures.rows }

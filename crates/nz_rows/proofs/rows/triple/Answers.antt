@@ -1,38 +1,12 @@
--- The literal and the bounds, or why there is none.
-use Rattle.std.proofs.Common.{List, ◌∷◌, [], ◌++◌, Err, sym, ap, subst, ◌∙◌}
-use Rattle.std.proofs.lemmas.Result.{err_from_is_err_and}
+-- The literal and the bounds.
+use Rattle.std.proofs.Common.{subst}
 use Rattle.nz_lin.specs.Bounds.{IsLiteral}
-use Rattle.nz_rows.specs.declared.rows.RowLiteral.{RowLiteral}
-use Rattle.nz_rows.specs.declared.rows.RowLiteral.TheVariants as said
-use Rattle.nz_rows.specs.Rows.{ComesOfRow}
-use Rattle.nz_spec.specs.numbers.Computation.{at_once}
-use Rattle.nz_term.specs.TermLits.{literal_of}
-use Rattle.nz_rows.proofs.RowLists.{behind_stops, front_stops, triple_made}
+use Rattle.nz_rows.proofs.RowLists.{triple_made}
 use Rattle.nz_rows.proofs.rows.triple.Goals as goal
-
-pub returns-in_err-first : goal.returns-in_err-first
-returns-in_err-first c = record {
-  row = λ ns d e within first second.
-      let error = err_from_is_err_and c.from_residual.result c.from_residual.ensures.1 in
-      subst (ComesOfRow ns (at_once (literal_of ns c.args.literal) ∷ d ∷ e ∷ [])) (sym (error.1 ∙ ap Err error.2))
-      (front_stops ns d (e ∷ []) c.in_err-first.field-0.0 (subst (IsLiteral ns d) c.in_err-first.was first));
-}
-
-pub returns-in_err-second : goal.returns-in_err-second
-returns-in_err-second c = record {
-  row = λ ns d e within first second.
-      let error = err_from_is_err_and c.from_residual-in_err-second.result c.from_residual-in_err-second.ensures.1 in
-      let stop = c.in_err-second.field-0.0 in
-      subst (ComesOfRow ns (at_once (literal_of ns c.args.literal) ∷ d ∷ e ∷ [])) (sym (error.1 ∙ ap Err error.2))
-      (behind_stops ns d (e ∷ []) c.in_ok-first.first stop (subst (IsLiteral ns d) c.in_ok-first.was first)
-      (front_stops ns e [] stop (subst (IsLiteral ns e) c.in_err-second.was second)));
-}
 
 pub returns : goal.returns
 returns c = record {
   row = λ ns d e within first second.
-      triple_made ns d e c.args.literal c.in_ok-first.first c.in_ok-second.second c.in_ok-with.field-0.items
-      (c.in_ok-with.ensures.row ∙ ap (λ (l : List RowLiteral). l ++ said.Bound c.in_ok-second.second ∷ []) (c.in_ok-row-2.ensures.row ∙ ap (λ (l : List RowLiteral). l ++ said.Bound c.in_ok-first.first ∷ []) c.in_ok-row.ensures.row))
-      within
+      triple_made ns d e c.args.literal c.in_ok-first.first c.in_ok-second.second _ _ c.in_ok-with.field-0.items c.in_ok-row.ensures.row c.in_ok-row-2.ensures.row c.in_ok-with.ensures.row within
       (subst (IsLiteral ns d) c.in_ok-first.was first) (subst (IsLiteral ns e) c.in_ok-second.was second);
 }

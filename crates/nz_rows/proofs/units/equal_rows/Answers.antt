@@ -1,28 +1,11 @@
 -- The two rows, over the difference from either side.
-use Rattle.std.proofs.Common.{◌∷◌, [], Err, sym, ap, subst, ◌∙◌}
-use Rattle.std.proofs.lemmas.Result.{err_from_is_err_and}
+use Rattle.std.proofs.Common.{◌∷◌, []}
 use Rattle.nz_spec.specs.numbers.Computation.{at_once}
 use Rattle.nz_spec.specs.terms.FormOf.{form_of, number_in}
 use Rattle.nz_spec.specs.clauses.Links.{at_most_literal, minus}
 use Rattle.nz_spec.specs.terms.Table.{term_in}
-use Rattle.nz_rows.specs.Meanings.{equal_rows}
-use Rattle.nz_rows.specs.Rows.{ComeOfRows}
 use Rattle.nz_term.specs.TermLits.{literal_of}
-use Rattle.nz_rows.proofs.RowLists.{literal_stops}
 use Rattle.nz_rows.proofs.units.equal_rows.Goals as goal
-
-pub returns-in_err-forward : goal.returns-in_err-forward
-returns-in_err-forward c =
-    let ns = c.args.terms.now in
-    let number = number_in ns in
-    let l = literal_of ns c.args.literal in
-    let a = term_in ns c.args.left in
-    let b = term_in ns c.args.right in
-    let error = err_from_is_err_and c.from_residual.result c.from_residual.ensures.1 in
-    record {
-      rows = subst (ComeOfRows ns (equal_rows number l a b)) (sym (error.1 ∙ ap Err error.2))
-          (literal_stops ns (at_most_literal number a b) [] ((at_once l ∷ at_most_literal number b a ∷ []) ∷ []) c.in_err-forward.field-0.0 c.in_err-forward.ensures.differ);
-    }
 
 pub returns : goal.returns
 returns c =

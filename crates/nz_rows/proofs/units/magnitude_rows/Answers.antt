@@ -1,13 +1,11 @@
 -- The three rows, of which two are over the difference from either side.
-use Rattle.std.proofs.Common.{◌∷◌, [], Err, sym, ap, subst, ◌∙◌}
-use Rattle.std.proofs.lemmas.Result.{err_from_is_err_and}
+use Rattle.std.proofs.Common.{◌∷◌, [], rules}
 use Rattle.nz_spec.specs.numbers.Computation.{Computation, at_once, turned_into}
 use Rattle.nz_spec.specs.terms.Form.{Form, negated_form, unit_form}
 use Rattle.nz_spec.specs.terms.FormOf.{form_of, number_in}
 use Rattle.nz_spec.specs.clauses.Links.{at_most_literal, minus, plus}
 use Rattle.nz_spec.specs.terms.Table.{term_in}
-use Rattle.nz_spec.specs.clauses.Units.{at_most_zero, magnitude_rows}
-use Rattle.nz_rows.specs.Rows.{ComeOfRows}
+use Rattle.nz_spec.specs.clauses.Units.{at_most_zero}
 use Rattle.nz_rows.proofs.RowLists.{literal_stops}
 use Rattle.nz_rows.proofs.units.magnitude_rows.Goals as goal
 
@@ -21,13 +19,9 @@ returns-in_err-forward c =
     let g = form_of number u in
     let own : Computation Form = at_once (unit_form u) in
     let stop = c.in_err-forward.ensures.differ ns f g c.known_table.ensures.table (c.copied.ensures.formed ns f c.form_of-form.ensures.formed) c.form_of.ensures.formed in
-    let error = err_from_is_err_and c.from_residual.result c.from_residual.ensures.1 in
-    record {
-      rows = subst (ComeOfRows ns (magnitude_rows number u a)) (sym (error.1 ∙ ap Err error.2))
-          (literal_stops ns (at_most_literal number a u) []
-          ((at_most_zero (minus number (turned_into negated_form f) own) ∷ []) ∷ (at_most_literal number u a ∷ at_most_zero (plus number own f) ∷ []) ∷ [])
-          c.in_err-forward.field-0.0 stop);
-    }
+    let negated = at_most_zero (minus number (turned_into negated_form f) own) in
+    let last = at_most_literal number u a ∷ at_most_zero (plus number own f) ∷ [] in
+    record { rows = search (rules, literal_stops ns (at_most_literal number a u) [] ((negated ∷ []) ∷ last ∷ []) c.in_err-forward.field-0.0 stop) }
 
 pub returns : goal.returns
 returns c =

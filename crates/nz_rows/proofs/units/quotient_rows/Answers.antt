@@ -1,6 +1,5 @@
 -- The two rows, over the difference from either side; without a constant there is none.
-use Rattle.std.proofs.Common.{◌∷◌, [], Some, Err, sym, ap, subst, ◌∙◌}
-use Rattle.std.proofs.lemmas.Result.{err_from_is_err_and}
+use Rattle.std.proofs.Common.{◌∷◌, [], subst, rules}
 use Rattle.nz_fractions.specs.Fraction.{Fraction}
 use Rattle.nz_spec.specs.numbers.Computation.{Computation, at_once}
 use Rattle.nz_spec.specs.terms.Form.{Form}
@@ -32,11 +31,9 @@ returns-in_err-forward c =
     let multiple : Computation Form = at_once (times_unit k u) in
     let rest = at_most_number (greatest_remainder k) (minus number f multiple) in
     let stop = c.in_err-forward.ensures.differ ns multiple f c.known_table.ensures.table c.times-multiple.ensures.formed c.form_of.ensures.formed in
-    let error = err_from_is_err_and c.from_residual.result c.from_residual.ensures.1 in
     record {
       rows = subst (λ o. ComeOfRows ns (quotient_rows number u a o) c.from_residual.result) c.in-Some.ensures.constant
-          (subst (ComeOfRows ns (quotient_rows number u a (Some k))) (sym (error.1 ∙ ap Err error.2))
-          (literal_stops ns (at_most_zero (minus number multiple f)) [] ((rest ∷ []) ∷ []) c.in_err-forward.field-0.0 stop));
+          (search (rules, literal_stops ns (at_most_zero (minus number multiple f)) [] ((rest ∷ []) ∷ []) c.in_err-forward.field-0.0 stop));
     }
 
 pub returns : goal.returns

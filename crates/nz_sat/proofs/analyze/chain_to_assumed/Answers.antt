@@ -3,8 +3,7 @@ use Rattle.std.proofs.Common.{◌≡◌, ◌-◌, List, [], ◌∷◌, ◌++◌,
 use Rattle.nz_log.specs.declared.lits.Lit.{Lit}
 use Rattle.nz_log.specs.Logs.{literals_at}
 use Rattle.nz_sat.specs.Conflicts.{IsOnWayToAssumed, MarksFalse}
-use Rattle.nz_sat.proofs.FinalConflicts.{assumed_ends, assumed_here, assumed_on, assumed_past, assumed_starts}
-use Rattle.nz_sat.proofs.ConflictChains.{link_of}
+use Rattle.nz_sat.proofs.ConflictChains.{assumed_ends, assumed_here, assumed_on, assumed_past, assumed_starts, link_of}
 use Rattle.nz_sat.proofs.analyze.chain_to_assumed.Goals as goal
 
 pub loop-i-init : goal.loop-i-init

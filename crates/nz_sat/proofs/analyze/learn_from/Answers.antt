@@ -1,6 +1,5 @@
 -- The clause of the chain is in the log, and is the learned one.
-use Rattle.std.proofs.Common.{◌<◌, List, length, subst, sym, ◌∙◌}
-use Rattle.std.specs.Prelude.{All, Contains}
+use Rattle.std.proofs.Common.{◌<◌, List, length, subst, sym, ◌∙◌, All, Contains}
 use Rattle.nz_log.specs.declared.lits.Lit.{Lit}
 use Rattle.nz_log.specs.declared.origins.Link.{Link}
 use Rattle.nz_log.specs.Atoms.{IsLitIn}

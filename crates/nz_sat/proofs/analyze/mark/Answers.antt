@@ -1,8 +1,7 @@
 -- Each literal that is false is marked, and counted where it is of the level.
-use Rattle.std.proofs.Common.{◌≡◌, ℕ, ◌+◌, true, false, ◌++◌, ◌∷◌, [], get_or, take, Some, subst, sym, ap, ◌∙◌, true≢false, ne_eqb, arith, rules}
+use Rattle.std.proofs.Common.{◌≡◌, ℕ, ◌+◌, true, false, ◌++◌, ◌∷◌, [], get_or, take, Some, subst, sym, ap, ◌∙◌, true≢false, ne_eqb, arith, rules, eq-eqb}
 use Rattle.std.specs.Option.{option_eq}
 use mathlib.Core.Bool.{beq}
-use Rattle.std.proofs.lemmas.Bool.{eq-eqb}
 use Rattle.std.proofs.lemmas.List.{take_more}
 use Rattle.nz_sat.specs.Trails.{HasValue, IsFalseOn, level_on}
 use Rattle.nz_sat.proofs.Marks.{counted_as, counted_same, counted_set, false_within, one_at, one_if, told_false}

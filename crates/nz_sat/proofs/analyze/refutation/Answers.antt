@@ -1,6 +1,5 @@
 -- Without a link the clause itself refutes, and else the last of the chain.
-use Rattle.std.proofs.Common.{◌≡◌, List, length, subst, sym, rules}
-use Rattle.std.specs.Prelude.{All}
+use Rattle.std.proofs.Common.{◌≡◌, List, length, subst, sym, rules, All}
 use Rattle.std.proofs.lemmas.List.{nil_from_length}
 use Rattle.nz_log.specs.declared.origins.Link.{Link}
 use Rattle.nz_log.specs.Atoms.{IsLitIn}

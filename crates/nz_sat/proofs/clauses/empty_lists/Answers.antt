@@ -1,8 +1,6 @@
 -- One list more.
-use Rattle.std.proofs.Common.{◌≡◌, ℕ, ◌+◌, ◌++◌, ◌∷◌, [], List, sym, subst, arith, length, ◌∙◌, ap}
+use Rattle.std.proofs.Common.{◌≡◌, ℕ, ◌+◌, ◌++◌, ◌∷◌, [], List, sym, subst, arith, length, ◌∙◌, ap, Vec, Global}
 use Rattle.std.proofs.lemmas.List.{length_push}
-use Rattle.std.specs.declared.vec.Vec.{Vec}
-use Rattle.std.specs.declared.alloc.Global.{Global}
 use Rattle.nz_sat.specs.Clauses.{ids_in}
 use Rattle.nz_sat.proofs.ClauseIndex.{ids_in-push}
 use Rattle.nz_sat.proofs.clauses.empty_lists.Goals as goal

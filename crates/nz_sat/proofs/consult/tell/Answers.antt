@@ -1,6 +1,5 @@
 -- One entry more.
-use Rattle.std.proofs.Common.{◌≡◌, ℕ, ◌+◌, true, false, None, Option, Err, Ok, sym, subst, arith, rules}
-use Rattle.std.specs.Prelude.{is_some}
+use Rattle.std.proofs.Common.{◌≡◌, ℕ, ◌+◌, true, false, None, Option, Err, Ok, sym, subst, arith, rules, is_some}
 use Rattle.nz_spec.specs.search.Work.{WorkList}
 use Rattle.nz_search.specs.declared.note.Note.{Note}
 use Rattle.nz_log.specs.Logs.{LogState}

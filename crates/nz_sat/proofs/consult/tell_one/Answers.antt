@@ -11,8 +11,7 @@ use Rattle.nz_spec.specs.simplex.LiteralBounds.{moved_by}
 use Rattle.nz_spec.specs.search.Work.{with_line}
 use Rattle.nz_search.specs.Theories.{MovesOn, told_after}
 use Rattle.nz_sat.specs.Theories.{AddsLines, IsOfTheory, told_line}
-use Rattle.nz_sat.proofs.SearchLines.{adds_line}
-use Rattle.nz_sat.proofs.TheoryLines.{ends_stopped, told_stands, told_stopped, wide_weaker}
+use Rattle.nz_sat.proofs.SearchLines.{adds_line, ends_stopped, told_stands, told_stopped, wide_weaker}
 use Rattle.nz_sat.proofs.consult.tell_one.Goals as goal
 
 pub returns-in_ok-note_told-in-Ok-None-clause-comes : goal.returns-in_ok-note_told-in-Ok-None-clause-comes

@@ -1,5 +1,4 @@
-use Rattle.std.proofs.Common.{ℕ, ◌<◌, get_or}
-use Rattle.std.specs.Prelude.{IsSome}
+use Rattle.std.proofs.Common.{ℕ, ◌<◌, get_or, IsSome}
 use Rattle.nz_sat.specs.Trails.{assigned}
 use Rattle.nz_sat.proofs.order.first_undecided.Given as goal
 

@@ -6,7 +6,7 @@ use Rattle.nz_log.specs.Lits.{are_same_lit}
 use Rattle.nz_sat.specs.Trails.{HasValue, IsFalseOn, IsTrueOn}
 use Rattle.nz_sat.specs.Clauses.{by_true, by_two}
 use Rattle.nz_sat.proofs.Clausal.{other_lit}
-use Rattle.nz_sat.proofs.ClauseStatus.{IsLeft, left_again, left_falsified, left_false, left_first, left_unit}
+use Rattle.nz_sat.proofs.VisitedClauses.{IsLeft, left_again, left_falsified, left_false, left_first, left_unit}
 use Rattle.nz_sat.proofs.propagate.status_of.Goals as goal
 use Rattle.nz_sat.proofs.propagate.status_of.Goals.{in-Some-false, in-None+in-Some+else-not-is, in-None+in-None-undecided}
 

@@ -1,5 +1,5 @@
 use Rattle.std.proofs.Common.{take}
-use Rattle.nz_sat.proofs.ClauseStatus.{IsLeft}
+use Rattle.nz_sat.proofs.VisitedClauses.{IsLeft}
 use Rattle.nz_sat.proofs.propagate.status_of.Given as goal
 
 -- what was looked at is false, but for one literal that is undecided

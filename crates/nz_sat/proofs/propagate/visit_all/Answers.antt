@@ -1,7 +1,10 @@
 -- One clause more was visited.
-use Rattle.std.proofs.Common.{◌≡◌, ◌<◌, true, length, ◌∙◌, arith, rules}
-use Rattle.nz_sat.proofs.VisitedClauses.{goes_far, goes_longer, visited_more}
+use Rattle.std.proofs.Common.{◌≡◌, ℕ, ◌<◌, true, length, List, arith, rules, All, Contains}
+use Rattle.nz_sat.proofs.VisitedClauses.{goes_longer, visited_more, visits_more, visits_none}
 use Rattle.nz_sat.proofs.propagate.visit_all.Goals as goal
+
+pub loop-id-init : goal.loop-id-init
+loop-id-init c = record { visits = visits_none (λ (us : List ℕ). All (Contains us) c.args.ids.now) c.args.trail.now; waits = λ k d less. absurd (omega (arith, less)) }
 
 pub loop-id-preserved : goal.loop-id-preserved
 loop-id-preserved c =
@@ -12,26 +15,15 @@ loop-id-preserved c =
     let inside : c.loop-id.id-index < length c.args.ids.now = omega arith in
     let left : c.visit.result ≡ true = search rules in
     record {
-      size = c.visit.ensures.size ∙ before.size;
-      order = λ h. c.visit.ensures.order (before.order h);
-      goes_on = goes_far old es new before.goes_on c.visit.ensures.goes_on;
-      implied = λ h. c.visit.ensures.implied (before.implied h);
-      reasons = λ us all h. c.visit.ensures.reasons us (all c.loop-id.id-index 0 inside) (before.reasons us all h);
-      waits = visited_more c.args.log.now es new (length old) c.args.ids.now c.loop-id.id-index 0 inside (goes_longer old es before.goes_on)
-          c.visit.ensures.goes_on before.waits (c.visit.ensures.all_open left);
+      visits = visits_more (λ (us : List ℕ). All (Contains us) c.args.ids.now) before.visits c.visit.ensures.visits (λ us all. all) (λ us all. all c.loop-id.id-index 0 inside);
+      waits = visited_more c.args.log.now es new (length old) c.args.ids.now c.loop-id.id-index 0 inside (goes_longer old es before.visits.goes_on)
+          c.visit.ensures.visits.goes_on before.waits (c.visit.ensures.all_open left);
     }
 
 pub returns-clause-waits : goal.returns-clause-waits
 returns-clause-waits c none k d inside = c.loop-id.invariant.waits k d (omega arith)
 
-pub returns-then-not-visit-clause-reasons : goal.returns-then-not-visit-clause-reasons
-returns-then-not-visit-clause-reasons c us all h =
+pub returns-then-not-visit-clause-visits : goal.returns-then-not-visit-clause-visits
+returns-then-not-visit-clause-visits c =
     let inside : c.loop-id.id-index < length c.args.ids.now = omega arith in
-    c.visit.ensures.reasons us (all c.loop-id.id-index 0 inside) (c.loop-id.invariant.reasons us all h)
-
-pub returns-then-not-visit-clause-goes_on : goal.returns-then-not-visit-clause-goes_on
-returns-then-not-visit-clause-goes_on c =
-    goes_far c.args.trail.now.entries c.loop-id.trail.entries c.visit.new.trail.entries c.loop-id.invariant.goes_on c.visit.ensures.goes_on
-
-pub returns-then-not-visit-clause-order : goal.returns-then-not-visit-clause-order
-returns-then-not-visit-clause-order c h = c.visit.ensures.order (c.loop-id.invariant.order h)
+    visits_more (λ (us : List ℕ). All (Contains us) c.args.ids.now) c.loop-id.invariant.visits c.visit.ensures.visits (λ us all. all) (λ us all. all c.loop-id.id-index 0 inside)

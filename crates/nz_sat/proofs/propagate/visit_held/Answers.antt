@@ -1,11 +1,14 @@
 -- One clause more was visited.
-use Rattle.std.proofs.Common.{◌≡◌, ◌<◌, true, length, ◌∙◌, arith, rules}
+use Rattle.std.proofs.Common.{◌≡◌, ℕ, ◌<◌, true, length, List, arith, rules, All, Contains}
 use Rattle.nz_sat.specs.declared.clauses.Held.{Held}
-use Rattle.nz_sat.proofs.VisitedClauses.{goes_far, goes_longer, visited_held}
+use Rattle.nz_sat.proofs.VisitedClauses.{goes_longer, visited_held, visits_more, visits_none}
 use Rattle.nz_sat.proofs.propagate.visit_held.Goals as goal
 
 abbrev blank : Held
 blank = record { id = 0; level = 0 }
+
+pub loop-clause-init : goal.loop-clause-init
+loop-clause-init c = record { visits = visits_none (λ (us : List ℕ). All (λ (h : Held). Contains us h.id) c.args.held.now) c.args.trail.now; waits = λ k d less. absurd (omega (arith, less)) }
 
 pub loop-clause-preserved : goal.loop-clause-preserved
 loop-clause-preserved c =
@@ -16,26 +19,15 @@ loop-clause-preserved c =
     let inside : c.loop-clause.clause-index < length c.args.held.now = omega arith in
     let left : c.visit.result ≡ true = search rules in
     record {
-      size = c.visit.ensures.size ∙ before.size;
-      order = λ h. c.visit.ensures.order (before.order h);
-      goes_on = goes_far old es new before.goes_on c.visit.ensures.goes_on;
-      implied = λ h. c.visit.ensures.implied (before.implied h);
-      reasons = λ us all h. c.visit.ensures.reasons us (all c.loop-clause.clause-index blank inside) (before.reasons us all h);
-      waits = visited_held c.args.log.now es new (length old) c.args.held.now c.loop-clause.clause-index blank inside (goes_longer old es before.goes_on)
-          c.visit.ensures.goes_on before.waits (c.visit.ensures.all_open left);
+      visits = visits_more (λ (us : List ℕ). All (λ (h : Held). Contains us h.id) c.args.held.now) before.visits c.visit.ensures.visits (λ us all. all) (λ us all. all c.loop-clause.clause-index blank inside);
+      waits = visited_held c.args.log.now es new (length old) c.args.held.now c.loop-clause.clause-index blank inside (goes_longer old es before.visits.goes_on)
+          c.visit.ensures.visits.goes_on before.waits (c.visit.ensures.all_open left);
     }
 
 pub returns-clause-waits : goal.returns-clause-waits
 returns-clause-waits c none k d inside = c.loop-clause.invariant.waits k d (omega arith)
 
-pub returns-then-not-visit-clause-reasons : goal.returns-then-not-visit-clause-reasons
-returns-then-not-visit-clause-reasons c us all h =
+pub returns-then-not-visit-clause-visits : goal.returns-then-not-visit-clause-visits
+returns-then-not-visit-clause-visits c =
     let inside : c.loop-clause.clause-index < length c.args.held.now = omega arith in
-    c.visit.ensures.reasons us (all c.loop-clause.clause-index blank inside) (c.loop-clause.invariant.reasons us all h)
-
-pub returns-then-not-visit-clause-goes_on : goal.returns-then-not-visit-clause-goes_on
-returns-then-not-visit-clause-goes_on c =
-    goes_far c.args.trail.now.entries c.loop-clause.trail.entries c.visit.new.trail.entries c.loop-clause.invariant.goes_on c.visit.ensures.goes_on
-
-pub returns-then-not-visit-clause-order : goal.returns-then-not-visit-clause-order
-returns-then-not-visit-clause-order c h = c.visit.ensures.order (c.loop-clause.invariant.order h)
+    visits_more (λ (us : List ℕ). All (λ (h : Held). Contains us h.id) c.args.held.now) c.loop-clause.invariant.visits c.visit.ensures.visits (λ us all. all) (λ us all. all c.loop-clause.clause-index blank inside)

@@ -2,6 +2,7 @@
 use Rattle.std.proofs.Common.{rules, ◌≡◌, ℕ, ◌<◌, ◌≤◌, ◌⊎◌, inl, inr, length, get_or, Option, Some, None, Bool, true, false, sym, ap, subst, ◌∙◌, arith}
 use Rattle.std.specs.Prelude.{◌≢◌}
 use Rattle.std.proofs.lemmas.List.{get_or_read, get_or-set_other}
+use Rattle.nz_lists.proofs.Numbers.{below_or_past}
 use Rattle.nz_simplex.specs.Choices.{IsAfter, IsFollowed}
 use Rattle.nz_simplex.specs.Tabled.{marks_in, rows_in}
 use Rattle.nz_simplex.proofs.ValueUpdates.{IsDistance, followed_after}
@@ -27,11 +28,8 @@ loop-form-preserved g c =
 
 pub returns-clause-stays : goal.returns-clause-stays
 returns-clause-stays g c =
-    λ k other marked. get_or-set_other c.loop-form.values c.args.var k (Some c.args.target) None other ∙ by_place k marked (place k c.loop-form.form)
+    λ k other marked. get_or-set_other c.loop-form.values c.args.var k (Some c.args.target) None other ∙ by_place k marked (below_or_past k c.loop-form.form)
   where
-    place : (k n : ℕ) → (k < n) ⊎ (n ≤ k)
-    place k n = grind arith
-
     by_place : (k : ℕ) → get_or (marks_in c.args.tab.now) k false ≡ true → (k < c.loop-form.form) ⊎ (c.loop-form.form ≤ k)
         → get_or c.loop-form.values k None ≡ get_or c.args.values.now k None
     by_place k marked (inl below) = (c.loop-form.invariant.done k below).stays marked

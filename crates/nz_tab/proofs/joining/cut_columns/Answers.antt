@@ -1,7 +1,8 @@
 -- One row more.
 use Rattle.std.proofs.Common.{◌<◌, length, map, take, arith}
 use Rattle.std.proofs.lemmas.List.{length-map}
-use Rattle.nz_tab.proofs.RowLengths.{items, rows_all, rows_more}
+use Rattle.nz_tab.proofs.RowLengths.{rows_all, rows_more}
+use Rattle.nz_tab.proofs.StoredRows.{items}
 use Rattle.nz_tab.proofs.joining.cut_columns.Goals as goal
 
 pub loop-place-preserved : goal.loop-place-preserved

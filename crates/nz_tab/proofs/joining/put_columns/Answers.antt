@@ -4,7 +4,8 @@ use Rattle.std.specs.Prelude.{vec_capacity, vec_len}
 use Rattle.std.proofs.lemmas.List.{get_or-set_other, length-map}
 use Rattle.nz_fractions.specs.Fraction.{Fraction}
 use Rattle.nz_tab.specs.Sums.{lengthened}
-use Rattle.nz_tab.proofs.RowLengths.{items, rows_all, rows_more}
+use Rattle.nz_tab.proofs.RowLengths.{rows_all, rows_more}
+use Rattle.nz_tab.proofs.StoredRows.{items}
 use Rattle.nz_tab.proofs.joining.put_columns.Goals as goal
 
 pub lengthen-requires : goal.lengthen-requires

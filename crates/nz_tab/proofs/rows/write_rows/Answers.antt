@@ -1,16 +1,13 @@
 -- One row more.
-use Rattle.std.proofs.Common.{Vec, Global, ◌≡◌, ◌+◌, ◌<◌, List, [], length, get_or, map, sym, ap, subst, ◌∙◌, arith}
+use Rattle.std.proofs.Common.{◌≡◌, ◌+◌, ◌<◌, [], length, get_or, map, sym, ap, subst, ◌∙◌, arith}
 use Rattle.std.specs.Prelude.{vec_len}
 use Rattle.std.proofs.lemmas.List.{get_or-map, length-map, map-set}
-use Rattle.nz_fractions.specs.Fraction.{Fraction}
 use Rattle.nz_tab.specs.Exchanges.{IsRewritten}
 use Rattle.nz_tab.specs.Rows.{AreSlotted, slot_at}
 use Rattle.nz_tab.proofs.Slots.{rewritten_more}
+use Rattle.nz_tab.proofs.StoredRows.{items}
 use Rattle.nz_tab.proofs.rows.write_rows.Goals as goal
 use Rattle.nz_tab.proofs.rows.write_rows.Goals.{After-index_mut}
-
-abbrev items : Vec Fraction Global → List Fraction
-items x = x.items
 
 -- the row that is written is as long as there are columns
 long : (c : After-index_mut) → vec_len c.index_mut.result.now ≡ length c.args.columns.now

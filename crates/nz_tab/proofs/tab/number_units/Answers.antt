@@ -5,10 +5,8 @@ use Rattle.std.specs.HashMap.{get}
 use Rattle.std.proofs.lemmas.List.{append_assoc, length-append, length-map, length-take-le, map_push, take_more}
 use Rattle.nz_lin.specs.declared.form.Part.{Part}
 use Rattle.nz_tab.specs.Units.{AreNumbers}
+use Rattle.nz_tab.proofs.TableStorage.{items}
 use Rattle.nz_tab.proofs.tab.number_units.Goals as goal
-
-abbrev items : Vec Part Global → List Part
-items x = x.items
 
 -- the units so far, and one more
 one_more : (fs : List (List Part)) (us : List (Vec Part Global)) (i : ℕ) (x : Vec Part Global) → i < length us → x ≡ get_or us i x → (fs ++ map items (take i us)) ++ x.items ∷ [] ≡ fs ++ map items (take (i + 1) us)

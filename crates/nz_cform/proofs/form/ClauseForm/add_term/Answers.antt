@@ -1,6 +1,5 @@
 -- The stack leads from one term to what it is made of.
-use Rattle.std.proofs.Common.{◌≡◌, ◌<◌, [], ◌∷◌, ◌++◌, Some, None, Err, ap, sym, subst, ◌∙◌, rules}
-use Rattle.std.specs.Prelude.{IfErr}
+use Rattle.std.proofs.Common.{◌≡◌, ◌<◌, [], ◌∷◌, ◌++◌, Some, None, Err, ap, sym, subst, ◌∙◌, rules, IfErr}
 use Rattle.nz_spec.specs.terms.Table.{term_in}
 use Rattle.nz_term.specs.Heads.{head_of}
 use Rattle.nz_cform.specs.declared.stop.FormStop.{FormStop}

@@ -1,6 +1,5 @@
 -- The listed numbers have levels, and what is left is listed.
-use Rattle.std.proofs.Common.{◌≡◌, ℕ, List, Option, ◌∙◌, ap, subst}
-use Rattle.std.specs.Prelude.{All, filter, is_some, slice_index_or, None}
+use Rattle.std.proofs.Common.{◌≡◌, ℕ, List, Option, ◌∙◌, ap, subst, All, filter, is_some, slice_index_or, None}
 use Rattle.nz_log.specs.Logs.{told_below}
 use Rattle.nz_cform.specs.Listings.{ListingState, Cuts}
 use Rattle.nz_cform.proofs.Listed.{cuts_from, cuts_listed, listed_within}

@@ -1,6 +1,5 @@
 -- A multiple, and then the sum.
-use Rattle.std.proofs.Common.{List, Err, sym, ap, subst, ◌∙◌}
-use Rattle.std.proofs.lemmas.Result.{err_from_is_err_and}
+use Rattle.std.proofs.Common.{List}
 use Rattle.nz_spec.specs.numbers.Computation.{and_then}
 use Rattle.nz_spec.specs.clauses.Farkas as farkas
 use Rattle.nz_spec.specs.clauses.Farkas.{bound_scaled, bounds_joined}
@@ -9,15 +8,14 @@ use Rattle.nz_spec.specs.terms.Table.{Node}
 use Rattle.nz_lin.specs.Bounds.{HasUnits, bound_over}
 use Rattle.nz_lin.specs.Comes.{Comes}
 use Rattle.nz_lin.proofs.BoundSides.{comes_after, done_implies}
-use Rattle.nz_lin.proofs.ComputationSequences.{stop_first}
+use Rattle.nz_lin.proofs.ComputationSequences.{handed_on, stop_first}
 use Rattle.nz_lin.proofs.bound.Bound.join_multiple.Goals as goal
 
 pub returns-in_err-scaled-clause-comes : goal.returns-in_err-scaled-clause-comes
 returns-in_err-scaled-clause-comes c ns table own others =
     let x = bound_over ns c.args.self.now in
     let scaling = bound_scaled c.args.multiplier (bound_over ns c.args.other.now) in
-    let error = err_from_is_err_and c.from_residual.result c.from_residual.ensures.1 in
-    subst (λ r. Comes (and_then scaling (λ (y : farkas.Bound). bounds_joined (number_in ns) x y)) x r) (sym (error.1 ∙ ap Err error.2))
+    handed_on (λ r. Comes (and_then scaling (λ (y : farkas.Bound). bounds_joined (number_in ns) x y)) x r) c.from_residual.result c.in_err-scaled.field-0.0 c.from_residual.ensures.1
     (stop_first scaling (λ (y : farkas.Bound). bounds_joined (number_in ns) x y) c.in_err-scaled.field-0.0 (c.in_err-scaled.ensures.bounded ns others))
 
 pub returns-clause-comes : goal.returns-clause-comes

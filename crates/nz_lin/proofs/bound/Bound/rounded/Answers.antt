@@ -1,6 +1,5 @@
 -- A multiple, and then its limit.
-use Rattle.std.proofs.Common.{false, Ok, Err, sym, ap, subst, ◌∙◌}
-use Rattle.std.proofs.lemmas.Result.{err_from_is_err_and}
+use Rattle.std.proofs.Common.{false, Ok, sym, subst}
 use Rattle.nz_spec.specs.clauses.Cuts.{rounded_limit}
 use Rattle.nz_spec.specs.clauses.Farkas.{bound_scaled}
 use Rattle.nz_fractions.specs.Fraction.{Fraction}
@@ -9,7 +8,7 @@ use Rattle.nz_term.specs.declared.stops.ArithmeticStop.{ArithmeticStop}
 use Rattle.nz_term.specs.declared.stops.ArithmeticStop.TheVariants.{Wide}
 use Rattle.nz_lin.specs.Bounds.{IsLiteral, bound_over, rounded_bound}
 use Rattle.nz_lin.specs.Forms.{Numbered}
-use Rattle.nz_lin.proofs.ComputationSequences.{done_both, stop_first, stop_second, turned_done}
+use Rattle.nz_lin.proofs.ComputationSequences.{done_both, handed_on, stop_first, stop_second, turned_done}
 use Rattle.nz_lin.proofs.IntegerBounds.{rounded_literal}
 use Rattle.nz_lin.proofs.bound.Bound.rounded.Goals as goal
 
@@ -18,9 +17,8 @@ returns-in_err-scaled c = record {
   rounded = λ ns units.
       let m = c.args.multiplier in
       let x = bound_over ns c.args.self.now in
-      let error = err_from_is_err_and c.from_residual.result c.from_residual.ensures.1 in
       let s : ArithmeticStop = c.in_err-scaled.field-0.0 in
-      subst (λ r. IsLiteral ns (rounded_bound m x) r) (sym (error.1 ∙ ap Err error.2))
+      handed_on (λ r. IsLiteral ns (rounded_bound m x) r) c.from_residual.result s c.from_residual.ensures.1
       (stop_first (bound_scaled m x) rounded_literal s (c.in_err-scaled.ensures.bounded ns units));
 }
 
@@ -30,9 +28,8 @@ returns-in_err-limit c = record {
       let m = c.args.multiplier in
       let x = bound_over ns c.args.self.now in
       let h = c.in_ok-scaled.ensures.bounded ns units in
-      let error = err_from_is_err_and c.from_residual-in_err-limit.result c.from_residual-in_err-limit.ensures.1 in
       let s : ArithmeticStop = Wide c.in_err-limit.field-0.0 in
-      subst (λ r. IsLiteral ns (rounded_bound m x) r) (sym (error.1 ∙ ap Err error.2))
+      handed_on (λ r. IsLiteral ns (rounded_bound m x) r) c.from_residual-in_err-limit.result s c.from_residual-in_err-limit.ensures.1
       (stop_second (bound_scaled m x) rounded_literal (bound_over ns c.in_ok-scaled.scaled) s h.0 (c.in_err-limit.ensures.rounded ns));
 }
 

@@ -1,6 +1,5 @@
 -- The parts, and then what is added.
-use Rattle.std.proofs.Common.{List, Err, sym, ap, subst, ◌∙◌}
-use Rattle.std.proofs.lemmas.Result.{err_from_is_err_and}
+use Rattle.std.proofs.Common.{List, sym, subst}
 use Rattle.nz_spec.specs.terms.Form.{joined, parts_joined}
 use Rattle.nz_spec.specs.terms.FormOf.{number_in}
 use Rattle.nz_fractions.specs.Fraction.{first_wide}
@@ -11,6 +10,7 @@ use Rattle.nz_lin.specs.declared.form.Part.{Part}
 use Rattle.nz_lin.specs.Comes.{Comes, IsDone, arithmetic_of}
 use Rattle.nz_lin.specs.Forms.{AreUnits, Numbered, form_over, parts_over}
 use Rattle.nz_lin.proofs.FormAddition.{joined_done, joined_late_stop, joined_stop}
+use Rattle.nz_lin.proofs.ComputationSequences.{handed_on}
 use Rattle.nz_lin.proofs.form.Form.join.Goals as goal
 
 pub returns-in_err-join_parts-clause-comes : goal.returns-in_err-join_parts-clause-comes
@@ -22,9 +22,8 @@ returns-in_err-join_parts-clause-comes c ns table units others =
     let now = form_over ns (record { parts = c.join_parts.new.parts.items; offset = c.self.inside.offset }) in
     let own = subst (λ (v : Numbered). AreUnits ns v.parts) (sym c.self.view_is) units in
     let added = subst (AreUnits ns) (sym c.as_slice.ensures.value) (subst (λ (v : Numbered). AreUnits ns v.parts) (sym c.other.view_is) others) in
-    let error = err_from_is_err_and c.from_residual.result c.from_residual.ensures.1 in
     let s : ArithmeticStop = c.in_err-join_parts.field-0.0 in
-    subst (λ r. Comes (joined n op (form_over ns c.args.self.now) (form_over ns c.args.other.now)) now r) (sym (error.1 ∙ ap Err error.2))
+    handed_on (λ r. Comes (joined n op (form_over ns c.args.self.now) (form_over ns c.args.other.now)) now r) c.from_residual.result s c.from_residual.ensures.1
     (subst (λ (v : Numbered). IsStopAt (first_wide (joined n op (form_over ns v) (form_over ns c.args.other.now)).operations) s) c.self.view_is
     (subst (λ (w : Numbered). IsStopAt (first_wide (joined n op (form_over ns f) (form_over ns w)).operations) s) c.other.view_is
     (joined_stop n op (form_over ns f) (form_over ns g) s
@@ -40,9 +39,9 @@ returns-in_err-self-inside-clause-comes c ns table units others =
     let now = form_over ns (record { parts = c.join_parts.new.parts.items; offset = c.self.inside.offset }) in
     let own = subst (λ (v : Numbered). AreUnits ns v.parts) (sym c.self.view_is) units in
     let added = subst (AreUnits ns) (sym c.as_slice.ensures.value) (subst (λ (v : Numbered). AreUnits ns v.parts) (sym c.other.view_is) others) in
-    let error = err_from_is_err_and c.from_residual-in_err-self-inside.result c.from_residual-in_err-self-inside.ensures.1 in
     let s : ArithmeticStop = Wide c.in_err-self-inside.field-0.0 in
-    subst (λ r. Comes (joined n op (form_over ns c.args.self.now) (form_over ns c.args.other.now)) now r) (sym (error.1 ∙ ap Err error.2))
+    handed_on (λ r. Comes (joined n op (form_over ns c.args.self.now) (form_over ns c.args.other.now)) now r) c.from_residual-in_err-self-inside.result s
+    c.from_residual-in_err-self-inside.ensures.1
     (subst (λ (v : Numbered). IsStopAt (first_wide (joined n op (form_over ns v) (form_over ns c.args.other.now)).operations) s) c.self.view_is
     (subst (λ (w : Numbered). IsStopAt (first_wide (joined n op (form_over ns f) (form_over ns w)).operations) s) c.other.view_is
     (joined_late_stop n op (form_over ns f) (form_over ns g) (parts_over ns c.join_parts.new.parts.items)

@@ -1,6 +1,5 @@
 -- The coefficients, and then what is added.
-use Rattle.std.proofs.Common.{List, Err, sym, ap, subst, ◌∙◌}
-use Rattle.std.proofs.lemmas.Result.{err_from_is_err_and}
+use Rattle.std.proofs.Common.{List, sym, subst}
 use Rattle.nz_spec.specs.terms.Form.{parts_scaled, scaled}
 use Rattle.nz_fractions.specs.Fraction.{first_wide}
 use Rattle.nz_term.specs.Stops.{IsStopAt}
@@ -10,6 +9,7 @@ use Rattle.nz_lin.specs.declared.form.Part.{Part}
 use Rattle.nz_lin.specs.Comes.{IsDone, IsFormed, times}
 use Rattle.nz_lin.specs.Forms.{AreUnits, Numbered, form_over, parts_over}
 use Rattle.nz_lin.proofs.FormAddition.{offset_stop, parts_stop, scaled_done}
+use Rattle.nz_lin.proofs.ComputationSequences.{handed_on}
 use Rattle.nz_lin.proofs.form.Form.multiplied.Goals as goal
 
 pub returns-in_err-parts : goal.returns-in_err-parts
@@ -17,9 +17,8 @@ returns-in_err-parts c = record {
   formed = λ ns units.
       let t = times c.args.side c.args.factor in
       let f : Numbered = record { parts = c.self.inside.parts.items; offset = c.self.inside.offset } in
-      let error = err_from_is_err_and c.from_residual.result c.from_residual.ensures.1 in
       let s : ArithmeticStop = c.in_err-parts.field-0.0 in
-      subst (λ r. IsFormed ns (scaled t (form_over ns c.args.self.now)) r) (sym (error.1 ∙ ap Err error.2))
+      handed_on (λ r. IsFormed ns (scaled t (form_over ns c.args.self.now)) r) c.from_residual.result s c.from_residual.ensures.1
       (subst (λ (v : Numbered). IsStopAt (first_wide (scaled t (form_over ns v)).operations) s) c.self.view_is
       (parts_stop t (form_over ns f) s
       (subst (λ (l : List Part). IsStopAt (first_wide (parts_scaled t (parts_over ns l)).operations) s) c.as_slice.ensures.value (c.in_err-parts.ensures.scaled ns))));
@@ -31,9 +30,8 @@ returns-in_err-offset c = record {
       let t = times c.args.side c.args.factor in
       let f : Numbered = record { parts = c.self.inside.parts.items; offset = c.self.inside.offset } in
       let new = parts_over ns c.in_ok-parts.parts.items in
-      let error = err_from_is_err_and c.from_residual-in_err-offset.result c.from_residual-in_err-offset.ensures.1 in
       let s : ArithmeticStop = Wide c.in_err-offset.field-0.0 in
-      subst (λ r. IsFormed ns (scaled t (form_over ns c.args.self.now)) r) (sym (error.1 ∙ ap Err error.2))
+      handed_on (λ r. IsFormed ns (scaled t (form_over ns c.args.self.now)) r) c.from_residual-in_err-offset.result s c.from_residual-in_err-offset.ensures.1
       (subst (λ (v : Numbered). IsStopAt (first_wide (scaled t (form_over ns v)).operations) s) c.self.view_is
       (offset_stop t (form_over ns f) new
       (subst (λ (l : List Part). IsDone (parts_scaled t (parts_over ns l)) new) c.as_slice.ensures.value (c.in_ok-parts.ensures.scaled ns))

@@ -1,6 +1,5 @@
 -- One atom more.
-use Rattle.std.proofs.Common.{◌≡◌, ℕ, ◌++◌, ◌∷◌, [], true, List, length, None, ap, subst, sym, ◌∙◌, rules}
-use Rattle.std.specs.Prelude.{slice_index_or}
+use Rattle.std.proofs.Common.{◌≡◌, ℕ, ◌++◌, ◌∷◌, [], true, List, length, None, ap, subst, sym, ◌∙◌, rules, slice_index_or}
 use Rattle.nz_sat.specs.Numbers.{IsNumbered, number_or}
 use Rattle.nz_sat.proofs.AtomNumbers.{numbered_push}
 use Rattle.nz_sat.proofs.atoms.Atoms.name.Goals as goal

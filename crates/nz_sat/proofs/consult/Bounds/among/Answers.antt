@@ -1,6 +1,5 @@
 -- One atom more is marked as it is.
-use Rattle.std.proofs.Common.{◌≡◌, ℕ, ◌<◌, false, true, get_or, inl, inr, sym, subst, ◌∙◌, arith, below_more, rules}
-use Rattle.std.specs.Prelude.{slice_set}
+use Rattle.std.proofs.Common.{◌≡◌, ℕ, ◌<◌, false, true, get_or, inl, inr, sym, subst, ◌∙◌, arith, below_more, rules, slice_set}
 use Rattle.std.proofs.lemmas.Bool.{cases_eq}
 use Rattle.std.proofs.lemmas.List.{get_or-set_other, get_or-set_same, get_or_default, length-set}
 use Rattle.std.proofs.lemmas.List.Elements.{Contains-get_or}

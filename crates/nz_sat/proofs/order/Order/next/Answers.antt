@@ -1,5 +1,4 @@
-use Rattle.std.proofs.Common.{◌≡◌, true, None, refl, rules}
-use Rattle.std.specs.Prelude.{is_some}
+use Rattle.std.proofs.Common.{◌≡◌, true, None, refl, rules, is_some}
 use Rattle.nz_sat.specs.Numbers.{number_of}
 use Rattle.nz_sat.specs.Trails.{assigned}
 use Rattle.nz_sat.proofs.AtomNumbers.{has_numbered}

@@ -1,6 +1,5 @@
 -- What the run of the search told, over these atoms.
-use Rattle.std.proofs.Common.{◌≡◌, ℕ, true, false, Err, List, Option, ap, sym, subst, ◌∙◌, rules}
-use Rattle.std.specs.Prelude.{All, Contains, is_none}
+use Rattle.std.proofs.Common.{◌≡◌, ℕ, true, false, Err, List, Option, ap, sym, subst, ◌∙◌, rules, All, Contains, is_none}
 use Rattle.nz_log.specs.declared.lits.Lit.{Lit}
 use Rattle.nz_search.specs.declared.stop.Stop.TheVariants as stop
 use Rattle.nz_log.specs.Logs.{literals_at}

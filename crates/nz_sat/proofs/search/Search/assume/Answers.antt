@@ -1,14 +1,14 @@
 -- Each arm by what is known of the literal's term.
-use Rattle.std.proofs.Common.{◌≡◌, ℕ, false, length, get_or, None, ap, sym, subst, ◌∙◌, rules}
-use Rattle.std.specs.Prelude.{All, Contains}
+use Rattle.std.proofs.Common.{◌≡◌, ℕ, List, false, length, get_or, None, ap, sym, subst, rules, Contains}
 use Rattle.std.proofs.lemmas.List.Elements.{Contains-get_or}
 use Rattle.std.proofs.lemmas.Option.{IfSome_then}
+use Rattle.nz_log.specs.declared.lits.Lit.{Lit}
 use Rattle.nz_log.specs.Lits.{are_same_lit}
 use Rattle.nz_log.specs.Logs.{literals_at}
-use Rattle.nz_sat.specs.Clauses.{HasReasonOf, IsImplied, IsUsable, Waits}
+use Rattle.nz_sat.specs.Clauses.{IsUsable, Visits, Waits, ids_of}
 use Rattle.nz_sat.specs.Searching.{ids}
-use Rattle.nz_sat.specs.Trails.{EachBehind, GoesOn, TrailState, assigned, with_entry}
-use Rattle.nz_sat.proofs.AssumedLiterals.{assume_fails, assume_goes, entry, put_search, put_waits}
+use Rattle.nz_sat.specs.Trails.{TrailState, assigned, with_entry}
+use Rattle.nz_sat.proofs.TrailGrowth.{assume_fails, assume_goes, entry, put_waits}
 use Rattle.nz_sat.proofs.Clausal.{other_lit}
 use Rattle.nz_sat.proofs.search.Search.assume.Goals as goal
 
@@ -33,21 +33,15 @@ returns-in-None-clause-comes c held assumed may =
     let t = c.propagate.new.trail in
     let put = c.assume.ensures.put in
     let free : assigned s.trail.entries l.atom ≡ None = sym c.in-None.ensures.assigned in
-    let size : t.size ≡ s.trail.size = p.size ∙ ap (λ (u : TrailState). u.size) put in
-    let goes : GoesOn (with_entry s.trail (entry log held assumed l s may c.requires.undecided)).entries t.entries =
-    subst (λ (u : TrailState). GoesOn u.entries t.entries) put p.goes_on in
-    let before = put_search log held assumed l s may c.requires.undecided free t size goes in
-    let I : TrailState → Type 0 = λ u. EachBehind (IsImplied log) u.entries in
-    let R : TrailState → Type 0 = λ u. All (HasReasonOf (ids held)) u.entries in
+    let among : List ℕ → Type 0 = λ us. (m : Lit) (i : ℕ) → Contains (ids_of s.index m) i → Contains us i in
+    let visits : Visits log among (with_entry s.trail (entry log held assumed l s may c.requires.undecided)) t = subst (λ (u : TrailState). Visits log among u t) put p.visits in
     let waits : (i : ℕ) → Contains (ids held) i → Waits c.assume.new.self.entries c.len-from.result (literals_at log i) =
     λ i has.
     let at : Waits c.assume.new.self.entries (length s.trail.entries) (literals_at log i) =
     subst (λ (u : TrailState). Waits u.entries (length s.trail.entries) (literals_at log i)) (sym put)
-    (put_waits log held assumed l s may c.requires.undecided free t size goes i has) in
+    (put_waits log held assumed l s may c.requires.undecided free t among visits i has) in
     subst (λ (n : ℕ). Waits c.assume.new.self.entries n (literals_at log i)) (sym c.len-from.ensures.count) at in
-    assume_goes log held assumed l s may c.requires.undecided free t size goes c.propagate.result (p.order c.assume.ensures.order)
-    (p.implied (subst I (sym put) before.on.implied))
-    (p.reasons (ids held) h.only (subst R (sym put) before.reasons))
+    assume_goes log held assumed l s may c.requires.undecided free t among visits c.propagate.result h.only
     (λ told k d inside.
     p.all_open told (get_or (ids held) k d) (h.listed k d inside) (waits (get_or (ids held) k d) (Contains-get_or (ids held) k d inside)))
     (IfSome_then c.propagate.result p.falsified (λ id q. (h.only q.0.0 id q.0.1, q.1)))

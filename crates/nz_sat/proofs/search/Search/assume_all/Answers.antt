@@ -1,6 +1,5 @@
 -- One assumed literal more.
-use Rattle.std.proofs.Common.{◌≡◌, ℕ, ◌<◌, true, false, List, length, get_or, None, ap, sym, subst, ◌∙◌, arith, rules, below_more, inl}
-use Rattle.std.specs.Prelude.{All, Contains, is_some}
+use Rattle.std.proofs.Common.{◌≡◌, ℕ, ◌<◌, true, false, List, length, get_or, None, ap, sym, subst, ◌∙◌, arith, rules, below_more, inl, All, Contains, is_some}
 use Rattle.std.proofs.lemmas.List.{get_or_default}
 use Rattle.std.proofs.lemmas.List.Elements.{All-contains, Contains-get_or}
 use Rattle.std.proofs.lemmas.Option.{IfSome_then}

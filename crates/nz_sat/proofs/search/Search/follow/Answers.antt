@@ -12,9 +12,12 @@ returns-clause-comes c held may =
     let t = c.propagate.new.trail in
     let h = may.search in
     record {
-      search = goes_search log held s t h p.size (p.order h.on.order) p.goes_on (p.implied h.on.implied) (p.reasons (ids held) h.only h.reasons);
-      were_open = goes_were_open log held s.trail.entries t.entries p.goes_on may.were_open;
-      goes_on = p.goes_on;
+      search = goes_search log held s t h p.visits h.only;
+      were_open = goes_were_open log held s.trail.entries t.entries p.visits.goes_on may.were_open;
+      goes_on = p.visits.goes_on;
       told_so = open_or_falsified log held s t.entries c.propagate.result h
           (λ none k d inside. p.all_open none (get_or (ids held) k d) (h.listed k d inside) (may.waits k d inside)) p.falsified;
     }
+
+pub returns-clause-goes_on : goal.returns-clause-goes_on
+returns-clause-goes_on c = c.propagate.ensures.visits.goes_on

@@ -5,7 +5,7 @@ use Rattle.nz_sat.specs.declared.consult.Bounds.{Bounds}
 use Rattle.nz_sat.specs.declared.search.Search.{Search}
 use Rattle.nz_sat.specs.Theories.{told_on}
 use Rattle.nz_sat.specs.Trails.{TrailState, below}
-use Rattle.nz_sat.proofs.CutTrails.{below_all, below_last, front_less}
+use Rattle.nz_sat.proofs.Levels.{below_all, below_last, front_less}
 use Rattle.nz_sat.proofs.AtomTrails.{count_more}
 use Rattle.nz_sat.proofs.search.Search.jump.Goals as goal
 

@@ -1,6 +1,5 @@
 -- One clause more is in the index.
-use Rattle.std.proofs.Common.{◌≡◌, ℕ, ◌<◌, List, length, false, get_or, inl, inr, ap, sym, subst, ◌∙◌, arith, below_more, rules}
-use Rattle.std.specs.Prelude.{All, Contains, replicate}
+use Rattle.std.proofs.Common.{◌≡◌, ℕ, ◌<◌, List, length, false, get_or, inl, inr, ap, sym, subst, ◌∙◌, arith, below_more, rules, All, Contains, replicate}
 use Rattle.std.proofs.lemmas.List.{get_or_default, length-replicate}
 use Rattle.std.proofs.lemmas.List.Elements.{All-contains, All-map, All-nil}
 use Rattle.nz_log.specs.declared.lits.Lit.{Lit}

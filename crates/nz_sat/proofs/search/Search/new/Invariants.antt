@@ -1,5 +1,4 @@
-use Rattle.std.proofs.Common.{ℕ, ◌<◌, get_or}
-use Rattle.std.specs.Prelude.{Contains}
+use Rattle.std.proofs.Common.{ℕ, ◌<◌, get_or, Contains}
 use Rattle.nz_log.specs.declared.lits.Lit.{Lit}
 use Rattle.nz_sat.specs.declared.clauses.Held.{Held}
 use Rattle.nz_sat.specs.Clauses.{IsListed, IsOfSize, ids_of}

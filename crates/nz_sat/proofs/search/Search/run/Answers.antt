@@ -1,6 +1,5 @@
 -- One decision more, with what is learned from its conflicts.
-use Rattle.std.proofs.Common.{◌≡◌, ℕ, Err, List, Ok, Option, None, length, ap, sym, subst, arith, rules}
-use Rattle.std.specs.Prelude.{All, IfSome}
+use Rattle.std.proofs.Common.{◌≡◌, ℕ, Err, List, Ok, Option, None, length, ap, sym, subst, arith, rules, All, IfSome}
 use Rattle.nz_log.specs.declared.lits.Lit.{Lit}
 use Rattle.nz_log.specs.Logs.{IsLive, literals_at}
 use Rattle.nz_sat.specs.declared.search.Search.{Search}

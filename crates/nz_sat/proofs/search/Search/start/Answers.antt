@@ -1,15 +1,15 @@
 -- Each clause is looked at, and then what they made true.
-use Rattle.std.proofs.Common.{◌≡◌, ℕ, true, length, get_or, None, ap, sym, subst, ◌∙◌, arith, rules}
-use Rattle.std.specs.Prelude.{All, is_some}
+use Rattle.std.proofs.Common.{◌≡◌, ℕ, List, true, length, get_or, None, ap, sym, subst, ◌∙◌, arith, rules, All, Contains, is_some}
 use Rattle.std.proofs.lemmas.List.Elements.{All-map}
 use Rattle.std.proofs.lemmas.Option.{IfSome_then}
+use Rattle.nz_log.specs.declared.lits.Lit.{Lit}
 use Rattle.nz_log.specs.Logs.{literals_at}
 use Rattle.nz_sat.specs.declared.clauses.Held.{Held}
-use Rattle.nz_sat.specs.Clauses.{AreUsable, Waits}
+use Rattle.nz_sat.specs.Clauses.{AreUsable, Waits, ids_of}
 use Rattle.nz_sat.specs.Searching.{ids}
 use Rattle.nz_sat.specs.Trails.{depth}
 use Rattle.nz_sat.proofs.TrailGrowth.{goes_reasons, goes_search, held_has, held_usable, none_told, search_usable}
-use Rattle.nz_sat.proofs.VisitedClauses.{goes_depth, goes_far, waits_less}
+use Rattle.nz_sat.proofs.VisitedClauses.{goes_depth, visits_more, waits_less}
 use Rattle.nz_sat.proofs.search.Search.start.Goals as goal
 
 pub visit_held-falsified-requires : goal.visit_held-falsified-requires
@@ -24,9 +24,9 @@ returns-then-is_some-clause-comes c =
     let h = c.requires.search in
     let some : is_some c.visit_held-falsified.result ≡ true = search rules in
     record {
-      search = goes_search c.args.log.now held s t h v.size (v.order h.on.order) v.goes_on (v.implied h.on.implied) (v.reasons (ids held) (held_has held) h.reasons);
-      by_reasons = goes_reasons s.trail.entries t.entries c.requires.none v.goes_on;
-      undecided = goes_depth s.trail.entries t.entries v.goes_on ∙ ap depth c.requires.none;
+      search = goes_search c.args.log.now held s t h v.visits (held_has held);
+      by_reasons = goes_reasons s.trail.entries t.entries c.requires.none v.visits.goes_on;
+      undecided = goes_depth s.trail.entries t.entries v.visits.goes_on ∙ ap depth c.requires.none;
       all_open = λ none. absurd (none_told c.visit_held-falsified.result some none);
       falsified = v.falsified;
     }
@@ -35,7 +35,7 @@ pub propagate-requires : goal.propagate-requires
 propagate-requires c =
     let s = c.args.self.now in
     record {
-      usable = subst (λ (n : ℕ). AreUsable c.args.log.now n s.index) (sym c.visit_held-falsified.ensures.size) (search_usable c.args.log.now c.args.held.now s c.requires.search);
+      usable = subst (λ (n : ℕ). AreUsable c.args.log.now n s.index) (sym c.visit_held-falsified.ensures.visits.size) (search_usable c.args.log.now c.args.held.now s c.requires.search);
       «from» = omega arith;
     }
 
@@ -50,16 +50,16 @@ returns-clause-comes c =
     let u = c.propagate.new.trail in
     let h = c.requires.search in
     let none : c.visit_held-falsified.result ≡ None = search rules in
-    let goes = goes_far s.trail.entries t.entries u.entries v.goes_on p.goes_on in
+    let among : List ℕ → Type 0 = λ us. All (λ (x : Held). Contains us x.id) held × ((l : Lit) (i : ℕ) → Contains (ids_of s.index l) i → Contains us i) in
+    let visits = visits_more among v.visits p.visits (λ us q. q.0) (λ us q. q.1) in
     let W : ℕ → Type 0 = λ i. Waits t.entries 0 (literals_at log i) in
     let waits : All W (ids held) =
     All-map W (λ (x : Held). x.id) held
     (λ k d inside. waits_less t.entries 0 (length s.trail.entries) (literals_at log (get_or held k d).id) (omega arith) (v.waits none k d inside)) in
     record {
-      search = goes_search log held s u h (p.size ∙ v.size) (p.order (v.order h.on.order)) goes (p.implied (v.implied h.on.implied))
-          (p.reasons (ids held) h.only (v.reasons (ids held) (held_has held) h.reasons));
-      by_reasons = goes_reasons s.trail.entries u.entries c.requires.none goes;
-      undecided = goes_depth s.trail.entries u.entries goes ∙ ap depth c.requires.none;
+      search = goes_search log held s u h visits (held_has held, h.only);
+      by_reasons = goes_reasons s.trail.entries u.entries c.requires.none visits.goes_on;
+      undecided = goes_depth s.trail.entries u.entries visits.goes_on ∙ ap depth c.requires.none;
       all_open = λ told k d inside. p.all_open told (get_or (ids held) k d) (h.listed k d inside) (waits k d inside);
       falsified = IfSome_then c.propagate.result p.falsified (λ id q. (h.only q.0.0 id q.0.1, q.1));
     }

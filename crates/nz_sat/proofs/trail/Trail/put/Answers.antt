@@ -1,6 +1,5 @@
 -- One more entry, in its place.
-use Rattle.std.proofs.Common.{◌≡◌, ℕ, ◌<◌, ◌++◌, ◌∷◌, [], ◌+◌, List, length, Some, None, get_or, ap, sym, subst, ◌∙◌, arith, rules}
-use Rattle.std.specs.Prelude.{slice_set, slice_index_or}
+use Rattle.std.proofs.Common.{◌≡◌, ℕ, ◌<◌, ◌++◌, ◌∷◌, [], ◌+◌, List, length, Some, None, get_or, ap, sym, subst, ◌∙◌, arith, rules, slice_set, slice_index_or}
 use Rattle.std.proofs.lemmas.List.{length-set, length_push}
 use Rattle.std.proofs.lemmas.List.Sums.{sum_by-set}
 use Rattle.nz_sat.specs.declared.trail.Assigned.{Assigned}

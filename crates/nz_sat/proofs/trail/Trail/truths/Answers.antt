@@ -1,6 +1,5 @@
 -- The table has the entry of each term.
-use Rattle.std.proofs.Common.{◌≡◌, List, Option, None, Bool, ap, subst, ◌∙◌, map, option_map}
-use Rattle.std.specs.Prelude.{slice_index_or}
+use Rattle.std.proofs.Common.{◌≡◌, List, Option, None, Bool, ap, subst, ◌∙◌, map, option_map, slice_index_or}
 use Rattle.nz_lists.proofs.Places.{slice_index_or-map}
 use Rattle.nz_sat.specs.declared.trail.Assigned.{Assigned}
 use Rattle.nz_sat.specs.Trails.{AreTruthsOn, TrailState}

@@ -1,17 +1,18 @@
 -- A bound that is tighter stands, and a nonbasic form outside of it has moved to it; else nothing changes.
-use Rattle.std.proofs.Common.{◌≡◌, ℕ, List, length, Option, sym, ap, ◌∙◌, subst, arith, Ok}
-use Rattle.std.specs.Prelude.{◌↔◌, vec_capacity}
-use Rattle.nz_spec.specs.numbers.Infinitesimal.{infinitesimal_cmp}
-use Rattle.nz_trail.specs.Bounds.{ClashesWith, IsExcluded, IsImplied, TrailState, asserted}
-use Rattle.nz_trail.specs.declared.limits.AssertOutcome.{AssertOutcome}
-use Rattle.nz_trail.specs.declared.limits.AssertOutcome.TheVariants.{Kept, Tighter, Clash}
+use Rattle.std.proofs.Common.{◌≡◌, ℕ, List, length, Option, sym, ap, ◌∙◌, subst, arith, Ok, refl}
+use Rattle.std.specs.Prelude.{vec_capacity}
+use Rattle.nz_trail.specs.Bounds.{TrailState, asserted}
+use Rattle.nz_trail.specs.declared.limits.AssertOutcome.TheVariants.{Tighter}
 use Rattle.nz_simplex.specs.Moves.{IsBounded}
 use Rattle.nz_simplex.specs.State.{State}
 use Rattle.nz_simplex.specs.Stored.{IsStored, state_of}
 use Rattle.nz_simplex.proofs.Bounded.{asserted_shown}
-use Rattle.nz_simplex.proofs.ScalarBounds.{clash_shown, kept_shown, same_ok, tighter_shown}
+use Rattle.nz_simplex.proofs.ScalarBounds.{Tells, outcome_shown, same_ok}
 use Rattle.nz_simplex.proofs.Exchanges.{written_back}
+use Rattle.nz_simplex.proofs.simplex.Simplex.assert_bound.Given.{Over}
+use Rattle.nz_simplex.proofs.StoredStates.{stored_again}
 use Rattle.nz_simplex.proofs.simplex.Simplex.assert_bound.Goals as goal
+use Rattle.nz_simplex.proofs.simplex.Simplex.assert_bound.Goals.{In-Tighter, In_ok-outcome}
 
 pub invariant_of-self-in-Tighter : goal.invariant_of-self-in-Tighter
 invariant_of-self-in-Tighter g c =
@@ -24,20 +25,16 @@ invariant_of-self-in-Tighter g c =
     (λ (vs : List (Option g.row.S.Denot)). IsStored (state_of g.S.Coordinate.stands_for x.tab c.assert_bound.new.self vs x.why.items) c.assert_bound.new.self.vars x.basic.items x.nonbasic.items
     (vec_capacity x.basic) (vec_capacity x.nonbasic) (vec_capacity x.why))
     (sym (written_back x.values.len x.values.items new x.values.ok.0 long))
-    (record {
-      sound =
-          (asserted_shown g.S.Coordinate.stands_for g.S.Scalar.order g.met.S.Scalar.laws.ordered g.met.S.Coordinate.faithful.compares x.tab x.trail c.assert_bound.new.self x.values.items c.as_mut_slice.result.now new x.why.items
-          c.args.self.now c.args.var c.args.side c.args.value c.args.reason c.self.view_is c.self.invariant.sound c.requires.known (c.in_ok-outcome.ensures.tighter.0 c.in-Tighter.is)
-          (c.assert_bound.ensures.grown (c.in_ok-outcome.was ∙ ap Ok c.in-Tighter.is))
-          c.moves_keep_ready.ensures.ready c.sum_moves.ensures.moves c.positions_have_values.ensures.values c.infinitesimals_move.ensures.moves c.nonbasic_form_is_itself.ensures.itself c.known_tableau.ensures.tableau
-          c.as_mut_slice.ensures.value c.move_within.auto.values c.move_within.ensures.still c.move_within.ensures.moved c.move_within.ensures.stays c.move_within.ensures.follows).sound;
-      basic_listed = stored.basic_listed;
-      nonbasic_listed = stored.nonbasic_listed;
-      numbered = omega (arith, vars, stored.numbered);
-      room_for_basic = stored.room_for_basic;
-      room_for_nonbasic = stored.room_for_nonbasic;
-      room_for_why = stored.room_for_why;
-    })
+    (subst
+    (λ (n : ℕ). IsStored (state_of g.S.Coordinate.stands_for x.tab c.assert_bound.new.self new x.why.items) n x.basic.items x.nonbasic.items (vec_capacity x.basic) (vec_capacity x.nonbasic) (vec_capacity x.why))
+    (sym vars)
+    (stored_again stored
+    (asserted_shown g.S.Coordinate.stands_for g.S.Scalar.order g.met.S.Scalar.laws.ordered g.met.S.Coordinate.faithful.compares x.tab x.trail c.assert_bound.new.self x.values.items c.as_mut_slice.result.now new x.why.items
+    c.args.self.now c.args.var c.args.side c.args.value c.args.reason c.self.view_is c.self.invariant.sound c.requires.known (c.in_ok-outcome.ensures.tighter.0 c.in-Tighter.is)
+    (c.assert_bound.ensures.grown (c.in_ok-outcome.was ∙ ap Ok c.in-Tighter.is))
+    c.moves_keep_ready.ensures.ready c.sum_moves.ensures.moves c.positions_have_values.ensures.values c.infinitesimals_move.ensures.moves c.nonbasic_form_is_itself.ensures.itself c.known_tableau.ensures.tableau
+    c.as_mut_slice.ensures.value c.move_within.auto.values c.move_within.ensures.still c.move_within.ensures.moved c.move_within.ensures.stays c.move_within.ensures.follows).sound
+    refl stored.basic_listed stored.nonbasic_listed refl refl refl))
 
 pub returns-in-Tighter-clause-bounded : goal.returns-in-Tighter-clause-bounded
 returns-in-Tighter-clause-bounded g c =
@@ -53,39 +50,26 @@ returns-in-Tighter-clause-bounded g c =
     c.args.self.now c.args.var c.args.side c.args.value c.args.reason c.self.view_is c.self.invariant.sound c.requires.known (c.in_ok-outcome.ensures.tighter.0 c.in-Tighter.is)
     (c.assert_bound.ensures.grown (c.in_ok-outcome.was ∙ ap Ok c.in-Tighter.is))
     c.moves_keep_ready.ensures.ready c.sum_moves.ensures.moves c.positions_have_values.ensures.values c.infinitesimals_move.ensures.moves c.nonbasic_form_is_itself.ensures.itself c.known_tableau.ensures.tableau
-    c.as_mut_slice.ensures.value c.move_within.auto.values c.move_within.ensures.still c.move_within.ensures.moved c.move_within.ensures.stays c.move_within.ensures.follows).bounded
+    c.as_mut_slice.ensures.value c.move_within.auto.values c.move_within.ensures.still c.move_within.ensures.moved c.move_within.ensures.stays c.move_within.ensures.follows).shown
+
+-- what the outcome tells of the bounds that are shown
+outcome_told : (g : Over) (c : In_ok-outcome g) → Tells c.args.self.now.asserted (asserted c.args.var c.args.side (g.S.Coordinate.stands_for c.args.value) c.args.reason) c.in_ok-outcome.outcome
+outcome_told g c =
+    subst (λ (s : State). Tells s.asserted (asserted c.args.var c.args.side (g.S.Coordinate.stands_for c.args.value) c.args.reason) c.in_ok-outcome.outcome) c.self.view_is
+    (outcome_shown g.S.Coordinate.stands_for g.S.Scalar.order g.met.S.Coordinate.faithful.compares c.self.inside.trail.asserted (asserted c.args.var c.args.side c.args.value c.args.reason) c.in_ok-outcome.outcome
+    c.in_ok-outcome.ensures.kept c.in_ok-outcome.ensures.clash c.in_ok-outcome.ensures.tighter)
+
+tighter_told : (g : Over) (c : In-Tighter g) → Tells c.args.self.now.asserted (asserted c.args.var c.args.side (g.S.Coordinate.stands_for c.args.value) c.args.reason) Tighter
+tighter_told g c = subst (Tells c.args.self.now.asserted (asserted c.args.var c.args.side (g.S.Coordinate.stands_for c.args.value) c.args.reason)) c.in-Tighter.is (outcome_told g (goal.at.In-Tighter g c).In_ok-outcome)
 
 pub returns-in-Tighter-clause-kept : goal.returns-in-Tighter-clause-kept
-returns-in-Tighter-clause-kept g c =
-    subst (λ (o : AssertOutcome). (o ≡ Kept) ↔ IsImplied infinitesimal_cmp c.args.self.now.asserted (asserted c.args.var c.args.side (g.S.Coordinate.stands_for c.args.value) c.args.reason)) c.in-Tighter.is
-    (subst (λ (s : State). (c.in_ok-outcome.outcome ≡ Kept) ↔ IsImplied infinitesimal_cmp s.asserted (asserted c.args.var c.args.side (g.S.Coordinate.stands_for c.args.value) c.args.reason)) c.self.view_is
-    (kept_shown g.S.Coordinate.stands_for g.S.Scalar.order g.met.S.Coordinate.faithful.compares c.self.inside.trail.asserted (asserted c.args.var c.args.side c.args.value c.args.reason) c.in_ok-outcome.outcome c.in_ok-outcome.ensures.kept))
+returns-in-Tighter-clause-kept g c = (tighter_told g (goal.at.returns-in-Tighter-clause-kept g c).In-Tighter).kept
 
 pub returns-in-Tighter-clause-clash : goal.returns-in-Tighter-clause-clash
-returns-in-Tighter-clause-clash g c =
-    subst
-    (λ (o : AssertOutcome). (r : ℕ) → (s : ℕ) → (o ≡ Clash r s)
-    ↔ ((r ≡ c.args.reason) × ClashesWith infinitesimal_cmp c.args.self.now.asserted (asserted c.args.var c.args.side (g.S.Coordinate.stands_for c.args.value) c.args.reason) s))
-    c.in-Tighter.is
-    (subst
-    (λ (s : State). (r : ℕ) → (t : ℕ) → (c.in_ok-outcome.outcome ≡ Clash r t)
-    ↔ ((r ≡ c.args.reason) × ClashesWith infinitesimal_cmp s.asserted (asserted c.args.var c.args.side (g.S.Coordinate.stands_for c.args.value) c.args.reason) t))
-    c.self.view_is
-    (clash_shown g.S.Coordinate.stands_for g.S.Scalar.order g.met.S.Coordinate.faithful.compares c.self.inside.trail.asserted (asserted c.args.var c.args.side c.args.value c.args.reason) c.in_ok-outcome.outcome c.in_ok-outcome.ensures.clash))
+returns-in-Tighter-clause-clash g c = (tighter_told g (goal.at.returns-in-Tighter-clause-clash g c).In-Tighter).clash
 
 pub returns-in-Tighter-clause-tighter : goal.returns-in-Tighter-clause-tighter
-returns-in-Tighter-clause-tighter g c =
-    subst
-    (λ (o : AssertOutcome). (o ≡ Tighter)
-    ↔ ((¬ IsImplied infinitesimal_cmp c.args.self.now.asserted (asserted c.args.var c.args.side (g.S.Coordinate.stands_for c.args.value) c.args.reason))
-    × (¬ IsExcluded infinitesimal_cmp c.args.self.now.asserted (asserted c.args.var c.args.side (g.S.Coordinate.stands_for c.args.value) c.args.reason))))
-    c.in-Tighter.is
-    (subst
-    (λ (s : State). (c.in_ok-outcome.outcome ≡ Tighter)
-    ↔ ((¬ IsImplied infinitesimal_cmp s.asserted (asserted c.args.var c.args.side (g.S.Coordinate.stands_for c.args.value) c.args.reason))
-    × (¬ IsExcluded infinitesimal_cmp s.asserted (asserted c.args.var c.args.side (g.S.Coordinate.stands_for c.args.value) c.args.reason))))
-    c.self.view_is
-    (tighter_shown g.S.Coordinate.stands_for g.S.Scalar.order g.met.S.Coordinate.faithful.compares c.self.inside.trail.asserted (asserted c.args.var c.args.side c.args.value c.args.reason) c.in_ok-outcome.outcome c.in_ok-outcome.ensures.tighter))
+returns-in-Tighter-clause-tighter g c = (tighter_told g (goal.at.returns-in-Tighter-clause-tighter g c).In-Tighter).tighter
 
 pub invariant_of-self-in_default : goal.invariant_of-self-in_default
 invariant_of-self-in_default g c =
@@ -100,20 +84,11 @@ pub returns-in_default : goal.returns-in_default
 returns-in_default g c =
     let x = c.self.inside in
     let same : c.assert_bound.new.self ≡ x.trail = c.assert_bound.ensures.unchanged (λ e. c.in_default.not-Tighter (same_ok (sym c.in_ok-outcome.was ∙ e))) in
+    let told = outcome_told g (goal.at.returns-in_default g c).In_ok-outcome in
     record {
-      kept = subst (λ (s : State). (c.in_ok-outcome.outcome ≡ Kept) ↔ IsImplied infinitesimal_cmp s.asserted (asserted c.args.var c.args.side (g.S.Coordinate.stands_for c.args.value) c.args.reason)) c.self.view_is
-          (kept_shown g.S.Coordinate.stands_for g.S.Scalar.order g.met.S.Coordinate.faithful.compares c.self.inside.trail.asserted (asserted c.args.var c.args.side c.args.value c.args.reason) c.in_ok-outcome.outcome c.in_ok-outcome.ensures.kept);
-      clash = subst
-          (λ (s : State). (r : ℕ) → (t : ℕ) → (c.in_ok-outcome.outcome ≡ Clash r t)
-          ↔ ((r ≡ c.args.reason) × ClashesWith infinitesimal_cmp s.asserted (asserted c.args.var c.args.side (g.S.Coordinate.stands_for c.args.value) c.args.reason) t))
-          c.self.view_is
-          (clash_shown g.S.Coordinate.stands_for g.S.Scalar.order g.met.S.Coordinate.faithful.compares c.self.inside.trail.asserted (asserted c.args.var c.args.side c.args.value c.args.reason) c.in_ok-outcome.outcome c.in_ok-outcome.ensures.clash);
-      tighter = subst
-          (λ (s : State). (c.in_ok-outcome.outcome ≡ Tighter)
-          ↔ ((¬ IsImplied infinitesimal_cmp s.asserted (asserted c.args.var c.args.side (g.S.Coordinate.stands_for c.args.value) c.args.reason))
-          × (¬ IsExcluded infinitesimal_cmp s.asserted (asserted c.args.var c.args.side (g.S.Coordinate.stands_for c.args.value) c.args.reason))))
-          c.self.view_is
-          (tighter_shown g.S.Coordinate.stands_for g.S.Scalar.order g.met.S.Coordinate.faithful.compares c.self.inside.trail.asserted (asserted c.args.var c.args.side c.args.value c.args.reason) c.in_ok-outcome.outcome c.in_ok-outcome.ensures.tighter);
+      kept = told.kept;
+      clash = told.clash;
+      tighter = told.tighter;
       bounded = λ e. absurd (c.in_default.not-Tighter (same_ok e));
       unchanged = λ n. ap (λ (t : TrailState g.row.S.Denot). state_of g.S.Coordinate.stands_for x.tab t x.values.items x.why.items) same ∙ c.self.view_is;
     }

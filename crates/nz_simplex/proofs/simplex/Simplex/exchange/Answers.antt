@@ -1,5 +1,5 @@
 -- The form that leaves is nonbasic and stands at 0, and no value is known of the one that enters; or the row has no coefficient; or it stops.
-use Rattle.std.proofs.Common.{rules, ◌≡◌, List, length, Err, Some, true, Bool, sym, ap, ◌∙◌, subst, arith}
+use Rattle.std.proofs.Common.{rules, ◌≡◌, List, length, Err, Some, true, Bool, sym, ap, ◌∙◌, subst, refl}
 use Rattle.std.specs.Prelude.{IfErr, Result}
 use Rattle.nz_fractions.specs.Fraction.{first_wide}
 use Rattle.nz_spec.specs.simplex.BasisMoves.{AreRows, Rows, exchange}
@@ -12,6 +12,7 @@ use Rattle.nz_tab.specs.Rows.{DenseRow, coefficient}
 use Rattle.nz_simplex.specs.State.{IsOver, position_over}
 use Rattle.nz_simplex.specs.Tabled.{rows_in}
 use Rattle.nz_simplex.proofs.StartBases.{exchange_stops, exchanged_shown, no_coefficient}
+use Rattle.nz_simplex.proofs.StoredStates.{stored_again}
 use Rattle.nz_simplex.proofs.simplex.Simplex.exchange.Goals as goal
 
 pub returns-then-is_zero-clause-none : goal.returns-then-is_zero-clause-none
@@ -43,18 +44,11 @@ invariant_of-self-2 g c =
     let x = c.self.inside in
     let stored = c.self.invariant in
     let pivoted = c.in_ok-pivot.ensures.pivoted in
-    record {
-      sound =
-          (exchanged_shown g.S.Coordinate.stands_for x.tab x.trail x.values.items x.why.items c.args.self.now c.self.view_is stored.sound c.args.leaves c.args.enters c.requires.listed c.requires.basic
-          c.requires.nonbasic c.pivot.new.self c.zero.result pivoted (ap g.S.Coordinate.stands_for c.zero.ensures ∙ g.met.S.Coordinate.faithful.zero)
-          c.requires.unbounded c.requires.unknown c.nonbasic_form_is_itself.ensures.itself c.known_tableau-2.ensures.tableau).sound;
-      basic_listed = c.list_basic.ensures.listed;
-      nonbasic_listed = c.list_nonbasic.ensures.listed;
-      numbered = omega (arith, ap length pivoted.forms, stored.numbered);
-      room_for_basic = omega (arith, ap length pivoted.forms, stored.room_for_basic, c.list_basic.ensures.capacity);
-      room_for_nonbasic = omega (arith, ap length pivoted.forms, stored.room_for_nonbasic, c.list_nonbasic.ensures.capacity);
-      room_for_why = omega (arith, ap length pivoted.forms, stored.room_for_why);
-    }
+    stored_again stored
+    (exchanged_shown g.S.Coordinate.stands_for x.tab x.trail x.values.items x.why.items c.args.self.now c.self.view_is stored.sound c.args.leaves c.args.enters c.requires.listed c.requires.basic
+    c.requires.nonbasic c.pivot.new.self c.zero.result pivoted (ap g.S.Coordinate.stands_for c.zero.ensures ∙ g.met.S.Coordinate.faithful.zero)
+    c.requires.unbounded c.requires.unknown c.nonbasic_form_is_itself.ensures.itself c.known_tableau-2.ensures.tableau).sound
+    (ap length pivoted.forms) c.list_forms.ensures.basic c.list_forms.ensures.nonbasic c.list_forms.ensures.basic_capacity c.list_forms.ensures.nonbasic_capacity refl
 
 pub returns-clause-exchanged : goal.returns-clause-exchanged
 returns-clause-exchanged g c =
@@ -62,4 +56,4 @@ returns-clause-exchanged g c =
     λ e.
     (exchanged_shown g.S.Coordinate.stands_for x.tab x.trail x.values.items x.why.items c.args.self.now c.self.view_is c.self.invariant.sound c.args.leaves c.args.enters c.requires.listed c.requires.basic
     c.requires.nonbasic c.pivot.new.self c.zero.result c.in_ok-pivot.ensures.pivoted (ap g.S.Coordinate.stands_for c.zero.ensures ∙ g.met.S.Coordinate.faithful.zero)
-    c.requires.unbounded c.requires.unknown c.nonbasic_form_is_itself.ensures.itself c.known_tableau-2.ensures.tableau).exchanged
+    c.requires.unbounded c.requires.unknown c.nonbasic_form_is_itself.ensures.itself c.known_tableau-2.ensures.tableau).shown

@@ -1,5 +1,5 @@
 -- The bounds that hold the nonbasic forms back, with their multipliers, refute the broken one.
-use Rattle.std.proofs.Common.{◌≡◌, ℕ, ◌<◌, false, List, ◌∷◌, flat_map, length, sym, ap, ◌∙◌, subst, arith}
+use Rattle.std.proofs.Common.{◌≡◌, ℕ, ◌<◌, false, List, ◌∷◌, flat_map, length, sym, ap, ◌∙◌, subst, arith, refl}
 use Rattle.std.specs.Prelude.{All, pos}
 use Rattle.nz_fractions.specs.Fraction.{whole}
 use Rattle.nz_spec.specs.simplex.Bland as bland
@@ -10,6 +10,7 @@ use Rattle.nz_simplex.specs.Stored.{held_back, state_of}
 use Rattle.nz_simplex.specs.Tabled.{rows_in}
 use Rattle.nz_simplex.proofs.Pointed.{all_below, count_below}
 use Rattle.nz_simplex.proofs.BoundRefutations.{explained, sound_why}
+use Rattle.nz_simplex.proofs.StoredStates.{stored_again}
 use Rattle.nz_simplex.proofs.simplex.Simplex.explain.Goals as goal
 
 pub put_multipliers-requires-clause-listed : goal.put_multipliers-requires-clause-listed
@@ -33,15 +34,9 @@ pub invariant_of-self : goal.invariant_of-self
 invariant_of-self g c =
     let x = c.self.inside in
     let stored = c.self.invariant in
-    record {
-      sound = sound_why (state_of g.S.Coordinate.stands_for x.tab x.trail x.values.items x.why.items) c.put_multipliers.new.why.items stored.sound;
-      basic_listed = stored.basic_listed;
-      nonbasic_listed = stored.nonbasic_listed;
-      numbered = stored.numbered;
-      room_for_basic = stored.room_for_basic;
-      room_for_nonbasic = stored.room_for_nonbasic;
-      room_for_why = omega (arith, stored.room_for_why, c.put_multipliers.ensures.capacity);
-    }
+    stored_again stored
+    (sound_why (state_of g.S.Coordinate.stands_for x.tab x.trail x.values.items x.why.items) c.put_multipliers.new.why.items stored.sound)
+    refl stored.basic_listed stored.nonbasic_listed refl refl c.put_multipliers.ensures.capacity
 
 pub returns-clause-refuted : goal.returns-clause-refuted
 returns-clause-refuted g c =

@@ -1,9 +1,19 @@
 -- No form.
-use Rattle.std.proofs.Common.{rules, ◌≡◌, sym, ap, subst, arith, length}
+use Rattle.std.proofs.Common.{rules, ◌≡◌, sym, ap, subst, arith, length, refl}
+use Rattle.nz_spec.specs.simplex.PositionMoves.{MovesKeepReady}
 use Rattle.nz_simplex.specs.State.{State, IsSound, empty_state}
 use Rattle.nz_simplex.specs.Stored.{state_of}
-use Rattle.nz_simplex.proofs.Empty.{sound_empty}
 use Rattle.nz_simplex.proofs.simplex.Simplex.new.Goals as goal
+
+-- everything holds of it
+sound_empty : MovesKeepReady → IsSound empty_state
+sound_empty moves = record {
+  marked = refl;
+  valued = refl;
+  known = λ k e. absurd (cc);
+  ready = λ ns over. moves.empty;
+  right = λ ns k x over e. absurd (cc);
+}
 
 pub invariant_of-result : goal.invariant_of-result
 invariant_of-result g c =

@@ -1,15 +1,10 @@
 -- A value that isn't known is that of a basic form, and is known from now on.
-use Rattle.std.proofs.Common.{true≢false, sym, ◌∙◌}
+use Rattle.std.proofs.Common.{true≢false, sym, ◌∙◌, refl}
 use Rattle.std.specs.Prelude.{IsSome}
 use Rattle.nz_simplex.specs.State.{value_in}
-use Rattle.nz_simplex.proofs.RenewedValues.{basic_form, renewed_at, renewed_itself}
+use Rattle.nz_simplex.proofs.RenewedValues.{basic_form, renewed_at}
+use Rattle.nz_simplex.proofs.StoredStates.{stored_again}
 use Rattle.nz_simplex.proofs.simplex.Simplex.renew_one.Goals as goal
-
-pub returns-then-has_value-clause-renewed : goal.returns-then-has_value-clause-renewed
-returns-then-has_value-clause-renewed g c = renewed_itself c.args.self.now
-
-pub returns-in_err-value-clause-renewed : goal.returns-in_err-value-clause-renewed
-returns-in_err-value-clause-renewed g c = renewed_itself c.args.self.now
 
 pub computed-requires : goal.computed-requires
 computed-requires g c = record {
@@ -26,15 +21,7 @@ invariant_of-self g c =
     let after =
     renewed_at g.S.Coordinate.stands_for x.tab x.trail x.values.items x.why.items c.args.var c.in_ok-value.value c.args.self.now c.self.view_is stored.sound c.requires.known
     (λ some. true≢false (sym (c.has_value.ensures.known.1 some) ∙ c.if-has_value.false)) c.in_ok-value.ensures.value in
-    record {
-      sound = after.sound;
-      basic_listed = stored.basic_listed;
-      nonbasic_listed = stored.nonbasic_listed;
-      numbered = stored.numbered;
-      room_for_basic = stored.room_for_basic;
-      room_for_nonbasic = stored.room_for_nonbasic;
-      room_for_why = stored.room_for_why;
-    }
+    stored_again stored after.sound refl stored.basic_listed stored.nonbasic_listed refl refl refl
 
 pub returns-clause-renewed : goal.returns-clause-renewed
 returns-clause-renewed g c =

@@ -1,5 +1,5 @@
 -- A nonbasic form without bounds stands at 0, and the basic forms follow.
-use Rattle.std.proofs.Common.{◌≡◌, ℕ, ◌<◌, List, ◌∷◌, [], length, Option, None, sym, ap, ◌∙◌, subst, arith}
+use Rattle.std.proofs.Common.{◌≡◌, ℕ, ◌<◌, List, ◌∷◌, [], length, Option, None, sym, ap, ◌∙◌, subst, arith, refl}
 use Rattle.std.specs.Prelude.{IsSome, slice_index_or, vec_capacity}
 use Rattle.nz_simplex.specs.Moves.{IsSettled}
 use Rattle.nz_simplex.specs.State.{State, nonbasic_in}
@@ -7,6 +7,7 @@ use Rattle.nz_simplex.specs.Stored.{IsStored, state_of}
 use Rattle.nz_simplex.proofs.Exchanges.{written_back}
 use Rattle.nz_simplex.proofs.Pointed.{some_at}
 use Rattle.nz_simplex.proofs.SettledForms.{marked_inside, settled_shown}
+use Rattle.nz_simplex.proofs.StoredStates.{stored_again}
 use Rattle.nz_simplex.proofs.simplex.Simplex.settle_one.Goals as goal
 
 pub move_to-requires-clause-known : goal.move_to-requires-clause-known
@@ -31,19 +32,12 @@ invariant_of-self g c =
     let long : length new ≡ length x.values.items = omega (arith, c.move_to.auto.values, c.as_mut_slice.ensures.len, x.values.ok.0) in
     subst (λ (vs : List (Option g.row.S.Denot)). IsStored (state_of g.S.Coordinate.stands_for x.tab x.trail vs x.why.items) x.trail.vars x.basic.items x.nonbasic.items (vec_capacity x.basic) (vec_capacity x.nonbasic) (vec_capacity x.why))
     (sym (written_back x.values.len x.values.items new x.values.ok.0 long))
-    (record {
-      sound =
-          (settled_shown g.S.Coordinate.stands_for x.tab x.trail x.values.items c.as_mut_slice.result.now new x.why.items c.args.self.now c.args.var c.zero.result c.self.view_is stored.sound
-          c.requires.nonbasic c.requires.lower c.requires.upper (ap g.S.Coordinate.stands_for c.zero.ensures ∙ g.met.S.Coordinate.faithful.zero)
-          c.sum_moves.ensures.moves c.positions_have_values.ensures.values c.infinitesimals_move.ensures.moves c.nonbasic_form_is_itself.ensures.itself c.known_tableau.ensures.tableau
-          c.as_mut_slice.ensures.value c.move_to.auto.values c.move_to.ensures.moved c.move_to.ensures.stays c.move_to.ensures.follows).sound;
-      basic_listed = stored.basic_listed;
-      nonbasic_listed = stored.nonbasic_listed;
-      numbered = stored.numbered;
-      room_for_basic = stored.room_for_basic;
-      room_for_nonbasic = stored.room_for_nonbasic;
-      room_for_why = stored.room_for_why;
-    })
+    (stored_again stored
+    (settled_shown g.S.Coordinate.stands_for x.tab x.trail x.values.items c.as_mut_slice.result.now new x.why.items c.args.self.now c.args.var c.zero.result c.self.view_is stored.sound
+    c.requires.nonbasic c.requires.lower c.requires.upper (ap g.S.Coordinate.stands_for c.zero.ensures ∙ g.met.S.Coordinate.faithful.zero)
+    c.sum_moves.ensures.moves c.positions_have_values.ensures.values c.infinitesimals_move.ensures.moves c.nonbasic_form_is_itself.ensures.itself c.known_tableau.ensures.tableau
+    c.as_mut_slice.ensures.value c.move_to.auto.values c.move_to.ensures.moved c.move_to.ensures.stays c.move_to.ensures.follows).sound
+    refl stored.basic_listed stored.nonbasic_listed refl refl refl)
 
 pub returns : goal.returns
 returns g c =
@@ -57,5 +51,5 @@ returns g c =
           (settled_shown g.S.Coordinate.stands_for x.tab x.trail x.values.items c.as_mut_slice.result.now new x.why.items c.args.self.now c.args.var c.zero.result c.self.view_is c.self.invariant.sound
           c.requires.nonbasic c.requires.lower c.requires.upper (ap g.S.Coordinate.stands_for c.zero.ensures ∙ g.met.S.Coordinate.faithful.zero)
           c.sum_moves.ensures.moves c.positions_have_values.ensures.values c.infinitesimals_move.ensures.moves c.nonbasic_form_is_itself.ensures.itself c.known_tableau.ensures.tableau
-          c.as_mut_slice.ensures.value c.move_to.auto.values c.move_to.ensures.moved c.move_to.ensures.stays c.move_to.ensures.follows).settled;
+          c.as_mut_slice.ensures.value c.move_to.auto.values c.move_to.ensures.moved c.move_to.ensures.stays c.move_to.ensures.follows).shown;
     }

@@ -1,18 +1,23 @@
 -- The least forms are exchanged, and the values follow; or no form can help; or it stops.
-use Rattle.std.proofs.Common.{rules, ◌≡◌, ℕ, ◌<◌, refl, true, false, List, length, Option, None, sym, ap, ◌∙◌, subst, arith}
+use Rattle.std.proofs.Common.{rules, ◌≡◌, ℕ, ◌<◌, refl, true, false, List, length, Option, None, sym, ap, ◌∙◌, subst, arith, Bool}
 use Rattle.std.specs.Prelude.{◌==◌, if◌then◌else◌, All, IsSome, Err, slice_index_or, vec_capacity}
+use Rattle.nz_lists.proofs.Numbers.{equal-number}
 use Rattle.nz_spec.specs.simplex.Bland.{IsCheckStep}
 use Rattle.nz_spec.specs.simplex.Pivots.{pivot}
 use Rattle.nz_spec.specs.terms.Table.{Node}
 use Rattle.nz_tab.specs.Rows.{is_nonbasic}
+use Rattle.nz_trail.specs.Bounds.{other_side}
 use Rattle.nz_simplex.specs.declared.answer.SimplexStop.{SimplexStop}
 use Rattle.nz_simplex.specs.Checks.{Answers}
 use Rattle.nz_simplex.specs.State.{State, IsOver, nonbasic_in, position_over, value_in}
-use Rattle.nz_simplex.specs.Stored.{IsStored, state_of}
+use Rattle.nz_simplex.specs.Stored.{IsStored, state_of, first_passing, is_helping, nonbasic_numbers}
 use Rattle.nz_simplex.proofs.Exchanges.{enters_nonbasic, enters_nonzero, exchange_place, exchanged_sound, exchanged_step, helpless, may_step, written_back}
 use Rattle.nz_simplex.proofs.Pointed.{all_below, all_known, all_listed, some_at}
-use Rattle.nz_simplex.proofs.ValuesAfter.{equal_number}
+use Rattle.nz_simplex.proofs.simplex.Simplex.step.Given.{Over}
+use Rattle.nz_simplex.proofs.StoredStates.{stored_again}
+use Rattle.nz_simplex.specs.Tabled.{rows_in}
 use Rattle.nz_simplex.proofs.simplex.Simplex.step.Goals as goal
+use Rattle.nz_simplex.proofs.simplex.Simplex.step.Goals.{After-first_helper}
 
 pub first_helper-requires-clause-listed : goal.first_helper-requires-clause-listed
 first_helper-requires-clause-listed g c =
@@ -35,6 +40,20 @@ first_helper-requires-clause-valued g c =
     (subst (λ (ks : List ℕ). All (λ k. IsSome (slice_index_or x.values.items k None)) ks) (sym (c.as_slice.ensures.value ∙ c.self.invariant.nonbasic_listed))
     (all_known g.S.Coordinate.stands_for x.tab x.trail x.values.items x.why.items c.self.invariant.sound))
 
+-- what was found among the nonbasic forms
+told : (g : Over) (c : After-first_helper g)
+    → first_passing (λ k. is_helping g.S.Coordinate.stands_for c.self.inside.trail.asserted c.self.inside.values.items (other_side c.args.broken.now.side) k (rows_in c.self.inside.tab c.args.broken.now.var k))
+    (nonbasic_numbers (state_of g.S.Coordinate.stands_for c.self.inside.tab c.self.inside.trail c.self.inside.values.items c.self.inside.why.items))
+    ≡ c.first_helper.result
+told g c =
+    let x = c.self.inside in
+    let b = c.args.broken.now in
+    let helps : List (Option g.row.S.Denot) → ℕ → Bool = λ vs k. is_helping g.S.Coordinate.stands_for x.trail.asserted vs (other_side b.side) k (rows_in x.tab b.var k) in
+    sym
+    (c.first_helper.ensures.first
+    ∙ ap (λ (vs : List (Option g.row.S.Denot)). first_passing (helps vs) c.as_slice.result.now) c.as_slice-2.ensures.value
+    ∙ ap (first_passing (helps x.values.items)) (c.as_slice.ensures.value ∙ c.self.invariant.nonbasic_listed))
+
 pub returns-in_default-clause-helpless : goal.returns-in_default-clause-helpless
 returns-in_default-clause-helpless g c =
     let x = c.self.inside in
@@ -42,13 +61,7 @@ returns-in_default-clause-helpless g c =
     let none : c.first_helper.result ≡ None = search rules in
     λ e.
     helpless g.S.Coordinate.stands_for x.tab x.trail x.values.items x.why.items c.args.self.now c.self.view_is c.self.invariant.sound b.var c.requires.known c.requires.basic b.side c.rows_tell.ensures.tell c.known_tableau.ensures.tableau
-    (record {
-      slice = c.as_slice-2.result.now;
-      listing = c.as_slice.result.now;
-      is_values = c.as_slice-2.ensures.value;
-      is_nonbasic = c.as_slice.ensures.value ∙ c.self.invariant.nonbasic_listed;
-      found = c.in_default.ensures.first;
-    })
+    (told g (goal.at.returns-in_default-clause-helpless g c).After-first_helper ∙ none)
 
 pub returns-then-left-eq0-clause-stops : goal.returns-then-left-eq0-clause-stops
 returns-then-left-eq0-clause-stops g c =
@@ -59,14 +72,7 @@ returns-then-left-eq0-clause-stops g c =
       (
         pivot b.var c.in-Some.enters,
         may_step g.S.Coordinate.stands_for x.tab x.trail x.values.items x.why.items c.args.self.now c.self.view_is c.self.invariant.sound b.var c.requires.known c.requires.basic b.side c.rows_tell.ensures.tell c.known_tableau.ensures.tableau c.in-Some.enters
-            (record {
-              slice = c.as_slice-2.result.now;
-              listing = c.as_slice.result.now;
-              is_values = c.as_slice-2.ensures.value;
-              is_nonbasic = c.as_slice.ensures.value ∙ c.self.invariant.nonbasic_listed;
-              found = c.in-Some.ensures.first;
-            })
-            b.limit.value c.requires.broken ns over,
+            (told g (goal.at.returns-then-left-eq0-clause-stops g c).After-first_helper ∙ c.in-Some.is) b.limit.value c.requires.broken ns over,
       ),
     )
 
@@ -75,26 +81,14 @@ pivot-requires-clause-enters g c =
     let x = c.self.inside in
     let b = c.args.broken.now in
     enters_nonbasic g.S.Coordinate.stands_for x.tab x.trail x.values.items x.why.items c.args.self.now c.self.view_is c.self.invariant.sound b.var c.requires.known c.requires.basic b.side c.in-Some.enters
-    (record {
-      slice = c.as_slice-2.result.now;
-      listing = c.as_slice.result.now;
-      is_values = c.as_slice-2.ensures.value;
-      is_nonbasic = c.as_slice.ensures.value ∙ c.self.invariant.nonbasic_listed;
-      found = c.in-Some.ensures.first;
-    })
+    (told g (goal.at.pivot-requires-clause-enters g c).After-first_helper ∙ c.in-Some.is)
 
 pub pivot-requires-clause-nonzero : goal.pivot-requires-clause-nonzero
 pivot-requires-clause-nonzero g c =
     let x = c.self.inside in
     let b = c.args.broken.now in
     enters_nonzero g.S.Coordinate.stands_for x.tab x.trail x.values.items x.why.items c.args.self.now c.self.view_is c.self.invariant.sound b.var c.requires.known c.requires.basic b.side c.in-Some.enters
-    (record {
-      slice = c.as_slice-2.result.now;
-      listing = c.as_slice.result.now;
-      is_values = c.as_slice-2.ensures.value;
-      is_nonbasic = c.as_slice.ensures.value ∙ c.self.invariant.nonbasic_listed;
-      found = c.in-Some.ensures.first;
-    })
+    (told g (goal.at.pivot-requires-clause-nonzero g c).After-first_helper ∙ c.in-Some.is)
 
 pub returns-in-Err-clause-stops : goal.returns-in-Err-clause-stops
 returns-in-Err-clause-stops g c =
@@ -102,20 +96,13 @@ returns-in-Err-clause-stops g c =
     let b = c.args.broken.now in
     subst (λ (e : SimplexStop). (ns : List Node) → IsOver ns c.args.self.now → Answers ns c.args.self.now (g.W.Steps.units_left c.args.work.now) (Err e)) (sym c.exchange_stop.ensures.stop)
     (exchange_place g.S.Coordinate.stands_for x.tab x.trail x.values.items x.why.items c.args.self.now c.self.view_is c.self.invariant.sound b.var c.requires.known c.requires.basic b.side c.rows_tell.ensures.tell c.known_tableau.ensures.tableau c.in-Some.enters
-    (record {
-      slice = c.as_slice-2.result.now;
-      listing = c.as_slice.result.now;
-      is_values = c.as_slice-2.ensures.value;
-      is_nonbasic = c.as_slice.ensures.value ∙ c.self.invariant.nonbasic_listed;
-      found = c.in-Some.ensures.first;
-    })
-    b.limit.value c.requires.broken c.in-Err.wide c.in-Err.ensures.stops c.exchange_stop.ensures.left c.exchange_stop.ensures.right)
+    (told g (goal.at.returns-in-Err-clause-stops g c).After-first_helper ∙ c.in-Some.is) b.limit.value c.requires.broken c.in-Err.wide c.in-Err.ensures.stops c.exchange_stop.ensures.left c.exchange_stop.ensures.right)
 
 pub move_to-requires-clause-nonbasic : goal.move_to-requires-clause-nonbasic
 move_to-requires-clause-nonbasic g c =
     let i = c.args.broken.now.var in
     c.in_default-pivot.ensures.pivoted.rows.nonbasic i
-    ∙ ap (λ b. if b then true else if i == c.in-Some.enters then false else is_nonbasic c.self.inside.tab.grid i) (equal_number i i refl)
+    ∙ ap (λ b. if b then true else if i == c.in-Some.enters then false else is_nonbasic c.self.inside.tab.grid i) (equal-number i i refl)
 
 pub move_to-requires-clause-some : goal.move_to-requires-clause-some
 move_to-requires-clause-some g c =
@@ -134,28 +121,14 @@ invariant_of-self-2 g c =
     let new = c.move_to.new.values in
     let same : new ≡ _ = sym (written_back x.values.len x.values.items new x.values.ok.0 (omega (arith, c.move_to.auto.values, c.as_mut_slice.ensures.len, x.values.ok.0))) in
     subst
-    (λ (vs : List (Option g.row.S.Denot)). IsStored (state_of g.S.Coordinate.stands_for c.pivot.new.self x.trail vs x.why.items) x.trail.vars c.list_basic.new.basic.items c.list_nonbasic.new.nonbasic.items
-    (vec_capacity c.list_basic.new.basic) (vec_capacity c.list_nonbasic.new.nonbasic) (vec_capacity x.why))
+    (λ (vs : List (Option g.row.S.Denot)). IsStored (state_of g.S.Coordinate.stands_for c.pivot.new.self x.trail vs x.why.items) x.trail.vars c.list_forms.new.basic.items c.list_forms.new.nonbasic.items
+    (vec_capacity c.list_forms.new.basic) (vec_capacity c.list_forms.new.nonbasic) (vec_capacity x.why))
     same
-    (record {
-      sound =
-          exchanged_sound g.S.Coordinate.stands_for x.tab x.trail x.values.items x.why.items c.args.self.now c.self.view_is c.self.invariant.sound b.var c.requires.known c.requires.basic b.side c.rows_tell.ensures.tell c.known_tableau.ensures.tableau c.in-Some.enters
-          (record {
-            slice = c.as_slice-2.result.now;
-            listing = c.as_slice.result.now;
-            is_values = c.as_slice-2.ensures.value;
-            is_nonbasic = c.as_slice.ensures.value ∙ c.self.invariant.nonbasic_listed;
-            found = c.in-Some.ensures.first;
-          })
-          b.limit.value c.requires.broken c.pivot.new.self c.as_mut_slice.result.now new pivoted c.as_mut_slice.ensures.value c.move_to.ensures.moved c.move_to.ensures.stays
-          c.moves_keep_ready.ensures.ready c.check_steps_keep_basis.ensures.kept c.infinitesimals_move.ensures.moves c.nonbasic_form_is_itself.ensures.itself c.known_tableau-2.ensures.tableau c.move_to.auto.values c.move_to.ensures.follows;
-      basic_listed = c.list_basic.ensures.listed;
-      nonbasic_listed = c.list_nonbasic.ensures.listed;
-      numbered = omega (arith, ap length pivoted.forms, stored.numbered);
-      room_for_basic = omega (arith, ap length pivoted.forms, stored.room_for_basic, c.list_basic.ensures.capacity);
-      room_for_nonbasic = omega (arith, ap length pivoted.forms, stored.room_for_nonbasic, c.list_nonbasic.ensures.capacity);
-      room_for_why = omega (arith, ap length pivoted.forms, stored.room_for_why);
-    })
+    (stored_again stored
+    (exchanged_sound g.S.Coordinate.stands_for x.tab x.trail x.values.items x.why.items c.args.self.now c.self.view_is c.self.invariant.sound b.var c.requires.known c.requires.basic b.side c.rows_tell.ensures.tell c.known_tableau.ensures.tableau c.in-Some.enters
+    (told g (goal.at.invariant_of-self-2 g c).After-first_helper ∙ c.in-Some.is) b.limit.value c.requires.broken c.pivot.new.self c.as_mut_slice.result.now new pivoted c.as_mut_slice.ensures.value c.move_to.ensures.moved c.move_to.ensures.stays
+    c.moves_keep_ready.ensures.ready c.check_steps_keep_basis.ensures.kept c.infinitesimals_move.ensures.moves c.nonbasic_form_is_itself.ensures.itself c.known_tableau-2.ensures.tableau c.move_to.auto.values c.move_to.ensures.follows)
+    (ap length pivoted.forms) c.list_forms.ensures.basic c.list_forms.ensures.nonbasic c.list_forms.ensures.basic_capacity c.list_forms.ensures.nonbasic_capacity refl)
 
 pub returns-clause-taken : goal.returns-clause-taken
 returns-clause-taken g c =
@@ -171,12 +144,5 @@ returns-clause-taken g c =
           → IsCheckStep (position_over ns c.args.self.now) (position_over ns (state_of g.S.Coordinate.stands_for c.pivot.new.self x.trail vs x.why.items)) b.var c.in-Some.enters)
           (sym (written_back x.values.len x.values.items new x.values.ok.0 (omega (arith, c.move_to.auto.values, c.as_mut_slice.ensures.len, x.values.ok.0))))
           (exchanged_step g.S.Coordinate.stands_for x.tab x.trail x.values.items x.why.items c.args.self.now c.self.view_is c.self.invariant.sound b.var c.requires.known c.requires.basic b.side c.rows_tell.ensures.tell c.known_tableau.ensures.tableau c.in-Some.enters
-          (record {
-            slice = c.as_slice-2.result.now;
-            listing = c.as_slice.result.now;
-            is_values = c.as_slice-2.ensures.value;
-            is_nonbasic = c.as_slice.ensures.value ∙ c.self.invariant.nonbasic_listed;
-            found = c.in-Some.ensures.first;
-          })
-          b.limit.value c.requires.broken c.pivot.new.self c.as_mut_slice.result.now new pivoted c.as_mut_slice.ensures.value c.move_to.ensures.moved c.move_to.ensures.stays),
+          (told g (goal.at.returns-clause-taken g c).After-first_helper ∙ c.in-Some.is) b.limit.value c.requires.broken c.pivot.new.self c.as_mut_slice.result.now new pivoted c.as_mut_slice.ensures.value c.move_to.ensures.moved c.move_to.ensures.stays),
     )

@@ -1,5 +1,5 @@
 -- The bounds at the front are left, and the simplex is as sound as before.
-use Rattle.std.proofs.Common.{◌≡◌, ℕ, ◌≤◌, List, map, length, take, sym, ap, ◌∙◌, subst}
+use Rattle.std.proofs.Common.{◌≡◌, ℕ, ◌≤◌, List, map, length, take, sym, ap, ◌∙◌, subst, refl}
 use Rattle.std.specs.Prelude.{vec_capacity}
 use Rattle.std.proofs.lemmas.List.{length-map, take-map}
 use Rattle.nz_trail.specs.Bounds.{TrailState}
@@ -7,6 +7,7 @@ use Rattle.nz_simplex.specs.Standing.{Held, told}
 use Rattle.nz_simplex.specs.State.{State, IsSound}
 use Rattle.nz_simplex.specs.Stored.{IsStored, state_of}
 use Rattle.nz_simplex.proofs.LooserBounds.{sound_front}
+use Rattle.nz_simplex.proofs.StoredStates.{stored_again}
 use Rattle.nz_simplex.proofs.simplex.Simplex.undo.Goals as goal
 
 pub undo-requires : goal.undo-requires
@@ -29,15 +30,7 @@ invariant_of-self g c =
     subst
     (λ (t : TrailState g.row.S.Denot). IsStored (state_of stands x.tab t x.values.items x.why.items) t.vars x.basic.items x.nonbasic.items (vec_capacity x.basic) (vec_capacity x.nonbasic) (vec_capacity x.why))
     (sym c.undo.ensures.front)
-    (record {
-      sound = sound;
-      basic_listed = stored.basic_listed;
-      nonbasic_listed = stored.nonbasic_listed;
-      numbered = stored.numbered;
-      room_for_basic = stored.room_for_basic;
-      room_for_nonbasic = stored.room_for_nonbasic;
-      room_for_why = stored.room_for_why;
-    })
+    (stored_again stored sound refl stored.basic_listed stored.nonbasic_listed refl refl refl)
 
 pub returns : goal.returns
 returns g c =

@@ -1,5 +1,5 @@
 -- A nonbasic form in its column, a basic one by its row.
-use Rattle.std.proofs.Common.{Vec, Global, ◌≡◌, ℕ, true, false, List, length, map, slice_index_or, pos, sym, ap, subst, ◌∙◌, arith}
+use Rattle.std.proofs.Common.{◌≡◌, ℕ, true, false, List, length, map, slice_index_or, pos, sym, ap, subst, ◌∙◌, arith}
 use Rattle.std.specs.Prelude.{set}
 use Rattle.nz_spec.specs.simplex.BasisMoves.{plus_multiple}
 use Rattle.nz_fractions.specs.Fraction.{Fraction, Sum, whole}
@@ -9,16 +9,13 @@ use Rattle.nz_tab.specs.Comes.{Comes}
 use Rattle.nz_tab.specs.Rows.{AreSlotted, Grid, coefficient, coefficients_at, columns_of, is_nonbasic, place_in, rows_of}
 use Rattle.nz_tab.specs.Sums.{IsStoredGrid, one_added}
 use Rattle.nz_tab.proofs.RowSums.{same_row, slot_added}
-use Rattle.nz_tab.proofs.Pivots.{stored_of}
+use Rattle.nz_tab.proofs.StoredRows.{stored_in}
 use Rattle.nz_tab.proofs.Slots.{slotted}
 use Rattle.nz_tab.proofs.rows.Rows.add_one.Goals as goal
 use Rattle.nz_tab.proofs.rows.Rows.add_one.Goals.{After-as_slice-places}
 
-abbrev items : Vec Fraction Global → List Fraction
-items x = x.items
-
 stored : (c : After-as_slice-places) → IsStoredGrid c.args.self.now
-stored c = subst IsStoredGrid c.self.view_is (stored_of c.self.inside.nonbasic.items c.self.inside.places.items c.self.inside.width (map items c.self.inside.rows.items) c.self.invariant)
+stored c = stored_in c.self.view_is c.self.invariant
 
 places : (c : After-as_slice-places) → c.as_slice-places.result.now ≡ c.args.self.now.places
 places c = c.as_slice-places.ensures.value ∙ ap (λ (x : Grid). x.places) c.self.view_is

@@ -1,5 +1,5 @@
 -- The steps of an exchange, one after another.
-use Rattle.std.proofs.Common.{Vec, Global, ◌≡◌, ◌++◌, ℕ, ◌*◌, ◌+◌, ◌<◌, ◌≤◌, false, List, [], ◌∷◌, length, map, Some, Err, rules, sym, ap, subst, ◌∙◌, arith}
+use Rattle.std.proofs.Common.{◌≡◌, ◌++◌, ℕ, ◌*◌, ◌+◌, ◌<◌, ◌≤◌, false, List, [], ◌∷◌, length, map, Some, Err, rules, sym, ap, subst, ◌∙◌, arith}
 use Rattle.std.specs.Prelude.{All, vec_capacity}
 use Rattle.nz_fractions.specs.Fraction.{Fraction, first_wide}
 use Rattle.nz_spec.specs.simplex.BasisMoves.{exchange}
@@ -10,12 +10,10 @@ use Rattle.nz_tab.specs.Comes.{IsDone, Stops}
 use Rattle.nz_tab.specs.Exchanges.{IsReplaced, changed_rows, solved_row, written_forms}
 use Rattle.nz_tab.specs.Rows.{DenseRow, coefficient, is_nonbasic, rows_of, size_of}
 use Rattle.nz_tab.specs.Sums.{IsStoredGrid}
-use Rattle.nz_tab.proofs.Pivots.{IsReady, changed_basic, changed_forms, changed_listed, columns_after, columns_fit, computed, fits, forms_fit, is_exchanged, room_stays, rows_fit, solved_are, solved_long, stored_of, stops_first, stops_later, written_fit}
+use Rattle.nz_tab.proofs.Pivots.{IsReady, changed_basic, changed_forms, changed_listed, columns_after, columns_fit, computed, fits, forms_fit, is_exchanged, room_stays, rows_fit, solved_are, solved_long, stops_first, stops_later, written_fit}
+use Rattle.nz_tab.proofs.StoredRows.{stored_in}
 use Rattle.nz_tab.proofs.rows.Rows.exchange.Goals as goal
 use Rattle.nz_tab.proofs.rows.Rows.exchange.Goals.{After-row, After-as_slice, After-as_slice-3, After-replace}
-
-abbrev items : Vec Fraction Global → List Fraction
-items x = x.items
 
 -- ---- What is known on the way
 
@@ -83,11 +81,6 @@ pub put_changed-requires-clause-width : goal.put_changed-requires-clause-width
 put_changed-requires-clause-width c = width (goal.at.put_changed-requires-clause-width c).After-as_slice
 
 -- one row less than are written
-less : (m w s : ℕ) → (m + 1) * w ≤ s → m * w ≤ s
-less m w s h =
-    let more : (m + 1) * w ≡ m * w + w = omega arith in
-    omega (arith, h, more)
-
 last : (m w s : ℕ) → (m + 1) * w ≤ s → m * w + w ≤ s
 last m w s h =
     let more : (m + 1) * w ≡ m * w + w = omega arith in
@@ -104,7 +97,7 @@ room c =
 
 pub put_changed-requires-clause-room : goal.put_changed-requires-clause-room
 put_changed-requires-clause-room c =
-    less (length c.as_slice.result.now) (length c.as_slice-columns.result.now) (vec_capacity c.args.room.now.spare) (room (goal.at.put_changed-requires-clause-room c).After-as_slice)
+    omega (arith, last (length c.as_slice.result.now) (length c.as_slice-columns.result.now) (vec_capacity c.args.room.now.spare) (room (goal.at.put_changed-requires-clause-room c).After-as_slice))
 
 pub push_reserved-requires : goal.push_reserved-requires
 push_reserved-requires c =
@@ -174,7 +167,7 @@ replace-requires-clause-block c =
     ∙ ap (λ (l : List ℕ). length c.as_slice-2.result.now * length l) (sym (columns (before (middle here))))
 
 stored : (c : After-as_slice-3) → IsStoredGrid c.args.self.now
-stored c = subst IsStoredGrid c.self.view_is (stored_of c.self.inside.nonbasic.items c.self.inside.places.items c.self.inside.width (map items c.self.inside.rows.items) c.self.invariant)
+stored c = stored_in c.self.view_is c.self.invariant
 
 replaced : (c : After-replace) → IsReplaced c.args.self.now c.replace.new.self c.args.leaves c.args.enters (columns_after c.args.self.now c.args.leaves c.args.enters) (written_forms c.args.self.now c.args.leaves c.args.enters)
     (c.put_changed.new.block.items ++ c.solve.new.solved.items)
@@ -208,4 +201,4 @@ returns-clause-room c =
     (omega (arith, c.list_columns.ensures.capacity, c.requires.room.for_columns))
     (omega (arith, c.push_reserved.ensures.capacity, c.list_changed.ensures.capacity, c.requires.room.for_written))
     (omega (arith, c.solve.ensures.capacity, c.requires.room.for_solved))
-    (subst (λ (x : ℕ). size_of (length c.args.self.now.marks) (is_nonbasic c.args.self.now) ≤ x) (sym (c.put_all.ensures.capacity ∙ c.put_changed.ensures.capacity)) c.requires.room.for_block)
+    (omega (arith, c.put_all.ensures.capacity, c.put_changed.ensures.capacity, c.requires.room.for_block))

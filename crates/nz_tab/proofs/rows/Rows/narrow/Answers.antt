@@ -1,14 +1,11 @@
 -- The units were the last numbers, places and columns.
-use Rattle.std.proofs.Common.{Vec, Global, ◌≡◌, ℕ, ◌-◌, Bool, List, length, map, take, sym, ap, subst, ◌∙◌, arith}
-use Rattle.nz_fractions.specs.Fraction.{Fraction}
+use Rattle.std.proofs.Common.{◌≡◌, ℕ, ◌-◌, Bool, List, length, map, take, sym, ap, subst, ◌∙◌, arith}
 use Rattle.nz_tab.specs.Rows.{Grid, IsGrid, columns_of}
 use Rattle.nz_tab.specs.Sums.{IsStoredGrid, widened}
 use Rattle.nz_tab.proofs.AddedColumns.{columns_then, cut, cut_back, wider_long}
+use Rattle.nz_tab.proofs.StoredRows.{items, made}
 use Rattle.nz_tab.proofs.rows.Rows.narrow.Goals as goal
 use Rattle.nz_tab.proofs.rows.Rows.narrow.Goals.{After-cut_columns}
-
-abbrev items : Vec Fraction Global → List Fraction
-items x = x.items
 
 pub overflow_sub-count : goal.overflow_sub-count
 overflow_sub-count c =
@@ -19,10 +16,6 @@ pub overflow_sub-width : goal.overflow_sub-width
 overflow_sub-width c =
     let w = c.requires.widened in
     omega (arith, c.self.invariant.wide, ap (λ (x : Grid). length (columns_of x)) (c.self.view_is ∙ w.2), columns_then w.0 c.args.units w.1)
-
--- the grid as its fields have it
-abbrev made : List Bool → List ℕ → List (List Fraction) → Grid
-made marks places rows = record { marks = marks; places = places; rows = rows }
 
 width_back : (c : After-cut_columns) (g : Grid) → IsStoredGrid g → c.args.self.now ≡ widened g c.args.units → c.self.inside.width - c.args.units ≡ length (columns_of g)
 width_back c g stored is =

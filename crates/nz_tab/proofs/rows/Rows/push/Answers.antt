@@ -1,21 +1,18 @@
 -- The row stands behind the others, and its form is basic.
-use Rattle.std.proofs.Common.{Vec, Global, ◌≡◌, ℕ, Bool, false, List, [], ◌∷◌, ◌++◌, length, map, sym, ap, subst, ◌∙◌, arith}
+use Rattle.std.proofs.Common.{Vec, Global, ◌≡◌, ℕ, Bool, false, List, [], ◌∷◌, ◌++◌, length, map, sym, ap, subst, ◌∙◌, arith, refl}
 use Rattle.std.proofs.lemmas.List.{length-map, map_push}
 use Rattle.nz_fractions.specs.Fraction.{Fraction}
 use Rattle.nz_tab.specs.Rows.{Grid, IsGrid, columns_of}
 use Rattle.nz_tab.specs.Sums.{IsStoredGrid}
-use Rattle.nz_tab.proofs.Pivots.{stored_of}
+use Rattle.nz_tab.proofs.StoredRows.{items, stored_in}
 use Rattle.nz_tab.proofs.AppendedRows.{stored_then}
 use Rattle.nz_tab.proofs.rows.Rows.push.Goals as goal
-
-abbrev items : Vec Fraction Global → List Fraction
-items x = x.items
 
 pub invariant_of-self-2 : goal.invariant_of-self-2
 invariant_of-self-2 c =
     let g = c.self.inside in
     let grid : Grid = record { marks = g.nonbasic.items; places = g.places.items; rows = map items g.rows.items } in
-    let stored : IsStoredGrid grid = stored_of g.nonbasic.items g.places.items g.width (map items g.rows.items) c.self.invariant in
+    let stored : IsStoredGrid grid = stored_in refl c.self.invariant in
     let row = c.args.row.now in
     let long : length row ≡ length (columns_of grid) = c.requires.width ∙ ap (λ (x : Grid). length (columns_of x)) (sym c.self.view_is) in
     let marks : c.push_reserved.new.self.items ≡ g.nonbasic.items ++ false ∷ [] = c.push_reserved.ensures.items ∙ ap (λ (l : List Bool). l ++ false ∷ []) c.reserve.ensures.items in

@@ -1,5 +1,5 @@
 -- Two forms exchange their slots, and each form that is written has its own.
-use Rattle.std.proofs.Common.{Vec, Global, ◌≡◌, ◌<◌, ℕ, true, false, List, length, map, sym, ap, subst, ◌∙◌, arith}
+use Rattle.std.proofs.Common.{◌≡◌, ◌<◌, ℕ, true, false, List, length, map, sym, ap, subst, ◌∙◌, arith}
 use Rattle.std.specs.Prelude.{All}
 use Rattle.std.proofs.lemmas.List.{length-map}
 use Rattle.nz_fractions.specs.Fraction.{Fraction}
@@ -8,18 +8,16 @@ use Rattle.nz_tab.specs.Exchanges.{places_exchanged, written_forms}
 use Rattle.nz_tab.specs.Rows.{AreSlotted, Grid, IsGrid, is_marked}
 use Rattle.nz_tab.specs.Sums.{IsStoredGrid}
 use Rattle.nz_tab.proofs.Exchanged.{grid_then, marks_after}
-use Rattle.nz_tab.proofs.Pivots.{IsReady, columns_after, columns_long, columns_slotted, rows_full, rows_slotted, stored_of}
+use Rattle.nz_tab.proofs.Pivots.{IsReady, columns_after, columns_long, columns_slotted, rows_full, rows_slotted}
+use Rattle.nz_tab.proofs.StoredRows.{items, stored_in}
 use Rattle.nz_tab.proofs.rows.Rows.replace.Goals as goal
 use Rattle.nz_tab.proofs.rows.Rows.replace.Goals.{After-as_slice}
-
-abbrev items : Vec Fraction Global → List Fraction
-items x = x.items
 
 ready : (c : After-as_slice) → IsReady c.args.self.now c.args.leaves c.args.enters
 ready c = record { inside = c.requires.listed; leaves = c.requires.basic; enters = c.requires.nonbasic }
 
 stored : (c : After-as_slice) → IsStoredGrid c.args.self.now
-stored c = subst IsStoredGrid c.self.view_is (stored_of c.self.inside.nonbasic.items c.self.inside.places.items c.self.inside.width (map items c.self.inside.rows.items) c.self.invariant)
+stored c = stored_in c.self.view_is c.self.invariant
 
 places : (c : After-as_slice) → c.as_slice.result.now ≡ places_exchanged c.args.self.now.places c.args.leaves c.args.enters
 places c =

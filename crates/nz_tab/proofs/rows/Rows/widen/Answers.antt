@@ -1,22 +1,14 @@
 -- The units get the next columns, in which each row has a 0.
-use Rattle.std.proofs.Common.{Vec, Global, ◌≡◌, ℕ, ◌+◌, true, Bool, List, ◌++◌, length, map, replicate, rules, sym, ap, subst, ◌∙◌}
-use Rattle.nz_fractions.specs.Fraction.{Fraction}
+use Rattle.std.proofs.Common.{◌≡◌, ℕ, ◌+◌, true, Bool, List, ◌++◌, length, map, replicate, rules, sym, ap, subst, ◌∙◌}
 use Rattle.nz_tab.specs.Rows.{Grid, IsGrid, columns_of}
 use Rattle.nz_tab.specs.Sums.{IsStoredGrid, IsWidened, lengthened, next_columns, widened}
-use Rattle.nz_tab.proofs.Pivots.{stored_of}
+use Rattle.nz_tab.proofs.StoredRows.{items, made, stored_in}
 use Rattle.nz_tab.proofs.AddedColumns.{is_widened, stored_then}
 use Rattle.nz_tab.proofs.rows.Rows.widen.Goals as goal
 use Rattle.nz_tab.proofs.rows.Rows.widen.Goals.{After-put_columns}
 
-abbrev items : Vec Fraction Global → List Fraction
-items x = x.items
-
--- the grid as its fields have it
-abbrev made : List Bool → List ℕ → List (List Fraction) → Grid
-made marks places rows = record { marks = marks; places = places; rows = rows }
-
 stored : (c : After-put_columns) → IsStoredGrid c.args.self.now
-stored c = subst IsStoredGrid c.self.view_is (stored_of c.self.inside.nonbasic.items c.self.inside.places.items c.self.inside.width (map items c.self.inside.rows.items) c.self.invariant)
+stored c = stored_in c.self.view_is c.self.invariant
 
 -- what the fields have come to
 now : (c : After-put_columns) → made c.put_units.new.nonbasic.items c.put_units.new.places.items (map items c.put_columns.new.rows.items) ≡ widened c.args.self.now c.args.units
