@@ -33,7 +33,7 @@ use Rattle.nz_reals.specs.Chosen.{HasWorths}
 use Rattle.nz_reals.specs.State.{told_lits}
 use Rattle.nz_sat.specs.declared.clauses.Held.{Held}
 use Rattle.nz_sat.specs.Sats.{IsTrueClause, IsTrueLit, held_of, truth_of}
-use Rattle.nz_engine.specs.Checking.{HasFound, IsPosed, terms_named, truth_in, value_at}
+use Rattle.nz_engine.specs.Checking.{HasCoveredWorths, HasFound, IsPosed, terms_named, truth_in, value_at}
 use Rattle.nz_engine.specs.Preparing.{PreparedState, HoldsUnit, IsOfForm, IsPrepared, IsSearched, atoms_of, boolean_terms, unit_of}
 use Rattle.nz_engine.proofs.LevelPreservation.{some_of, some_within}
 use Rattle.nz_engine.proofs.ConstantValues.{constant_values, is_assignment, listed_behind, listed_first, listed_truth, no_truth}
@@ -93,7 +93,10 @@ real_of real_sort a b = refl
 
 module _ (rows_meet : RowsMeetTables) (decides : TablesDecide) (numbers : TermHasItsNumber) (of_node : TermOfNode) (assigns : AssignsByNumber) (own : AtomsOfTerms) (ns : List Node)
     (levels : List (List ℕ)) (assumed : List TermLit) (p : PreparedState) (posed : IsPosed ns levels assumed p) (found : HasFound ns assumed p) (ps : List (ℕ × Value))
-    (adds : HasWorths p.sat.theory ns (flat_map (value_at ns p) p.form.terms.ids) ps) where
+    (covered : HasCoveredWorths ns p ps) where
+  abbrev adds : HasWorths p.sat.theory ns covered.marks (flat_map (value_at ns p) p.form.terms.ids) ps
+  adds = covered.worths
+
   ready : IsPrepared ns levels (levels ++ terms_named assumed ∷ []) p
   ready = posed.standing.raised
 
@@ -234,7 +237,7 @@ module _ (rows_meet : RowsMeetTables) (decides : TablesDecide) (numbers : TermHa
       ∙ ap (λ (o : Option Value). unwrap_or o (default_value c.sort)) (listed_behind (flat_map (value_at ns p) p.form.terms.ids) adds.added i (no_truth ns p p.form.terms.ids i c (head_at i c n) other)) in
       subst (λ (u : Term). unit_value values (apply (constant c) no_terms) =ℚ worths u) has.2
       (subst (λ (v : Value). number_of v =ℚ worths (term_in ns i)) (sym value)
-      (adds.constants i n.node c n.at n.head real))
+      (adds.constants i n.node c (covered.marked.all i ((found.handed.terms.listed i).1 has.1)) n.at n.head real))
 
   -- ---- Terms
 

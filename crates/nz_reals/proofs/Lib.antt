@@ -14,10 +14,12 @@ pub mod LowerBounds
 pub mod News
 pub mod RefutationClauses
 pub mod SearchStarts
+pub mod SumCounts
 pub mod Sums
 pub mod TheoryPositions
 pub mod TheoryStarts
 pub mod Tolds
+pub mod WhyForms
 pub mod Whys
 pub mod WideJoinRows
 pub mod WidePlaces

@@ -1,7 +1,7 @@
 use Rattle.std.proofs.Common.{◌∙◌, ap, subst}
 use Rattle.nz_fractions.specs.Fraction.{IsNumber, fraction_eq}
 use Rattle.nz_reals.proofs.JoinedForms.{one_test}
-use Rattle.nz_reals.proofs.model.is_one.Goals as goal
+use Rattle.nz_reals.proofs.forms.is_one.Goals as goal
 
 pub returns : goal.returns
 returns c = record {
