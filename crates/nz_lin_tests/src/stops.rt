@@ -9,7 +9,12 @@ use std::alloc::Global;
 use std::test::Fail;
 
 /// Terms, and the operation at which the form of one of them stops: on the largest number and this one.
-struct Row(&'static [Term], TermId, Op, i128);
+struct Row {
+    terms: &'static [Term],
+    of: TermId,
+    op: Op,
+    right: i128,
+}
 
 /// Whether making a form stopped at the operation of the row.
 fn is_wide(made: &Result<Form, ArithmeticStop>, row: &Row) -> bool {
@@ -21,12 +26,12 @@ fn is_wide(made: &Result<Form, ArithmeticStop>, row: &Row) -> bool {
 
 /// Whether it is the operation of the row.
 fn is_at(wide: Wide, row: &Row) -> bool {
-    wide.op == row.2 && wide.a.num() == MOST as i128 && wide.b.num() == row.3
+    wide.op == row.op && wide.a.num() == MOST as i128 && wide.b.num() == row.right
 }
 
 /// Whether the form of the row's term stops at the operation of the row.
 fn stops(alloc: Global, terms: &mut Terms, row: &Row) -> bool {
-    let made = form_among(alloc, terms, row.0, row.1);
+    let made = form_among(alloc, terms, row.terms, row.of);
     is_wide(&made, row)
 }
 
@@ -56,14 +61,24 @@ const SUMS: &[Term] = &[
     Over(Operator::Difference(NumberSort::Real), &[5, 6]),
 ];
 
-const SUM: Row = Row(SUMS, 5, Op::Add, 2);
+const SUM: Row = Row {
+    terms: SUMS,
+    of: 5,
+    op: Op::Add,
+    right: 2,
+};
 
 #[test]
 fn test_a_wide_sum_is_told_with_its_operands(rt: HostRuntime) -> Result<(), Fail> {
     stop(rt.alloc(), &SUM)
 }
 
-const BOTH: Row = Row(SUMS, 7, Op::Add, 2);
+const BOTH: Row = Row {
+    terms: SUMS,
+    of: 7,
+    op: Op::Add,
+    right: 2,
+};
 
 #[test]
 fn test_the_first_of_two_is_told(rt: HostRuntime) -> Result<(), Fail> {
@@ -75,7 +90,12 @@ const SQUARED: &[Term] = &[
     Over(Operator::Product(NumberSort::Int), &[0, 0]),
 ];
 
-const SQUARE: Row = Row(SQUARED, 1, Op::Mul, MOST as i128);
+const SQUARE: Row = Row {
+    terms: SQUARED,
+    of: 1,
+    op: Op::Mul,
+    right: MOST as i128,
+};
 
 #[test]
 fn test_a_product_of_constants_may_stop(rt: HostRuntime) -> Result<(), Fail> {
