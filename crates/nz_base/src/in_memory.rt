@@ -1,10 +1,11 @@
 //! Sources and sinks in memory: plain ones, and ones that fail at planned calls.
-ghost use Rattle.std.specs.Prelude.{◌≡◌, ◌<◌, ◌↔◌, ◌||◌, [], length, IsTrue, OnOk, OnErr, IfOk, IsErr, is_err, Some, Ok};
+ghost use Rattle.std.specs.Prelude.{◌≡◌, ◌<◌, ◌↔◌, ◌||◌, [], false, length, IsTrue, OnOk, OnErr, IfOk, IsErr, is_err, Some, Ok};
 ghost use Rattle.std.specs.Io.KnownBytes.{Keeps};
-ghost use Rattle.nz_spec.specs.outside.Outside.{last_count, counted, GivesFront, EndsAtZero, TakesFront, is_refusal, given_count, after_read, read_buffer, taken_count, after_fault, after_write, after_flush, fails_next, after_call, after_faulty_read, after_faulty_write, after_faulty_flush};
+ghost use Rattle.nz_spec.specs.outside.Outside.{last_count, counted, GivesFront, finds_end, EndsAtZero, TakesFront, is_refusal, given_count, after_read, after_failed_read, read_buffer, taken_count, after_fault, after_write, after_flush, fails_next, after_call, after_faulty_read, after_faulty_write, after_faulty_flush};
 
 use crate::errors::{Failed, Memory};
 use crate::outside::{Sink, Source};
+use crate::reads::Reads;
 use std::alloc::Global;
 use std::marker::Model;
 
@@ -15,6 +16,7 @@ pub struct PlainSource {
     // How many of them were read.
     at: usize,
     piece: usize,
+    reads: Reads,
 }
 
 impl Model for PlainSource {
@@ -23,7 +25,7 @@ impl Model for PlainSource {
 
     ghost Value = { MemoryInput };
 
-    ghost view = { λ s. record { left = drop s.at s.bytes.items; piece = s.piece } };
+    ghost view = { λ s. record { left = drop s.at s.bytes.items; piece = s.piece; reads = s.reads } };
 
     ghost invariant = { λ s. (s.at ≤ vec_len s.bytes) × (0 < s.piece) };
 }
@@ -32,13 +34,21 @@ impl PlainSource {
     /// A source of these bytes, of which each read gives at most `piece`.
     pub fn new(bytes: Vec<u8>, piece: usize) -> Self
         requires { 0 < piece }
-        ensures made { result ≡ record { left = bytes.items; piece = piece } }
+        ensures made { result ≡ record { left = bytes.items; piece = piece; reads = record { has_ended = false; read_late = false } } }
     {
         PlainSource {
             bytes,
             at: 0,
             piece,
+            reads: Reads::new(),
         }
+    }
+
+    // Takes in a read that failed.
+    fn fail(&mut self)
+        ensures failed { self.new ≡ after_failed_read self.old }
+    {
+        self.reads.add(false);
     }
 }
 
@@ -53,6 +63,10 @@ impl Source for PlainSource {
 
     ghost last = { last_count };
 
+    ghost has_ended = { λ s. s.reads.has_ended };
+
+    ghost read_late = { λ s. s.reads.read_late };
+
     ghost last_positive = { lit< tt };
 
     fn read(&mut self, buf: &mut [u8]) -> Result<usize, Failed>
@@ -66,6 +80,7 @@ impl Source for PlainSource {
         let count = rest.len().min(self.piece).min(buf.len());
         buf[..count].copy_from_slice(&rest[..count]);
         self.at += count;
+        self.reads.add(count == 0 && !buf.is_empty());
         Ok(count)
     }
 }
@@ -222,7 +237,7 @@ impl MemSource {
     /// from 0, those that fail too, up to 2^64 - 1, the number of each read from then on.
     pub fn new(bytes: Vec<u8>, piece: usize, fails: Vec<u64>) -> Self
         requires { 0 < piece }
-        ensures input { result.input ≡ record { left = bytes.items; piece = piece } }
+        ensures input { result.input ≡ record { left = bytes.items; piece = piece; reads = record { has_ended = false; read_late = false } } }
         ensures plan { result.plan ≡ record { fails = fails.items; next = 0 } }
         ensures no_fault { result.faults ≡ 0 }
     {
@@ -252,6 +267,10 @@ impl Source for MemSource {
 
     ghost last = { last_count };
 
+    ghost has_ended = { λ s. s.input.reads.has_ended };
+
+    ghost read_late = { λ s. s.input.reads.read_late };
+
     ghost last_positive = { lit< tt };
 
     fn read(&mut self, buf: &mut [u8]) -> Result<usize, Failed>
@@ -263,9 +282,12 @@ impl Source for MemSource {
         ensures bytes { GivesFront (Some self.old.input.left) (Some self.new.input.left) result buf.new }
         ensures end { EndsAtZero (Some self.new.input.left) result buf.new }
         ensures counted { self.new.faults ≡ counted last_count (is_err result) self.old.faults }
+        ensures ended { self.new.input.reads.has_ended ≡ (self.old.input.reads.has_ended || finds_end result buf.new) }
+        ensures late { self.new.input.reads.read_late ≡ (self.old.input.reads.read_late || self.old.input.reads.has_ended) }
     {
         if self.plan.call() {
             self.faults = self.faults.saturating_add(1);
+            self.input.fail();
             return Err(Failed);
         }
         self.input.read(buf)

@@ -6,6 +6,7 @@ mod entries;
 mod errors;
 mod in_memory;
 mod outside;
+mod reads;
 mod reply_errors;
 mod streams;
 mod text;

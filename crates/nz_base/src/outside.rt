@@ -1,8 +1,8 @@
 //! The outside, as the solver sees it: bytes come from a source and go to a sink, and either may fail.
-ghost use Rattle.std.specs.Prelude.{◌≡◌, ℕ, ◌<◌, ◌||◌, List, Option, is_err, OnOk, OnErr};
+ghost use Rattle.std.specs.Prelude.{◌≡◌, ℕ, ◌<◌, ◌||◌, Bool, List, Option, is_err, OnOk, OnErr};
 ghost use Rattle.std.specs.Io.{ReadsAtMost, WritesAtMost};
 ghost use Rattle.std.specs.Io.KnownBytes.{Keeps, Appends};
-ghost use Rattle.nz_spec.specs.outside.Outside.{counted, TellsAlike, GivesFront, EndsAtZero, TakesFront, is_refusal, AddsFrontOf};
+ghost use Rattle.nz_spec.specs.outside.Outside.{counted, TellsAlike, GivesFront, finds_end, EndsAtZero, TakesFront, is_refusal, AddsFrontOf};
 
 use crate::errors::Failed;
 
@@ -17,6 +17,12 @@ pub trait Source {
     /// The last value of that count, at which it stays.
     ghost last: { ℕ };
 
+    /// Whether one of its reads found the end: false where it is made.
+    ghost has_ended: { Self → Bool };
+
+    /// Whether it was read after a read had found the end: false where it is made.
+    ghost read_late: { Self → Bool };
+
     /// Reads into the front of `buf`, and answers how many bytes: 0 with room in `buf` is the end of input.
     ///
     /// What stands behind those bytes is left open.
@@ -29,7 +35,9 @@ pub trait Source {
         ensures bytes { GivesFront (left self.old) (left self.new) result buf.new }
         ensures end { EndsAtZero (left self.new) result buf.new }
         ensures told { TellsAlike (left self.old) (left self.new) }
-        ensures counted { faults self.new ≡ counted last (is_err result) (faults self.old) };
+        ensures counted { faults self.new ≡ counted last (is_err result) (faults self.old) }
+        ensures ended { has_ended self.new ≡ (has_ended self.old || finds_end result buf.new) }
+        ensures late { read_late self.new ≡ (read_late self.old || has_ended self.old) };
 
     /// The count can rise at least once.
     ghost last_positive: { 0 < last };

@@ -3,10 +3,11 @@ ghost use Rattle.std.specs.Prelude.{◌≡◌, ◌||◌, [], false, is_err, IfOk
 ghost use Rattle.std.specs.Io.{ReadsAtMost, WritesAtMost};
 ghost use Rattle.std.specs.Io.Buffered.{writer_buffer, writer_capacity, writer_contents, writer_inner};
 ghost use Rattle.std.specs.Io.KnownBytes.{Keeps, ReadConsumes, WriteAppends};
-ghost use Rattle.nz_spec.specs.outside.Outside.{is_refusal};
+ghost use Rattle.nz_spec.specs.outside.Outside.{finds_end, is_refusal, one_more};
 
 use crate::errors::{Failed, Memory};
 use crate::outside::{Sink, Source};
+use crate::reads::Reads;
 use std::alloc::Global;
 use std::io::{BufWriter, Read, Write};
 use std::marker::Model;
@@ -14,30 +15,32 @@ use std::marker::Model;
 /// How many bytes an output gathers before it hands them on.
 const BLOCK: usize = 8192;
 
-/// A reader as a source, which as a source tells nothing of its bytes. It keeps only whether it has failed, since the
-/// first fault ends a run.
+/// A reader as a source, which as a source tells nothing of its bytes. Of its faults it keeps only whether there was
+/// one, since the first ends a run.
 #[derive(Drop)]
 pub struct Input<R: Read + Drop> {
     reader: R,
     has_failed: bool,
+    reads: Reads,
 }
 
 impl<R: Read + Drop> Model for Input<R> {
-    ghost use Rattle.nz_spec.specs.outside.Outside.{Stream};
+    ghost use Rattle.nz_spec.specs.outside.Outside.{InputStream};
 
-    ghost Value = { Stream R };
+    ghost Value = { InputStream R };
 
-    ghost view = { λ s. record { inner = s.reader; has_failed = s.has_failed } };
+    ghost view = { λ s. record { inner = s.reader; has_failed = s.has_failed; reads = s.reads } };
 }
 
 impl<R: Read + Drop> Input<R> {
     /// A source that reads from this reader.
     pub fn new(reader: R) -> Self
-        ensures made { result ≡ record { inner = reader; has_failed = false } }
+        ensures made { result ≡ record { inner = reader; has_failed = false; reads = record { has_ended = false; read_late = false } } }
     {
         Input {
             reader,
             has_failed: false,
+            reads: Reads::new(),
         }
     }
 }
@@ -52,16 +55,25 @@ impl<R: Read + Drop> Source for Input<R> {
 
     ghost last = { 1 };
 
+    ghost has_ended = { λ s. s.reads.has_ended };
+
+    ghost read_late = { λ s. s.reads.read_late };
+
     ghost last_positive = { lit< tt };
 
     fn read(&mut self, buf: &mut [u8]) -> Result<usize, Failed>
         ensures bound { ReadsAtMost result buf.new }
         ensures passed { ReadConsumes (R.remaining self.old.inner) (R.remaining self.new.inner) result buf.new }
         ensures flag { self.new.has_failed ≡ (self.old.has_failed || is_err result) }
+        ensures reads { self.new.reads ≡ one_more self.old.reads (finds_end result buf.new) }
     {
         match self.reader.read(buf) {
-            Ok(count) => Ok(count),
+            Ok(count) => {
+                self.reads.add(count == 0 && !buf.is_empty());
+                Ok(count)
+            }
             Err(_) => {
+                self.reads.add(false);
                 self.has_failed = true;
                 Err(Failed)
             }
@@ -78,11 +90,11 @@ pub struct Output<W: Write + Drop> {
 }
 
 impl<W: Write + Drop> Model for Output<W> {
-    ghost use Rattle.nz_spec.specs.outside.Outside.{Stream};
+    ghost use Rattle.nz_spec.specs.outside.Outside.{OutputStream};
     ghost use Rattle.std.specs.declared.alloc.Global.{Global};
     ghost use Rattle.std.specs.declared.io.buffered.BufWriter.{BufWriter};
 
-    ghost Value = { Stream (BufWriter W Global) };
+    ghost Value = { OutputStream (BufWriter W Global) };
 
     ghost view = { λ s. record { inner = s.writer; has_failed = s.has_failed } };
 }

@@ -9,7 +9,7 @@ use Rattle.nz_spec.specs.terms.FormOf.{number_in}
 use Rattle.nz_spec.specs.clauses.Gates.{gate_clauses}
 use Rattle.nz_spec.specs.clauses.Links.{link_clauses}
 use Rattle.nz_spec.specs.clauses.Literal.{Literal, Clause, clause_of, are_same_literal, term_literal, TellsLiterals}
-use Rattle.nz_spec.specs.clauses.Steps.{clause_at, step_clause}
+use Rattle.nz_spec.specs.clauses.Steps.{clause_at, step_clause, asserting}
 use Rattle.nz_spec.specs.terms.Table.{Node, IsTable, HasOneNumberEach, term_in}
 use Rattle.nz_spec.specs.terms.Term as spec
 use Rattle.nz_spec.specs.clauses.Units.{unit_clauses}
@@ -115,7 +115,7 @@ pub row_of : (table : RowTable) (t j : ℕ) → row_term (axiom_of (table_axiom 
 row_of Links t j = refl
 row_of Units t j = refl
 
-pub at_place : (table : RowTable) (ns : List Node) (atoms : List Atom) (t j : ℕ) (d : List Literal) → step_clause (number_in ns) [] [] (axiom_step ns atoms (table_axiom table t j)) ≡ Some d
+pub at_place : (table : RowTable) (ns : List Node) (atoms : List Atom) (t j : ℕ) (d : List Literal) → step_clause (number_in ns) (asserting []) [] (axiom_step ns atoms (table_axiom table t j)) ≡ Some d
     → (clause_at (table_clauses table (number_in ns) (term_in ns t)) j).result ≡ Some d
 at_place Links ns atoms t j d e = e
 at_place Units ns atoms t j d e = e

@@ -1,5 +1,5 @@
 -- Rows of tables, as they are taken from a list one by one.
-use Rattle.std.proofs.Common.{◌≡◌, suc, List, [], ◌∷◌, ◌++◌, length, Some, refl, sym, ap, arith, slice_get, Vec, Global, ℕ, ◌<◌, map, subst, Contains, flat_map}
+use Rattle.std.proofs.Common.{◌≡◌, suc, List, [], ◌∷◌, ◌++◌, length, Some, None, refl, sym, ap, ◌∙◌, arith, slice_get, Vec, Global, ℕ, ◌<◌, map, subst, Contains}
 use Rattle.std.proofs.lemmas.List.{length-map}
 use Rattle.nz_spec.specs.numbers.Computation.{in_turn, Computation}
 use Rattle.nz_spec.specs.terms.FormOf.{number_in, form_of}
@@ -13,8 +13,8 @@ use Rattle.nz_cform.specs.declared.rows.RowTable.{RowTable}
 use Rattle.nz_cform.specs.declared.rows.RowTable.TheVariants.{Links, Units}
 use Rattle.nz_cform.specs.Covering.{table_clauses, table_rows}
 use Rattle.std.proofs.lemmas.List.Concat.{flat_map-append}
-use Rattle.std.proofs.lemmas.List.Elements.{Contains-append_left, Contains-append_right}
-use Rattle.nz_fractions.proofs.FirstOperations.{first_wide-is}
+use Rattle.std.proofs.lemmas.List.Elements.{Contains-append_right}
+use Rattle.nz_fractions.proofs.FirstOperations.{first_wide-is, first_wide-none, first_wide-some, no_operation}
 use Rattle.nz_fractions.specs.Fraction.{IsNumber, Operation, first_wide}
 use Rattle.nz_spec.specs.clauses.Links.{link_clauses}
 use Rattle.nz_spec.specs.clauses.Literal.{Clause}
@@ -26,7 +26,8 @@ use Rattle.nz_term.specs.declared.stops.ArithmeticStop as lin
 use Rattle.nz_term.specs.declared.stops.ArithmeticStop.TheVariants as stops
 use Rattle.nz_term.specs.Stops.{IsStopAt}
 use Rattle.nz_cform.specs.declared.stop.FormStop.{FormStop}
-use Rattle.nz_cform.specs.Stops.{IsStopIn, IsStopOf, OnWide}
+use Rattle.nz_cform.specs.declared.stop.FormStop.TheVariants.{Wide, Memory}
+use Rattle.nz_cform.specs.Stops.{IsFirstStop, IsStopIn, IsStopOf, OnWide, operations_of}
 use Rattle.nz_cform.proofs.Parts.{itself}
 
 pub nothing_left : {A : Type 0} (xs : List A) → length xs ≡ 0 → xs ≡ []
@@ -67,27 +68,24 @@ Rows = List (Computation Clause)
 
 -- ---- The operations of a row are among those of its term
 
-apart : (rows : List Row) → flat_map (λ (c : Computation Clause). c.operations) (map in_turn rows) ≡ row_operations rows
+apart : (rows : List Row) → operations_of (map in_turn rows) ≡ row_operations rows
 apart [] = refl
 apart (row ∷ rows) = ap (λ ops. (in_turn row).operations ++ ops) (apart rows)
 
-of_rows : (rows : List Row) (op : Operation) → Contains (row_operations rows) op → Contains (flat_map (λ (c : Computation Clause). c.operations) (map in_turn rows)) op
-of_rows rows op has = subst (λ ops. Contains ops op) (sym (apart rows)) has
+same_operations : (table : RowTable) (ns : List Node) (t : Term) → operations_of (table_clauses table (number_in ns) t) ≡ row_operations (table_rows table ns t)
+same_operations Links ns (apply h ts) = apart (link_rows ns (apply h ts))
+same_operations Units ns (apply h ts) = apart (unit_rows ns (apply h ts))
 
-of_table : (table : RowTable) (ns : List Node) (t : Term) (op : Operation) → Contains (row_operations (table_rows table ns t)) op
-    → Contains (flat_map (λ (c : Computation Clause). c.operations) (table_clauses table (number_in ns) t)) op
-of_table Links ns (apply h ts) op has = of_rows (link_rows ns (apply h ts)) op has
-of_table Units ns (apply h ts) op has = of_rows (unit_rows ns (apply h ts)) op has
+-- none of rows that were made leaves the numbers
+rows_fit : (ns : List Node) (rows : List Row) (vs : List (Vec RowLiteral Global)) → AreRowsOf ns rows vs → first_wide (row_operations rows) ≡ None
+rows_fit ns [] [] h = no_operation
+rows_fit ns [] (v ∷ vs) h = absurd h
+rows_fit ns (row ∷ rows) [] h = absurd h
+rows_fit ns (row ∷ rows) (v ∷ vs) h = first_wide-none (in_turn row).operations (row_operations rows) h.0.done.fits ∙ rows_fit ns rows vs h.1
 
-of_first : (cs ds : Rows) (op : Operation) → Contains (flat_map (λ (c : Computation Clause). c.operations) cs) op → Contains (flat_map (λ (c : Computation Clause). c.operations) (cs ++ ds)) op
-of_first cs ds op has =
-    subst (λ ops. Contains ops op) (sym (flat_map-append (λ (c : Computation Clause). c.operations) cs ds))
-    (Contains-append_left (flat_map (λ (c : Computation Clause). c.operations) cs) (flat_map (λ (c : Computation Clause). c.operations) ds) op has)
-
-of_second : (cs ds : Rows) (op : Operation) → Contains (flat_map (λ (c : Computation Clause). c.operations) ds) op → Contains (flat_map (λ (c : Computation Clause). c.operations) (cs ++ ds)) op
-of_second cs ds op has =
-    subst (λ ops. Contains ops op) (sym (flat_map-append (λ (c : Computation Clause). c.operations) cs ds))
-    (Contains-append_right (flat_map (λ (c : Computation Clause). c.operations) cs) (flat_map (λ (c : Computation Clause). c.operations) ds) op has)
+pub table_fits : (table : RowTable) (ns : List Node) (t : Term) (vs : List (Vec RowLiteral Global)) → AreRowsOf ns (table_rows table ns t) vs
+    → first_wide (operations_of (table_clauses table (number_in ns) t)) ≡ None
+table_fits table ns t vs h = ap first_wide (same_operations table ns t) ∙ rows_fit ns (table_rows table ns t) vs h
 
 module _ (ns : List Node) (t : ℕ) (within : t < length ns) where
   abbrev own_links : Rows
@@ -99,30 +97,37 @@ module _ (ns : List Node) (t : ℕ) (within : t < length ns) where
   abbrev own_form : List Operation
   own_form = (form_of (number_in ns) (term_in ns t)).operations
 
-  of_tables : (op : Operation) → Contains (flat_map (λ (c : Computation Clause). c.operations) (own_links ++ own_units)) op → Contains (term_operations (number_in ns) (term_in ns t)) op
-  of_tables op has = Contains-append_right own_form (flat_map (λ (c : Computation Clause). c.operations) (own_links ++ own_units)) op has
+  of_tables : (op : Operation) → Contains (operations_of (own_links ++ own_units)) op → Contains (term_operations (number_in ns) (term_in ns t)) op
+  of_tables op has = Contains-append_right own_form (operations_of (own_links ++ own_units)) op has
 
-  -- what stops a row is so for its term
-  stop_in : (xs : List Operation) → ((op : Operation) → Contains xs op → Contains (term_operations (number_in ns) (term_in ns t)) op) → (wide : frac.Wide) → first_wide xs ≡ Some (operation_of wide)
-      → IsNumber wide.a → IsNumber wide.b → IsStopIn ns (term_in ns t) wide t
-  stop_in xs among wide at left right =
-      let found = first_wide-is xs (operation_of wide) at in
+  -- what stops a row is the first of its table that does
+  pub row_stops : (table : RowTable) (stop : lin.ArithmeticStop) (e : FormStop) → IsStopAt (first_wide (row_operations (table_rows table ns (term_in ns t)))) stop → IsStopOf stop t e
+      → OnWide e (IsFirstStop table ns t)
+  row_stops table (stops.Wide wide) e at is =
+      subst (λ (f : FormStop). OnWide f (IsFirstStop table ns t)) (sym is.0)
+      (record { own = refl; first = ap first_wide (same_operations table ns (term_in ns t)) ∙ at; left = is.1; right = is.2 })
+  row_stops table stops.Memory e at is = subst (λ (f : FormStop). OnWide f (IsFirstStop table ns t)) (sym is) tt
+
+  -- and of the term
+  stop_in : (wide : frac.Wide) → first_wide (operations_of (own_links ++ own_units)) ≡ Some (operation_of wide) → IsNumber wide.a → IsNumber wide.b → IsStopIn ns (term_in ns t) wide t
+  stop_in wide first left right =
+      let found = first_wide-is (operations_of (own_links ++ own_units)) (operation_of wide) first in
       record {
         within = within;
         part = itself (term_in ns t);
-        of = among (operation_of wide) found.0;
+        of = of_tables (operation_of wide) found.0;
         leaves = record { left = left; right = right; wide = found.1 };
+        first = first;
       }
 
-  stop_of : (xs : List Operation) → ((op : Operation) → Contains xs op → Contains (term_operations (number_in ns) (term_in ns t)) op) → (stop : lin.ArithmeticStop) (e : FormStop)
-      → IsStopAt (first_wide xs) stop → IsStopOf stop t e → OnWide e (IsStopIn ns (term_in ns t))
-  stop_of xs among (stops.Wide wide) e at is =
-      subst (λ (f : FormStop). OnWide f (IsStopIn ns (term_in ns t))) (sym is.0) (stop_in xs among wide at is.1 is.2)
-  stop_of xs among stops.Memory e at is = subst (λ (f : FormStop). OnWide f (IsStopIn ns (term_in ns t))) (sym is) tt
+  pub links_stop : (e : FormStop) → OnWide e (IsFirstStop Links ns t) → OnWide e (IsStopIn ns (term_in ns t))
+  links_stop (Wide wide v) is =
+      let first = ap first_wide (flat_map-append (λ (row : Computation Clause). row.operations) own_links own_units) ∙ first_wide-some (operations_of own_links) (operations_of own_units) (operation_of wide) is.first in
+      subst (IsStopIn ns (term_in ns t) wide) (sym is.own) (stop_in wide first is.left is.right)
+  links_stop Memory is = tt
 
-  among : (table : RowTable) (op : Operation) → Contains (row_operations (table_rows table ns (term_in ns t))) op → Contains (term_operations (number_in ns) (term_in ns t)) op
-  among Links op has = of_tables op (of_first own_links own_units op (of_table Links ns (term_in ns t) op has))
-  among Units op has = of_tables op (of_second own_links own_units op (of_table Units ns (term_in ns t) op has))
-
-  pub row_stops : (table : RowTable) (stop : lin.ArithmeticStop) (e : FormStop) → IsStopAt (first_wide (row_operations (table_rows table ns (term_in ns t)))) stop → IsStopOf stop t e → OnWide e (IsStopIn ns (term_in ns t))
-  row_stops table stop e at is = stop_of (row_operations (table_rows table ns (term_in ns t))) (among table) stop e at is
+  pub units_stop : first_wide (operations_of own_links) ≡ None → (e : FormStop) → OnWide e (IsFirstStop Units ns t) → OnWide e (IsStopIn ns (term_in ns t))
+  units_stop none (Wide wide v) is =
+      let first = ap first_wide (flat_map-append (λ (row : Computation Clause). row.operations) own_links own_units) ∙ first_wide-none (operations_of own_links) (operations_of own_units) none ∙ is.first in
+      subst (IsStopIn ns (term_in ns t) wide) (sym is.own) (stop_in wide first is.left is.right)
+  units_stop none Memory is = tt

@@ -130,6 +130,7 @@ module _ (ns : List Node) (id level : ℕ) (start : LogState) (first : FormState
         part = part_of_part (term_in ns id) (term_in ns t) (term_in ns v) is_part stop.part;
         of = stop.of;
         leaves = stop.leaves;
+        first = stop.first;
       }
   stops_too Memory stop = tt
 

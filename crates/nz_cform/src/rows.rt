@@ -1,5 +1,6 @@
 //! The clauses of one term.
-ghost use Rattle.std.specs.Prelude.{◌≡◌, ℕ, ◌<◌, List, length, IfErr, IfOk, IsTrue, OnErr, OnOk};
+ghost use Rattle.std.specs.Prelude.{◌≡◌, ℕ, ◌<◌, List, length, None, IfErr, IfOk, IsTrue, OnErr, OnOk};
+ghost use Rattle.nz_fractions.specs.Fraction.{first_wide};
 ghost use Rattle.nz_spec.specs.terms.FormOf.{number_in};
 ghost use Rattle.nz_spec.specs.clauses.Links.{IsArithmetic};
 ghost use Rattle.nz_spec.specs.terms.Linear.{is_linear};
@@ -12,7 +13,7 @@ ghost use Rattle.nz_rows.specs.GateRows.{gates_at};
 ghost use Rattle.nz_rows.specs.Rows.{ComeOfRows, IsRowAt};
 ghost use Rattle.nz_cform.specs.Covering.{AddsRows, GoesOn, HasRowsBelow, HasRowsOf, table_axiom, table_clauses, table_rows};
 ghost use Rattle.nz_cform.specs.Forms.{FormState};
-ghost use Rattle.nz_cform.specs.Stops.{IsStopIn, OnWide};
+ghost use Rattle.nz_cform.specs.Stops.{IsFirstStop, OnWide, operations_of};
 
 use crate::stop::FormStop;
 use nz_base::Memory;
@@ -117,7 +118,8 @@ pub fn add_rows(
     ensures rows { OnOk result ((s : FormState) (gates links : ℕ) → HasRowsOf table terms.now log.old s term gates links 0 → HasRowsOf table terms.now log.new s term gates links (length (table_clauses table (number_in terms.now) (term_in terms.now term)))) }
     ensures adds { OnOk result (AddsRows term log.old clauses.old.items log.new clauses.new.items) }
     ensures goes { GoesOn terms.now log.old log.new }
-    ensures stop { IfErr result (λ e. OnWide e (IsStopIn terms.now (term_in terms.now term))) }
+    ensures stop { IfErr result (λ e. OnWide e (IsFirstStop table terms.now term)) }
+    ensures fits { OnOk result (first_wide (operations_of (table_clauses table (number_in terms.now) (term_in terms.now term))) ≡ None) }
 {
     atoms_of_terms();
     levels_reach();

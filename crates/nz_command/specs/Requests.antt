@@ -1,5 +1,5 @@
 -- The data that commands of the code stand for.
-use Rattle.std.specs.Prelude.{ℕ, List, map, Option, Some, None, option_map}
+use Rattle.std.specs.Prelude.{ℕ, Bool, true, false, List, map, Option, Some, None, option_map}
 use Rattle.std.specs.Borrow.{Bor}
 use Rattle.nz_sexpr.specs.View as trees
 use Rattle.nz_script.specs.commands.Request as spec
@@ -93,3 +93,10 @@ request commands.SetNothing = spec.sets_nothing
 request (commands.Echo text) = spec.echoes text.now
 request commands.Exit = spec.exits
 request commands.Other = spec.other_request
+
+-- Memory may be wanted where a tree is read as this, or as nothing, and carried out; for `pop`, `echo` and `exit` it isn't.
+abbrev pub may_take_memory : Option spec.Request → Bool
+may_take_memory (Some (spec.pops n)) = false
+may_take_memory (Some (spec.echoes text)) = false
+may_take_memory (Some spec.exits) = false
+may_take_memory r = true

@@ -1,11 +1,11 @@
 //! What a tree is as a command.
-ghost use Rattle.std.specs.Prelude.{◌≡◌, ℕ, List, [], Option, None, IfOk, IfSome, IfNone, option_map};
+ghost use Rattle.std.specs.Prelude.{◌≡◌, ℕ, true, List, [], Option, None, IfOk, IfSome, IfNone, IsErr, option_map};
 ghost use Rattle.nz_sexpr.specs.View.{view, seen};
 ghost use Rattle.nz_script.specs.text.Tree.{node, Trees, trees, no_trees};
 ghost use Rattle.nz_script.specs.commands.Request as spec;
 ghost use Rattle.nz_script.specs.commands.Parse as parse;
 ghost use Rattle.nz_command.specs.View as views;
-ghost use Rattle.nz_command.specs.Requests.{request, direction_view};
+ghost use Rattle.nz_command.specs.Requests.{request, direction_view, may_take_memory};
 ghost use Rattle.nz_command.specs.Names.{arguments_of};
 ghost use Rattle.nz_command.specs.Lists.{IsWord, IsNotOneList};
 
@@ -76,8 +76,13 @@ const COMMANDS: [(&[u8], CommandName); 22] = [
 
 /// The command that a tree is, if it is one: a list that begins with a name, whose arguments are of the form of the command of
 /// that name. A command that the program doesn't know has any form.
+///
+/// # Errors
+///
+/// `Memory`, but not where the tree is a `pop`, an `echo` or an `exit`.
 pub fn parse<'a>(alloc: Global, tree: &'a Tree) -> Result<Option<Command<'a>>, Memory>
     ensures parsed { IfOk result (λ c. option_map request c ≡ parse.request_of (view tree.now)) }
+    ensures memory { IsErr result → may_take_memory (parse.request_of (view tree.now)) ≡ true }
 {
     match tree {
         Tree::Word(_) => Ok(None),
@@ -87,6 +92,7 @@ pub fn parse<'a>(alloc: Global, tree: &'a Tree) -> Result<Option<Command<'a>>, M
 
 fn listed_command<'a>(alloc: Global, list: &'a [Tree]) -> Result<Option<Command<'a>>, Memory>
     ensures parsed { IfOk result (λ c. option_map request c ≡ parse.first parse.name_of parse.request_named (seen list.now)) }
+    ensures memory { IsErr result → may_take_memory (parse.first parse.name_of parse.request_named (seen list.now)) ≡ true }
 {
     let Some((head, arguments)) = list.split_first() else {
         return Ok(None);
@@ -103,6 +109,7 @@ fn named_command<'a>(
     arguments: &'a [Tree],
 ) -> Result<Option<Command<'a>>, Memory>
     ensures parsed { IfOk result (λ c. option_map request c ≡ parse.request_named name.now (seen arguments.now)) }
+    ensures memory { IsErr result → may_take_memory (parse.request_named name.now (seen arguments.now)) ≡ true }
 {
     match command_name(name) {
         Some(name) => command(alloc, name, arguments),
@@ -118,12 +125,14 @@ fn command_name(name: &Text) -> Option<CommandName>
 }
 
 /// A command over these arguments.
+#[tactic(auto, using(crate::proofs::Memory::assertion_takes, crate::proofs::Memory::goal_takes, crate::proofs::Memory::wish_takes, crate::proofs::Memory::assuming_takes, crate::proofs::Memory::values_take, crate::proofs::Memory::function_takes, crate::proofs::Memory::definition_takes))]
 fn command<'a>(
     alloc: Global,
     name: CommandName,
     arguments: &'a [Tree],
 ) -> Result<Option<Command<'a>>, Memory>
     ensures parsed { IfOk result (λ c. option_map request c ≡ arguments_of name (seen arguments.now)) }
+    ensures memory { IsErr result → may_take_memory (arguments_of name (seen arguments.now)) ≡ true }
 {
     match name {
         CommandName::Assert => assertion(alloc, arguments),

@@ -1,5 +1,5 @@
 -- Notes of atoms are legal: each is of what is asked, and none is named twice. Behind the note of a start they lead to where the theory stands that began so.
-use Rattle.std.proofs.Common.{◌≡◌, ◌≢◌, inl, inr, ℕ, zero, suc, ◌+◌, ◌<◌, Bool, true, false, List, [], ◌∷◌, ◌++◌, append-nil, length, get_or, take, map, Option, Some, None, option_map, Result, Ok, Err, refl, sym, ap, ◌∙◌, subst, arith, append_assoc}
+use Rattle.std.proofs.Common.{◌≡◌, ◌≢◌, inl, inr, ℕ, zero, suc, ◌+◌, ◌<◌, Bool, true, false, List, [], ◌∷◌, ◌++◌, append-nil, length, get_or, take, map, Option, Some, None, option_map, Err, refl, sym, ap, ◌∙◌, subst, arith, append_assoc, ◌⊎◌, Vec, Global}
 use Rattle.std.specs.Prelude.{All, Contains, flat_map, if◌then◌else◌, slice_get, slice_index_or, ⊤}
 use Rattle.std.specs.List.{AllByRecursion, AllPairs}
 use Rattle.std.proofs.lemmas.List.{length-map, map-append, take_more}
@@ -11,14 +11,17 @@ use Rattle.nz_lists.proofs.Places.{slice_get_kept}
 use Rattle.nz_spec.specs.simplex.Bland.{Point}
 use Rattle.nz_spec.specs.search.Decide.{asserted_numbers, asserted_terms}
 use Rattle.nz_spec.specs.terms.Form as spec_form
-use Rattle.nz_spec.specs.clauses.Gates.{holds}
-use Rattle.nz_spec.specs.search.Legal.{Task, Search, IsAtom, MayFollow, MayName, Lead, at_first, no_point, after_line, after_lines, literal_by, told_literals, AreLegal}
+use Rattle.nz_spec.specs.search.Search.{Task, Search, ToldLiteral, at_first, no_point, literal_by, never, told_literals}
+use Rattle.nz_spec.specs.search.Atoms.{IsAtom, MayName, of_table, of_term}
+use Rattle.nz_spec.specs.search.Beginnings.{IsComparison, MayGoUnder}
+use Rattle.nz_spec.specs.search.Legal.{Lead, after_line, after_lines}
+use Rattle.nz_spec.specs.laws.LegalWork.{LegalWorkGoesOn}
 use Rattle.nz_spec.specs.clauses.Literal.{Literal, term_literal, is_at_most, is_below, negation_of, are_same_literal, StandOnce, TellsLiterals}
 use Rattle.nz_spec.specs.search.Notes as spec
-use Rattle.nz_spec.specs.search.Notes.{atom_note, form_note}
+use Rattle.nz_spec.specs.search.Notes.{atom_note, form_note, under_note}
 use Rattle.nz_spec.specs.terms.Order.{post_order, post_orders, companions, listing_order, listing_orders}
 use Rattle.nz_spec.specs.terms.Table.{Node, IsTable, term_in}
-use Rattle.nz_spec.specs.terms.Term.{falsum, Term, apply, Terms, no_terms, terms}
+use Rattle.nz_spec.specs.terms.Term.{Term, apply, Terms, no_terms, terms}
 use Rattle.nz_spec.specs.search.Work.{WorkLine, UnitLine, NoteLine, WorkList, is_unit, unit_count, with_line}
 use Rattle.nz_lin.specs.Bounds.{bounded}
 use Rattle.nz_lin.specs.Forms.{parts_over}
@@ -26,7 +29,9 @@ use Rattle.nz_log.specs.declared.atoms.Atom as log
 use Rattle.nz_log.specs.declared.atoms.Atom.TheVariants as atoms
 use Rattle.nz_log.specs.declared.lits.Lit.{Lit}
 use Rattle.nz_term.specs.declared.term_lits.TermLit.{TermLit}
+use Rattle.nz_term.specs.TermLits.{literal_of}
 use Rattle.nz_search.specs.declared.note.Note.{Note}
+use Rattle.nz_search.specs.declared.note.Note.TheVariants as notes
 use Rattle.nz_search.specs.declared.note.Note.TheVariants.{Start}
 use Rattle.nz_search.specs.declared.note.StartNote as code
 use Rattle.nz_search.specs.declared.stop.Stop.{Stop}
@@ -36,12 +41,12 @@ use Rattle.nz_log.specs.Lits.{are_same_lit}
 use Rattle.nz_search.specs.Notes.{forms_over, noted_line, noted_list, AreNotedWithin, IsNoteWithin}
 use Rattle.nz_search.specs.Standing.{Standing, Ends, Stands, search_after}
 use Rattle.nz_search.specs.Verdicts.{task_in}
-use Rattle.nz_reals.specs.Joins.{IsNumberIn}
+use Rattle.nz_reals.specs.Joins.{IsNumberIn, EndsJoining}
 use Rattle.nz_reals.specs.Stands.{IsAt, IsOver}
 use Rattle.nz_reals.specs.Starts.{NotesStart}
 use Rattle.nz_reals.specs.State.{Theory}
-use Rattle.nz_sat.specs.Numbers.{AreBeginnings, IsAtomAt, IsBeginning, atom_literal, noted_atoms}
-use Rattle.nz_engine.specs.Checking.{AreNumbered, EndsWith, HasBegun, MayBegin, NotesAll, NotesForms, atom_at, atom_lines, form_lines, note_of, terms_named}
+use Rattle.nz_sat.specs.Numbers.{IsAtomAt, atom_literal, noted_atoms}
+use Rattle.nz_engine.specs.Checking.{AreNumbered, EndsWith, GoesUnder, HasBegun, HasGoneUnder, IsPlain, IsPlainAtom, IsUnbegun, MayBegin, NotesAll, NotesForms, NotesUnder, atom_at, atom_lines, form_lines, note_of, terms_named}
 use Rattle.nz_engine.proofs.AssertionPlaces.{in_second, lower_or_not, place_of}
 
 -- ---- Lists of lines
@@ -50,11 +55,6 @@ use Rattle.nz_engine.proofs.AssertionPlaces.{in_second, lower_or_not, place_of}
 after_both : (s : Search) (xs ys : List (WorkLine spec.Note)) → after_lines s (xs ++ ys) ≡ after_lines (after_lines s xs) ys
 after_both s [] ys = refl
 after_both s (x ∷ xs) ys = after_both (after_line s x) xs ys
-
--- where lines lead, others lead on
-lead_far : (q : Task) (s : Search) (x y z : Point) (xs ys : List (WorkLine spec.Note)) → Lead q s x xs y → Lead q (after_lines s xs) y ys z → Lead q s x (xs ++ ys) z
-lead_far q s x y z [] ys h more = subst (λ (p : Point). Lead q s p ys z) h more
-lead_far q s x y z (line ∷ xs) ys h more = (h.0, h.1, lead_far q (after_line s line) h.0 y z xs ys h.2 more)
 
 lines_both : (ns : List Node) (xs ys : List (WorkLine Note)) → map (noted_line ns) (xs ++ ys) ≡ map (noted_line ns) xs ++ map (noted_line ns) ys
 lines_both ns xs ys = map-append (noted_line ns) xs ys
@@ -79,7 +79,12 @@ numbered_still ns all i k old new forms h =
 
 -- ---- Atoms that are named
 
-module _ (tells : TellsLits) (tells_spec : TellsLiterals) (ns : List Node) (table : IsTable ns) (all : List log.Atom) (are : AreAtoms all) where
+-- an atom of what is listed may be named wherever a check stands
+plain_atom : (q : Task) (s : Search) (x : Point) (l : Literal) → IsPlainAtom q l → IsAtom q s x l
+plain_atom q s x l (inl truth) = of_term truth
+plain_atom q s x l (inr tabled) = of_table (record { plain = l; tabled = tabled; is_tight = false; is = refl })
+
+module _ (goes_on : LegalWorkGoesOn) (tells : TellsLits) (tells_spec : TellsLiterals) (ns : List Node) (table : IsTable ns) (all : List log.Atom) (are : AreAtoms all) where
   abbrev lit : ℕ → Literal
   lit i = atom_literal ns all i
 
@@ -140,8 +145,8 @@ module _ (tells : TellsLits) (tells_spec : TellsLiterals) (ns : List Node) (tabl
 
   -- each may be named after those before it
   lead_names : (q : Task) (x : Point) (seen ids : List ℕ) (s : Search) → s.atoms ≡ map lit seen → StandOnce (seen ++ ids) → AllByRecursion (IsAtomAt ns all) seen → AllByRecursion (IsAtomAt ns all) ids
-      → AllByRecursion (λ i. IsAtom q (lit i)) ids → Lead q s x (map (noted_line ns) (atom_lines all ids)) x
-  lead_names q x seen [] s same once before within each = refl
+      → AllByRecursion (λ i. IsPlainAtom q (lit i)) ids → Lead q s x (map (noted_line ns) (atom_lines all ids)) x
+  lead_names q x seen [] s same once before within each = ([], refl)
   lead_names q x seen (i ∷ ids) s same once before within each =
       let joined : (seen ++ i ∷ []) ++ ids ≡ seen ++ i ∷ ids = append_assoc seen (i ∷ []) ids in
       let fresh : Contains s.atoms (lit i) → ⊥ = λ c.
@@ -158,14 +163,13 @@ module _ (tells : TellsLits) (tells_spec : TellsLiterals) (ns : List Node) (tabl
       let was = from_map lit seen (negation_of (lit i)) (subst (λ (ls : List Literal). Contains ls (negation_of (lit i))) same c) in
       let inside = All-contains (IsAtomAt ns all) seen was.0 (All-from_recursion (IsAtomAt ns all) seen before) was.1 in
       negated (lit i) (positive i within.0) (subst IsPositive was.2 (positive was.0 inside)) in
-      let may : MayName q s (lit i) = record { atom = each.0; fresh = fresh; negation_fresh = other } in
+      let may : MayName q s x (lit i) = record { atom = plain_atom q s x (lit i) each.0; fresh = fresh; negation_fresh = other } in
       let rest : Lead q (after_line s (NoteLine (atom_note (lit i)))) x (map (noted_line ns) (atom_lines all ids)) x =
       lead_names q x (seen ++ i ∷ []) ids (record s { atoms = s.atoms ++ lit i ∷ [] })
       (ap (λ (ls : List Literal). ls ++ lit i ∷ []) same ∙ sym (map-append lit seen (i ∷ [])))
       (subst StandOnce (sym joined) once)
       (AllByRecursion-append (IsAtomAt ns all) seen (i ∷ []) before (within.0, tt)) within.1 each.1 in
-      subst (λ (line : WorkLine spec.Note). (mid : Point) × MayFollow q s x line mid × Lead q (after_line s line) mid (map (noted_line ns) (atom_lines all ids)) x)
-      (sym (line_says i within.0)) (x, (may, refl), rest)
+      subst (λ (line : WorkLine spec.Note). Lead q s x (line ∷ map (noted_line ns) (atom_lines all ids)) x) (sym (line_says i within.0)) (x, x, ([], refl), (may, refl), rest)
 
   -- where the search stands then
   after_names : (ids : List ℕ) (s : Search) → AllByRecursion (IsAtomAt ns all) ids → after_lines s (map (noted_line ns) (atom_lines all ids)) ≡ record s { atoms = s.atoms ++ map lit ids }
@@ -186,7 +190,7 @@ module _ (tells : TellsLits) (tells_spec : TellsLiterals) (ns : List Node) (tabl
         ∙ ap (λ (s : Search). after_lines s (map (noted_line ns) (atom_lines all names))) first
         ∙ after_names names (record at_first { forms = fs }) within
 
-    leads : (q : Task) (names : List ℕ) → StandOnce names → AllByRecursion (IsAtomAt ns all) names → AllByRecursion (λ i. IsAtom q (lit i)) names → (work : WorkList Note)
+    leads : (q : Task) (names : List ℕ) → StandOnce names → AllByRecursion (IsAtomAt ns all) names → AllByRecursion (λ i. IsPlainAtom q (lit i)) names → (work : WorkList Note)
         → work.lines ≡ mid.lines ++ atom_lines all names → (y : Point) → Lead q at_first no_point (noted_list ns mid).lines y → Lead q at_first no_point (noted_list ns work).lines y
     leads q names once within each work lines y lead =
         let before = map (noted_line ns) mid.lines in
@@ -195,7 +199,7 @@ module _ (tells : TellsLits) (tells_spec : TellsLiterals) (ns : List Node) (tabl
         subst (λ (s : Search). Lead q s y behind y) (sym first) (lead_names q y [] names (record at_first { forms = fs }) refl once tt within each) in
         subst (λ (ls : List (WorkLine Note)). Lead q at_first no_point (map (noted_line ns) ls) y) (sym lines)
         (subst (λ (ls : List (WorkLine spec.Note)). Lead q at_first no_point ls y) (sym (lines_both ns mid.lines (atom_lines all names)))
-        (lead_far q at_first no_point y y before behind lead more))
+        (goes_on.lines q at_first no_point y y before behind lead more))
 
     module _ (t : Theory) (q : Task) (ids : List ℕ) (may : MayBegin t ns q all ids) (work : WorkList Note) where
       each_within : AllByRecursion (IsAtomAt ns all) ids
@@ -206,7 +210,7 @@ module _ (tells : TellsLits) (tells_spec : TellsLiterals) (ns : List Node) (tabl
       stands_named new lines h =
           record {
             point = h.point;
-            legal = leads q ids may.once each_within (recursion_from_All (λ i. IsAtom q (lit i)) ids may.nameable) work lines h.point h.legal;
+            legal = leads q ids may.once each_within (recursion_from_All (λ i. IsPlainAtom q (lit i)) ids may.nameable) work lines h.point h.legal;
             at = subst (λ (s : Search). IsAt new ns s.forms (told_literals s) h.point) (sym (stood ids each_within work lines))
                 (subst (λ (s : Search). IsAt new ns s.forms (told_literals s) h.point) first h.at);
           }
@@ -219,7 +223,7 @@ module _ (tells : TellsLits) (tells_spec : TellsLiterals) (ns : List Node) (tabl
           let long = length-map ids lit in
           record {
             named = subst (λ (ls : List Literal). k < length ls) (sym atoms_are) (omega (arith, inside, long));
-            says = ap (λ (ls : List Literal). slice_index_or ls k (holds (apply falsum no_terms))) atoms_are ∙ get_or_from_slice_get (map lit ids) k (lit i) (holds (apply falsum no_terms)) (mapped ids k at);
+            says = ap (λ (ls : List Literal). slice_index_or ls k never) atoms_are ∙ get_or_from_slice_get (map lit ids) k (lit i) never (mapped ids k at);
           }
         where
           mapped : (xs : List ℕ) (j : ℕ) → slice_get xs j ≡ Some i → slice_get (map lit xs) j ≡ Some (lit i)
@@ -227,14 +231,13 @@ module _ (tells : TellsLits) (tells_spec : TellsLiterals) (ns : List Node) (tabl
           mapped (x ∷ xs) zero e = ap (option_map lit) e
           mapped (x ∷ xs) (suc j) e = mapped xs j e
 
-      -- a front of the notes is legal
-      pub legal_first : (n : ℕ) → work.lines ≡ mid.lines ++ atom_lines all (take n ids) → (y : Point) → Lead q at_first no_point (noted_list ns mid).lines y → AreLegal q (noted_list ns work).lines
-      legal_first n lines y lead = (
-        y,
-        leads q (take n ids) (once_front n ids may.once)
-            (recursion_from_All (IsAtomAt ns all) (take n ids) (All-take (IsAtomAt ns all) n ids may.within))
-            (recursion_from_All (λ i. IsAtom q (lit i)) (take n ids) (All-take (λ i. IsAtom q (lit i)) n ids may.nameable)) work lines y lead,
-      )
+      -- a front of the notes leads there, and is plain
+      pub leads_first : (n : ℕ) → work.lines ≡ mid.lines ++ atom_lines all (take n ids) → (y : Point) → Lead q at_first no_point (noted_list ns mid).lines y
+          → Lead q at_first no_point (noted_list ns work).lines y
+      leads_first n lines y lead =
+          leads q (take n ids) (once_front n ids may.once)
+          (recursion_from_All (IsAtomAt ns all) (take n ids) (All-take (IsAtomAt ns all) n ids may.within))
+          (recursion_from_All (λ i. IsPlainAtom q (lit i)) (take n ids) (All-take (λ i. IsPlainAtom q (lit i)) n ids may.nameable)) work lines y lead
         where
           in_front : (k n : ℕ) (xs : List ℕ) (x : ℕ) → slice_get (take n xs) k ≡ Some x → slice_get xs k ≡ Some x
           in_front k zero xs x e = cc
@@ -245,15 +248,37 @@ module _ (tells : TellsLits) (tells_spec : TellsLiterals) (ns : List Node) (tabl
           once_front : (n : ℕ) (xs : List ℕ) → StandOnce xs → StandOnce (take n xs)
           once_front n xs h i j x a b = h i j x (in_front i n xs x a) (in_front j n xs x b)
 
+      pub plain_first : (n : ℕ) → work.lines ≡ mid.lines ++ atom_lines all (take n ids) → IsPlain q (search_after ns work)
+      plain_first n lines =
+          let names = take n ids in
+          subst (IsPlain q) (sym (stood names (recursion_from_All (IsAtomAt ns all) names (All-take (IsAtomAt ns all) n ids may.within)) work lines))
+          (record { atoms = All-map (IsPlainAtom q) lit names (All-take (λ i. IsPlainAtom q (lit i)) n ids may.nameable); begun = omega arith })
+
+      pub plain_all : work.lines ≡ mid.lines ++ atom_lines all ids → IsPlain q (search_after ns work)
+      plain_all lines =
+          subst (IsPlain q) (sym (stood ids each_within work lines)) (record { atoms = All-map (IsPlainAtom q) lit ids may.nameable; begun = omega arith })
+
 -- where the note of a start leads
 pub started : (ns : List Node) (t : Theory) (old new : WorkList Note) → old.lines ≡ [] → (n : NotesStart t old new) → search_after ns new ≡ record at_first { forms = forms_over ns n.start.forms.items }
 started ns t old new none n =
     ap (λ (w : WorkList Note). after_lines at_first (map (noted_line ns) w.lines)) n.line
     ∙ ap (λ (ls : List (WorkLine Note)). after_lines at_first (map (noted_line ns) (ls ++ NoteLine (Start n.start) ∷ []))) none
 
+-- forms that join leave a search plain
+forms_plain : (ns : List Node) (q : Task) (s : Search) (ks : List ℕ) → IsPlain q s → IsPlain q (after_lines s (map (noted_line ns) (form_lines ks)))
+forms_plain ns q s [] h = h
+forms_plain ns q s (k ∷ ks) h = forms_plain ns q (after_line s (NoteLine (form_note k))) ks (record { atoms = h.atoms; begun = h.begun })
+
+pub plain_still : (ns : List Node) (q : Task) (old new : WorkList Note) → NotesForms old new → IsPlain q (search_after ns old) → IsPlain q (search_after ns new)
+plain_still ns q old new forms h =
+    let behind = map (noted_line ns) (form_lines forms.forms) in
+    let same : search_after ns new ≡ after_lines (search_after ns old) behind =
+    ap (search_after ns) forms.noted ∙ ap (after_lines at_first) (lines_both ns old.lines (form_lines forms.forms)) ∙ after_both at_first (map (noted_line ns) old.lines) behind in
+    subst (IsPlain q) (sym same) (forms_plain ns q (search_after ns old) forms.forms h)
+
 -- ---- What lines note
 
-within_append : (ns : List Node) (xs ys : List (WorkLine Note)) → AreNotedWithin ns xs → AreNotedWithin ns ys → AreNotedWithin ns (xs ++ ys)
+pub within_append : (ns : List Node) (xs ys : List (WorkLine Note)) → AreNotedWithin ns xs → AreNotedWithin ns ys → AreNotedWithin ns (xs ++ ys)
 within_append ns [] ys h k = k
 within_append ns (UnitLine entry ∷ xs) ys h k = within_append ns xs ys h k
 within_append ns (NoteLine note ∷ xs) ys h k = (h.0, within_append ns xs ys h.1 k)
@@ -310,15 +335,17 @@ begun_noted : (all : List log.Atom) (ids ks : List ℕ) → noted_atoms (atom_li
 begun_noted all [] ks = forms_noted ks
 begun_noted all (i ∷ ids) ks = named_by (atom_at all i) (atom_lines all ids ++ form_lines ks) ∙ ap (λ (xs : List log.Atom). atom_at all i ∷ xs) (begun_noted all ids ks)
 
--- they are beginnings
-beginning : (a : log.Atom) → IsBeginning (NoteLine (note_of a))
-beginning (atoms.Term t) = tt
-beginning (atoms.AtMost b) = tt
+-- no search begins, and nothing is decided, learned or told
+atom_unbegun : (ns : List Node) (a : log.Atom) (s : Search) → IsUnbegun s → IsUnbegun (after_line s (noted_line ns (NoteLine (note_of a))))
+atom_unbegun ns (atoms.Term t) s h = record { begun = h.begun; decided = h.decided; learned = h.learned; told = h.told }
+atom_unbegun ns (atoms.AtMost b) s h = record { begun = h.begun; decided = h.decided; learned = h.learned; told = h.told }
 
-beginnings : (all : List log.Atom) (ids ks : List ℕ) → AreBeginnings (atom_lines all ids ++ form_lines ks)
-beginnings all [] [] = tt
-beginnings all [] (k ∷ ks) = (tt, beginnings all [] ks)
-beginnings all (i ∷ ids) ks = (beginning (atom_at all i), beginnings all ids ks)
+lines_unbegun : (ns : List Node) (all : List log.Atom) (ids ks : List ℕ) (s : Search) → IsUnbegun s → IsUnbegun (after_lines s (map (noted_line ns) (atom_lines all ids ++ form_lines ks)))
+lines_unbegun ns all [] [] s h = h
+lines_unbegun ns all [] (k ∷ ks) s h =
+    lines_unbegun ns all [] ks (after_line s (NoteLine (form_note k))) (record { begun = h.begun; decided = h.decided; learned = h.learned; told = h.told })
+lines_unbegun ns all (i ∷ ids) ks s h =
+    lines_unbegun ns all ids ks (after_line s (noted_line ns (NoteLine (note_of (atom_at all i))))) (atom_unbegun ns (atom_at all i) s h)
 
 there_all : (all : List log.Atom) (ids : List ℕ) → AllByRecursion (λ i. i < length all) ids → map (slice_get all) ids ≡ map Some (map (atom_at all) ids)
 there_all all [] h = refl
@@ -333,7 +360,9 @@ pub notes_all : (all : List log.Atom) (ids ks : List ℕ) (start : code.StartNot
 notes_all all ids ks start work within lines =
     record {
       noted = there_all all ids (recursion_from_All (λ i. i < length all) ids within) ∙ ap (map Some) (sym (ap noted_atoms lines ∙ begun_noted all ids ks));
-      beginnings = subst AreBeginnings (sym lines) (tt, beginnings all ids ks);
+      unbegun = λ ns.
+          subst (λ (ls : List (WorkLine Note)). IsUnbegun (after_lines at_first (map (noted_line ns) ls))) (sym lines)
+          (lines_unbegun ns all ids ks (after_line at_first (noted_line ns (NoteLine (Start start)))) (record { begun = refl; decided = refl; learned = refl; told = refl }));
     }
 
 -- ---- Lines of a search that begins
@@ -350,27 +379,83 @@ notes_more all ids n d old work new note below before is step =
     ∙ ap (λ (ls : List (WorkLine Note)). old.lines ++ ls)
     (ap (λ (m : Note). atom_lines all (take n ids) ++ NoteLine m ∷ []) is ∙ sym (map-append line (take n ids) (get_or ids n d ∷ [])) ∙ ap (atom_lines all) (sym (take_more ids n d below))))
 
+-- ---- What a search goes under
+
+-- one note more begins a search, which goes under what is assumed
+under_after : (ns : List Node) (assumed : List TermLit) (old new : WorkList Note) → NotesUnder assumed old new → search_after ns new ≡ after_line (search_after ns old) (NoteLine (under_note (map (literal_of ns) assumed)))
+under_after ns assumed old new n =
+    ap (search_after ns) n.line ∙ ap (after_lines at_first) (lines_both ns old.lines (NoteLine (notes.Under n.literals) ∷ []))
+    ∙ after_both at_first (map (noted_line ns) old.lines) (NoteLine (under_note (map (literal_of ns) n.literals.items)) ∷ [])
+    ∙ ap (λ (ls : List TermLit). after_line (search_after ns old) (NoteLine (under_note (map (literal_of ns) ls)))) n.items
+
+noted_under : (lines : List (WorkLine Note)) (literals : Vec TermLit Global) → noted_atoms (lines ++ NoteLine (notes.Under literals) ∷ []) ≡ noted_atoms lines
+noted_under [] literals = refl
+noted_under (UnitLine entry ∷ lines) literals = noted_under lines literals
+noted_under (NoteLine (notes.Start start) ∷ lines) literals = noted_under lines literals
+noted_under (NoteLine (notes.Atom t) ∷ lines) literals = ap (λ (xs : List log.Atom). atoms.Term t ∷ xs) (noted_under lines literals)
+noted_under (NoteLine (notes.Bound b) ∷ lines) literals = ap (λ (xs : List log.Atom). atoms.AtMost b ∷ xs) (noted_under lines literals)
+noted_under (NoteLine (notes.Form atom) ∷ lines) literals = noted_under lines literals
+noted_under (NoteLine (notes.Under ls) ∷ lines) literals = noted_under lines literals
+noted_under (NoteLine (notes.Told atom sign) ∷ lines) literals = noted_under lines literals
+
+module _ (assumed : List TermLit) (old new : WorkList Note) (n : NotesUnder assumed old new) where
+  pub goes_under : (all : List log.Atom) (ids : List ℕ) → NotesAll all ids old → GoesUnder all ids assumed new
+  goes_under all ids h =
+      record {
+        noted = h.noted ∙ ap (map Some) (sym (ap (λ (w : WorkList Note). noted_atoms w.lines) n.line ∙ noted_under old.lines n.literals));
+        under = λ ns.
+            let u = h.unbegun ns in
+            subst (HasGoneUnder (map (literal_of ns) assumed)) (sym (under_after ns assumed old new n)) (record { begun = ap suc u.begun; under = refl; decided = refl; learned = u.learned; told = refl });
+      }
+
+  pub plain_under : (ns : List Node) (q : Task) → IsUnbegun (search_after ns old) → IsPlain q (search_after ns old) → IsPlain q (search_after ns new)
+  plain_under ns q u h =
+      let count = u.begun in
+      subst (IsPlain q) (sym (under_after ns assumed old new n)) (record { atoms = h.atoms; begun = omega (arith, count) })
+
+  -- a theory stands there still
+  pub stands_under : LegalWorkGoesOn → (ns : List Node) (levels : List (List ℕ)) (ts : List Term) (t : Theory) → IsUnbegun (search_after ns old)
+      → Stands (IsAt t ns) ns (task_in ns levels assumed ts) old → Stands (IsAt t ns) ns (task_in ns levels assumed ts) new
+  stands_under goes_on ns levels ts t u h =
+      let q = task_in ns levels assumed ts in
+      let ls = map (literal_of ns) assumed in
+      let s = search_after ns old in
+      let each : All (λ (l : Literal). Contains ls l) ls = All-contains_itself ls in
+      let may : MayGoUnder q s h.point ls = record {
+        literals = inl (All-weaker (λ (l : Literal). Contains ls l) (λ (l : Literal). Contains ls l ⊎ IsComparison q s h.point l) (λ l has. inl has) ls each);
+        first = λ none. (u.decided, u.learned, u.told);
+      } in
+      let told : told_literals s ≡ [] = ap (λ (xs : List ToldLiteral). map (λ (x : ToldLiteral). x.literal) xs) u.told in
+      let line : WorkLine spec.Note = NoteLine (under_note ls) in
+      let lines : (noted_list ns new).lines ≡ (noted_list ns old).lines ++ line ∷ [] =
+      ap (λ (w : WorkList Note). (noted_list ns w).lines) n.line ∙ lines_both ns old.lines (NoteLine (notes.Under n.literals) ∷ [])
+      ∙ ap (λ (ms : List TermLit). (noted_list ns old).lines ++ NoteLine (under_note (map (literal_of ns) ms)) ∷ []) n.items in
+      record {
+        point = h.point;
+        legal = subst (λ (ms : List (WorkLine spec.Note)). Lead q at_first no_point ms h.point) (sym lines)
+            (goes_on.line q at_first no_point h.point h.point (noted_list ns old).lines line h.legal (may, refl));
+        at = subst (λ (r : Search). IsAt t ns r.forms (told_literals r) h.point) (sym (under_after ns assumed old new n))
+            (subst (λ (ms : List Literal). IsAt t ns s.forms ms h.point) told h.at);
+      }
+
 -- ---- Stops
 
+pub joins_stopped : (A : Type 0) (IsThere : Standing) (ns : List Node) (q : Task) (work : WorkList Note) (e : Stop) → EndsJoining {A = A} IsThere ns q work (Err e) → EndsWith ns q work e
+joins_stopped A IsThere ns q work (Wide place) h = inl h
+joins_stopped A IsThere ns q work Spent h = absurd h
+joins_stopped A IsThere ns q work Memory h = h
+
 pub ends_stopped : (A : Type 0) (IsThere : Standing) (ns : List Node) (q : Task) (work : WorkList Note) (e : Stop) → Ends {A = A} IsThere ns q work (Err e) → EndsWith ns q work e
-ends_stopped A IsThere ns q work (Wide place) h = h
+ends_stopped A IsThere ns q work (Wide place) h = inr h
 ends_stopped A IsThere ns q work Spent h = h
 ends_stopped A IsThere ns q work Memory h = h
 
-stopped_ends : (A : Type 0) (IsThere : Standing) (ns : List Node) (q : Task) (work : WorkList Note) (e : Stop) → EndsWith ns q work e → Ends {A = A} IsThere ns q work (Err e)
-stopped_ends A IsThere ns q work (Wide place) h = h
-stopped_ends A IsThere ns q work Spent h = h
-stopped_ends A IsThere ns q work Memory h = h
-
-pub err_ends : (A : Type 0) (IsThere : Standing) (ns : List Node) (q : Task) (work : WorkList Note) (e : Stop) (r : Result A Stop) → Err e ≡ r → EndsWith ns q work e → Ends {A = A} IsThere ns q work r
-err_ends A IsThere ns q work e r same h = subst (Ends {A = A} IsThere ns q work) same (stopped_ends A IsThere ns q work e h)
-
--- whatever comes of a call, the lines are legal
-pub ends_legal : {A : Type 0} (IsThere : Standing) (ns : List Node) (q : Task) (work : WorkList Note) (r : Result A Stop) → Ends IsThere ns q work r → AreLegal q (noted_list ns work).lines
-ends_legal IsThere ns q work (Ok x) h = (h.point, h.legal)
-ends_legal IsThere ns q work (Err (Wide place)) h = (h.point, h.legal)
-ends_legal IsThere ns q work (Err Spent) h = h
-ends_legal IsThere ns q work (Err Memory) h = h
+-- the lines lead somewhere
+pub stopped_lead : (ns : List Node) (q : Task) (work : WorkList Note) (e : Stop) → EndsWith ns q work e → (point : Point) × Lead q at_first no_point (noted_list ns work).lines point
+stopped_lead ns q work (Wide place) (inl h) = (h.point, h.legal)
+stopped_lead ns q work (Wide place) (inr h) = (h.point, h.legal)
+stopped_lead ns q work Spent h = (h.point, h.legal)
+stopped_lead ns q work Memory h = h
 
 -- ---- None is noted twice
 

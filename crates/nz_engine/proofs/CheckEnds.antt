@@ -1,42 +1,54 @@
 -- How a check ends: its lines are legal, and where an operation left the numbers a search may stop.
-use Rattle.std.proofs.Common.{◌≡◌, ℕ, ◌+◌, ◌≤◌, List, [], ◌∷◌, ◌++◌, map, Err, refl, sym, ap, subst, ◌∙◌, arith}
+use Rattle.std.proofs.Common.{◌≡◌, inl, inr, ℕ, ◌+◌, ◌≤◌, List, [], ◌∷◌, ◌++◌, map, refl, sym, ap, subst, ◌∙◌, arith}
 use Rattle.std.specs.Prelude.{All, Contains, if◌then◌else◌}
-use Rattle.std.proofs.lemmas.List.Sums.{sum_by-cons}
+use Rattle.std.proofs.lemmas.List.Sums.{sum_by-append, sum_by-cons}
 use Rattle.nz_fractions.specs.Fraction.{Operation}
-use Rattle.nz_spec.specs.simplex.Bland.{Point}
+use Rattle.nz_spec.specs.simplex.Bland.{IsCheckStep, Point, Position}
 use Rattle.nz_spec.specs.search.Decide.{asserted_numbers}
-use Rattle.nz_spec.specs.terms.FormOf.{number_in}
-use Rattle.nz_spec.specs.search.Legal.{Task, Search, Lead, AreLegal, at_first, no_point, told_literals}
-use Rattle.nz_spec.specs.simplex.LiteralBounds.{position_under}
-use Rattle.nz_spec.specs.search.Places.{IsOperationAt, IsOperationIn}
+use Rattle.nz_spec.specs.search.Search.{Task, Search, at_first, no_point, position_of, told_literals}
+use Rattle.nz_spec.specs.search.Legal.{Lead, AreLegal, IsSpentLegally}
+use Rattle.nz_spec.specs.search.Places.{AreAllTold, IsDue, IsOperationAt, IsOperationIn}
+use Rattle.nz_spec.specs.laws.LegalWork.{PivotsAreLegal, PlainWorkIsLegal}
+use Rattle.nz_spec.specs.simplex.Pivots.{pivot}
 use Rattle.nz_spec.specs.terms.Table.{Node, term_in}
 use Rattle.nz_spec.specs.search.Notes as noted
-use Rattle.nz_spec.specs.search.Work.{WorkLine, UnitLine, NoteLine, WorkList, is_unit, unit_count}
+use Rattle.nz_spec.specs.search.Work.{WorkLine, UnitLine, NoteLine, WorkList, IsSpent, is_unit, unit_count}
 use Rattle.nz_frac.specs.Operations.{operation_of}
 use Rattle.nz_spec.specs.terms.Term as spec
 use Rattle.nz_log.specs.declared.atoms.Atom.{Atom}
 use Rattle.nz_search.specs.declared.note.Note.{Note}
+use Rattle.nz_search.specs.declared.note.Note.TheVariants as notes
 use Rattle.nz_place.specs.declared.place.Place.{Place}
 use Rattle.nz_place.specs.declared.place.Site as sites
 use Rattle.nz_place.specs.declared.place.Site.TheVariants.{Term, Joining, Exchange, Value, Sum, Limit, Model}
 use Rattle.nz_search.specs.declared.stop.Stop.{Stop}
 use Rattle.nz_search.specs.declared.stop.Stop.TheVariants.{Wide, Spent, Memory}
 use Rattle.nz_term.specs.declared.term_lits.TermLit.{TermLit}
+use Rattle.nz_term.specs.TermLits.{AreOfTerms}
 use Rattle.nz_search.specs.Notes.{noted_line, noted_list, AreNotedWithin}
 use Rattle.nz_place.specs.Places.{IsSiteWithin, site_of}
 use Rattle.nz_search.specs.Places.{OnWide}
-use Rattle.nz_search.specs.Standing.{Ends, IsStoppedAt, Standing, Stands, search_after}
+use Rattle.nz_search.specs.Standing.{IsStoppedAt, IsWanting, Stands, search_after}
+use Rattle.nz_search.specs.Theories.{IsDueIn}
 use Rattle.nz_search.specs.Verdicts.{OnSpent, task_in}
+use Rattle.nz_reals.specs.Joins.{IsStoppedJoining}
+use Rattle.nz_reals.specs.Limits.{IsPlaceOfValues}
 use Rattle.nz_reals.specs.Stands.{IsAt, IsOver}
 use Rattle.nz_reals.specs.State.{Theory}
 use Rattle.nz_sat.specs.Numbers.{IsAtomAt}
-use Rattle.nz_engine.specs.Checking.{HasBegun, IsRootStop, IsStop, IsStopOf, IsTermPlace, IsTermStop, Works, terms_named}
-use Rattle.nz_engine.proofs.AtomNotes.{listed_part}
+use Rattle.nz_engine.specs.Checking.{EndsWith, HasBegun, IsPlain, IsRootStop, IsStop, IsStopOf, IsTermPlace, IsTermStop, NotesUnder, Works, terms_named}
+use Rattle.nz_engine.proofs.AtomNotes.{listed_part, within_append}
 
 -- ---- Work
 
-pub legal_none : (q : Task) (ns : List Node) (work : WorkList Note) → work.lines ≡ [] → AreLegal q (noted_list ns work).lines
-legal_none q ns work none = (no_point, subst (λ (ls : List (WorkLine Note)). Lead q at_first no_point (map (noted_line ns) ls) no_point) (sym none) refl)
+-- without a line
+pub lead_none : (q : Task) (ns : List Node) (work : WorkList Note) → work.lines ≡ [] → Lead q at_first no_point (noted_list ns work).lines no_point
+lead_none q ns work none = subst (λ (ls : List (WorkLine Note)). Lead q at_first no_point (map (noted_line ns) ls) no_point) (sym none) ([], refl)
+
+pub plain_none : (q : Task) (ns : List Node) (work : WorkList Note) → work.lines ≡ [] → IsPlain q (search_after ns work)
+plain_none q ns work none =
+    subst (λ (ls : List (WorkLine Note)). IsPlain q (search_after ns (record work { lines = ls }))) (sym none)
+    (record { atoms = λ k d below. absurd (omega (arith, below)); begun = omega arith })
 
 -- nothing is noted
 pub works_none : (ns : List Node) (work : WorkList Note) → work.lines ≡ [] → Works ns work work
@@ -50,12 +62,26 @@ works_begun ns t all ids old new over within h =
     let count = h.units in
     record { named = h.within ns over within; limit = h.limit; within = omega (arith, count) }
 
+-- with the note of what it goes under
+pub works_under : (ns : List Node) (t : Theory) (all : List Atom) (ids : List ℕ) (assumed : List TermLit) (old mid new : WorkList Note) → IsOver t ns → All (IsAtomAt ns all) ids → HasBegun t all ids old mid
+    → NotesUnder assumed mid new → AreOfTerms ns assumed → Works ns old new
+works_under ns t all ids assumed old mid new over within h n terms =
+    let line : WorkLine Note = NoteLine (notes.Under n.literals) in
+    let both = sum_by-append (λ (x : WorkLine Note). if is_unit x then 1 else 0) mid.lines (line ∷ []) in
+    let units = h.units in
+    let count : unit_count (mid.lines ++ line ∷ []) ≡ 0 = omega (arith, both, units) in
+    let all_units : unit_count new.lines ≡ 0 = ap (λ (w : WorkList Note). unit_count w.lines) n.line ∙ count in
+    record {
+      named = subst (λ (w : WorkList Note). AreNotedWithin ns w.lines) (sym n.line)
+          (within_append ns mid.lines (line ∷ []) (h.within ns over within) (subst (AreOfTerms ns) (sym n.items) terms, tt));
+      limit = ap (λ (w : WorkList Note). w.limit) n.line ∙ h.limit;
+      within = omega (arith, all_units);
+    }
+
 -- and a search goes on
 pub works_solved : (ns : List Node) (old mid new : WorkList Note) → Works ns old mid → (AreNotedWithin ns mid.lines → AreNotedWithin ns new.lines) → new.limit ≡ mid.limit
     → unit_count new.lines ≤ new.limit → Works ns old new
 works_solved ns old mid new h named limit few = record { named = named h.named; limit = limit ∙ h.limit; within = few }
-
--- ---- Stops
 
 same_units : (ns : List Node) (lines : List (WorkLine Note)) → unit_count (map (noted_line ns) lines) ≡ unit_count lines
 same_units ns [] = refl
@@ -64,7 +90,9 @@ same_units ns (UnitLine entry ∷ lines) =
     ∙ sym (sum_by-cons (λ (x : WorkLine Note). if is_unit x then 1 else 0) (UnitLine entry) lines)
 same_units ns (NoteLine note ∷ lines) = same_units ns lines
 
-by_site : (ns : List Node) (q : Task) (s : Search) (x : Point) (site : sites.Site) (op : Operation) → IsOperationIn (told_literals s) (position_under s.forms x (told_literals s)) (site_of ns site) op
+-- ---- Places
+
+by_site : (ns : List Node) (q : Task) (s : Search) (x : Point) (site : sites.Site) (op : Operation) → IsOperationIn q.numbering (told_literals s) (position_of s x) (site_of ns site) op
     → IsOperationAt q s x (site_of ns site) op
 by_site ns q s x (Term t) op h = absurd h
 by_site ns q s x Joining op h = h
@@ -72,47 +100,138 @@ by_site ns q s x (Exchange leaves enters) op h = h
 by_site ns q s x (Value form) op h = h
 by_site ns q s x (Sum multiples) op h = h
 by_site ns q s x (Limit form side) op h = h
-by_site ns q s x (Model form) op h = h
+by_site ns q s x (Model form) op h = absurd h
 
--- a place of the simplex
-pub stop_at : (ns : List Node) (q : Task) (work : WorkList Note) (place : Place) → IsStoppedAt ns q work place → unit_count work.lines ≤ work.limit → IsStop ns q work place
-stop_at ns q work place h few =
-    let count = same_units ns work.lines in
-    record {
-      within = h.leaves.within;
-      legally = record {
-        within = omega (arith, count, few);
-        point = h.point;
-        legal = h.legal;
-        leaves = h.leaves.leaves;
-        at = by_site ns q (search_after ns work) h.point place.site (operation_of place.wide) h.leaves.at;
-      };
-    }
+-- an exchange that may be next is one of the list
+due_site : PivotsAreLegal → (ns : List Node) (q : Task) (lines : List (WorkLine noted.Note)) (s : Search) (x : Point) (site : sites.Site) → IsDueIn (position_of s x) site → IsDue q lines s x (site_of ns site)
+due_site pivots ns q lines s x (Term t) h = absurd h
+due_site pivots ns q lines s x Joining h = absurd h
+due_site pivots ns q lines s x (Exchange leaves enters) h =
+    let next = h.1 in
+    let there = pivots.lead q s x (pivot leaves enters ∷ []) next.after h.0 (next.after, next.step, refl) in
+    let step : IsCheckStep (position_of s x) (position_of s next.after.point) leaves enters = subst (λ (p : Position). IsCheckStep (position_of s x) p leaves enters) there.0 next.step in
+    (next.after.point, inl (h.0, step))
+due_site pivots ns q lines s x (Value form) h = tt
+due_site pivots ns q lines s x (Sum multiples) h = tt
+due_site pivots ns q lines s x (Limit form side) h = absurd h
+due_site pivots ns q lines s x (Model form) h = absurd h
 
--- a term of what is asked, before anything is noted
-term_stop : (ns : List Node) (levels : List (List ℕ)) (assumed : List TermLit) (work : WorkList Note) (root : ℕ) → Contains (asserted_numbers levels ++ terms_named assumed) root → work.lines ≡ []
-    → (ts : List spec.Term) (place : Place) → IsTermPlace ns (term_in ns root) place → IsStop ns (task_in ns levels assumed ts) work place
-unfolding legal_none
-term_stop ns levels assumed work root has none ts place h =
-    let q = task_in ns levels assumed ts in
-    let count : unit_count (map (noted_line ns) work.lines) ≡ 0 = ap (λ (ls : List (WorkLine Note)). unit_count (map (noted_line ns) ls)) none in
-    record {
-      within = subst (IsSiteWithin ns) (sym h.site) h.stop.within;
-      legally = record {
-        within = omega (arith, count);
-        point = no_point;
-        legal = (legal_none q ns work none).1;
-        leaves = h.stop.leaves;
-        at = subst (λ (s : sites.Site). IsOperationAt q (search_after ns work) no_point (site_of ns s) (operation_of place.wide)) (sym h.site)
-            (record { listed = listed_part ns levels assumed root has (term_in ns h.term) h.stop.part; number = number_in ns; of = h.stop.of });
-      };
-    }
+-- what a list leads to, where a check of terms and their tables stands
+module _ (plain_legal : PlainWorkIsLegal) (ns : List Node) (levels : List (List ℕ)) (assumed : List TermLit) (ts : List spec.Term) (work : WorkList Note)
+    (plain : IsPlain (task_in ns levels assumed ts) (search_after ns work)) where
+  abbrev q : Task
+  q = task_in ns levels assumed ts
 
-pub root_stop : (ns : List Node) (levels : List (List ℕ)) (assumed : List TermLit) (ts : List spec.Term) (work : WorkList Note) (e : Stop) → work.lines ≡ [] → IsRootStop ns (asserted_numbers levels ++ terms_named assumed) e
-    → OnWide e (IsStop ns (task_in ns levels assumed ts) work)
-root_stop ns levels assumed ts work (Wide place) none h = term_stop ns levels assumed work h.0 h.1 none ts place h.2
-root_stop ns levels assumed ts work Spent none h = tt
-root_stop ns levels assumed ts work Memory none h = tt
+  abbrev pub legal_at : (x : Point) → Lead q at_first no_point (noted_list ns work).lines x → AreLegal q (noted_list ns work).lines
+  legal_at x lead = record { point = x; lead = lead; few = (plain_legal q (noted_list ns work).lines x lead refl plain.atoms plain.begun).few }
+
+  -- each unit was used, and one more was wanted
+  pub spent_at : IsWanting ns q work → IsSpent work → IsSpentLegally q (noted_list ns work)
+  spent_at h spent =
+      record { spent = same_units ns work.lines ∙ spent; legal = legal_at h.point h.legal; wanted = h.wanted; after = h.after; may = h.may }
+
+  module _ (few : unit_count work.lines ≤ work.limit) where
+    within : unit_count (noted_list ns work).lines ≤ work.limit
+    within = let count = same_units ns work.lines in omega (arith, count, few)
+
+    -- a place of a search
+    search_stop : (place : Place) → IsStoppedAt ns q work place → PivotsAreLegal → IsStop ns q work place
+    search_stop place h pivots =
+        record {
+          within = h.at.leaves.within;
+          legally = record {
+            within = within;
+            legal = legal_at h.point h.legal;
+            leaves = h.at.leaves.leaves;
+            due = due_site pivots ns q (noted_list ns work).lines (search_after ns work) h.point place.site h.at.due;
+            at = by_site ns q (search_after ns work) h.point place.site (operation_of place.wide) h.at.leaves.at;
+          };
+        }
+
+    -- the row of a form that joins
+    joining_stop : (place : Place) → IsStoppedJoining ns q work place → IsStop ns q work place
+    joining_stop place h =
+        record {
+          within = h.at.within;
+          legally = record {
+            within = within;
+            legal = legal_at h.point h.legal;
+            leaves = h.at.leaves;
+            due = subst (λ (s : sites.Site). IsDue q (noted_list ns work).lines (search_after ns work) h.point (site_of ns s)) (sym h.joining) h.last;
+            at = by_site ns q (search_after ns work) h.point place.site (operation_of place.wide) h.at.at;
+          };
+        }
+
+    pub ends_stop : PivotsAreLegal → (e : Stop) → EndsWith ns q work e → OnWide e (IsStop ns q work)
+    ends_stop pivots (Wide place) (inl h) = joining_stop place h
+    ends_stop pivots (Wide place) (inr h) = search_stop place h pivots
+    ends_stop pivots Spent h = tt
+    ends_stop pivots Memory h = tt
+
+    -- values that weren't found
+    value_stop : (place : Place) (s : Stands (λ fs ls x. IsPlaceOfValues ns q.listed fs ls x place) ns q work) → AreAllTold (search_after ns work) → IsStop ns q work place
+    value_stop place s told = by_case s.at
+      where
+        by_case : IsPlaceOfValues ns q.listed (search_after ns work).forms (told_literals (search_after ns work)) s.point place → IsStop ns q work place
+        by_case (inl h) =
+            record {
+              within = h.leaves.within;
+              legally = record {
+                within = within;
+                legal = legal_at s.point s.legal;
+                leaves = h.leaves.leaves;
+                due = subst (λ (x : sites.Site). IsDue q (noted_list ns work).lines (search_after ns work) s.point (site_of ns x)) (sym h.site) told;
+                at = by_site ns q (search_after ns work) s.point place.site (operation_of place.wide) h.leaves.at;
+              };
+            }
+        by_case (inr h) =
+            record {
+              within = subst (IsSiteWithin ns) (sym h.site) tt;
+              legally = record {
+                within = within;
+                legal = legal_at s.point s.legal;
+                leaves = h.leaves;
+                due = subst (λ (x : sites.Site). IsDue q (noted_list ns work).lines (search_after ns work) s.point (site_of ns x)) (sym h.site) told;
+                at = subst (λ (x : sites.Site). IsOperationAt q (search_after ns work) s.point (site_of ns x) (operation_of place.wide)) (sym h.site) h.at;
+              };
+            }
+
+    pub model_stop : (t : Theory) (e : Stop) → OnWide e (IsStopOf ns q.listed t) → Stands (IsAt t ns) ns q work → AreAllTold (search_after ns work) → OnWide e (IsStop ns q work)
+    model_stop t (Wide place) f h told =
+        value_stop place
+        (record { point = h.point; legal = h.legal; at = f (search_after ns work).forms (told_literals (search_after ns work)) h.point h.at }) told
+    model_stop t Spent f h told = tt
+    model_stop t Memory f h told = tt
+
+  -- a term of what is asked, before anything is noted
+  module _ (none : work.lines ≡ []) where
+    term_stop : (root : ℕ) → Contains (asserted_numbers levels ++ terms_named assumed) root → (place : Place) → IsTermPlace ns (term_in ns root) place → IsStop ns q work place
+    term_stop root has place h =
+        let count : unit_count (map (noted_line ns) work.lines) ≡ 0 = ap (λ (ls : List (WorkLine Note)). unit_count (map (noted_line ns) ls)) none in
+        record {
+          within = subst (IsSiteWithin ns) (sym h.site) h.stop.within;
+          legally = record {
+            within = omega (arith, count);
+            legal = legal_at no_point (lead_none q ns work none);
+            leaves = h.stop.leaves;
+            due = subst (λ (s : sites.Site). IsDue q (noted_list ns work).lines (search_after ns work) no_point (site_of ns s)) (sym h.site) tt;
+            at = subst (λ (s : sites.Site). IsOperationAt q (search_after ns work) no_point (site_of ns s) (operation_of place.wide)) (sym h.site)
+                (record { listed = listed_part ns levels assumed root has (term_in ns h.term) h.stop.part; of = h.stop.of });
+          };
+        }
+
+    pub root_stop : (e : Stop) → IsRootStop ns (asserted_numbers levels ++ terms_named assumed) e → OnWide e (IsStop ns q work)
+    root_stop (Wide place) h = term_stop h.0 h.1 place h.2
+    root_stop Spent h = tt
+    root_stop Memory h = tt
+
+-- a search that ended with no answer, where each unit was used
+pub spent_of : PlainWorkIsLegal → (ns : List Node) (levels : List (List ℕ)) (assumed : List TermLit) (ts : List spec.Term) (work : WorkList Note) (e : Stop)
+    → IsPlain (task_in ns levels assumed ts) (search_after ns work) → EndsWith ns (task_in ns levels assumed ts) work e → OnSpent e (IsSpent work)
+    → OnSpent e (IsSpentLegally (task_in ns levels assumed ts) (noted_list ns work))
+spent_of plain_legal ns levels assumed ts work (Wide place) plain h spent = tt
+spent_of plain_legal ns levels assumed ts work Spent plain h spent = spent_at plain_legal ns levels assumed ts work plain h spent
+spent_of plain_legal ns levels assumed ts work Memory plain h spent = tt
 
 pub root_unspent : (ns : List Node) (roots : List ℕ) (e : Stop) (P : Type 0) → IsRootStop ns roots e → OnSpent e P
 root_unspent ns roots (Wide place) P h = tt
@@ -130,24 +249,15 @@ root_more ns xs ys (Wide place) more h = (h.0, more h.0 h.1, h.2)
 root_more ns xs ys Spent more h = h
 root_more ns xs ys Memory more h = tt
 
--- a search that stopped
-pub solve_stop : (A : Type 0) (IsThere : Standing) (ns : List Node) (q : Task) (work : WorkList Note) (e : Stop) → Ends {A = A} IsThere ns q work (Err e) → unit_count work.lines ≤ work.limit
-    → OnWide e (IsStop ns q work)
-solve_stop A IsThere ns q work (Wide place) h few = stop_at ns q work place h few
-solve_stop A IsThere ns q work Spent h few = tt
-solve_stop A IsThere ns q work Memory h few = tt
-
--- values that weren't found
-pub model_stop : (ns : List Node) (q : Task) (work : WorkList Note) (t : Theory) (e : Stop) → OnWide e (IsStopOf ns t) → Stands (IsAt t ns) ns q work → unit_count work.lines ≤ work.limit
-    → OnWide e (IsStop ns q work)
-model_stop ns q work t (Wide place) f h few =
-    stop_at ns q work place (record { point = h.point; legal = h.legal; leaves = f (search_after ns work).forms (told_literals (search_after ns work)) h.point h.at }) few
-model_stop ns q work t Spent f h few = tt
-model_stop ns q work t Memory f h few = tt
-
 -- ---- What is said of a stop
 
 pub stop_within : (ns : List Node) (q : Task) (work : WorkList Note) (e : Stop) → OnWide e (IsStop ns q work) → OnWide e (λ p. IsSiteWithin ns p.site)
 stop_within ns q work (Wide place) h = h.within
 stop_within ns q work Spent h = tt
 stop_within ns q work Memory h = tt
+
+-- the same of an unspent stop
+pub none_spent : (e : Stop) (P : Type 0) → (e ≡ Spent → ⊥) → OnSpent e P
+none_spent (Wide place) P h = tt
+none_spent Spent P h = absurd (h refl)
+none_spent Memory P h = tt

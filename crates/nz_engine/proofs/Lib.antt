@@ -5,6 +5,7 @@ pub mod AtomNotes
 pub mod CheckEnds
 pub mod ClausePreservation
 pub mod ConstantValues
+pub mod CoveredMarks
 pub mod ExclusionClauses
 pub mod KeptState
 pub mod KeptTheory

@@ -15,9 +15,9 @@ use Rattle.nz_spec.specs.terms.FormOf.{number_in, TermHasItsNumber}
 use Rattle.nz_spec.specs.clauses.Gates.{is_boolean_term}
 use Rattle.nz_spec.specs.clauses.Literal.{term_literal, are_same_sign, AreTrueLiterals}
 use Rattle.nz_spec.specs.terms.Model.{IsAssignment}
-use Rattle.nz_spec.specs.terms.Order.{post_order, post_orders}
+use Rattle.nz_spec.specs.terms.Order.{listing_order, post_order, post_orders}
 use Rattle.nz_spec.specs.terms.Table.{Node, IsTable, term_in, terms_at, listed_value, assignment_by, TermOfNode, AssignsByNumber}
-use Rattle.nz_spec.specs.terms.Taken.{IsTaken, IsTakenBoolean}
+use Rattle.nz_spec.specs.terms.Taken.{IsTaken, IsTakenBoolean, TakenTermsAreInOrder}
 use Rattle.nz_spec.specs.terms.Term.{Sort, bool_sort, int_sort, real_sort, is_int_sort, Constant, constant, falsum, Term, apply, no_terms, Assignment, Value, truth, number_of, value_of, is_true, is_bool, default_value, IsTrueUnder}
 use Rattle.nz_log.specs.declared.atoms.Atom.{Atom}
 use Rattle.nz_log.specs.declared.atoms.Atom.TheVariants as atoms
@@ -33,7 +33,7 @@ use Rattle.nz_reals.specs.Chosen.{HasWorths}
 use Rattle.nz_reals.specs.State.{told_lits}
 use Rattle.nz_sat.specs.declared.clauses.Held.{Held}
 use Rattle.nz_sat.specs.Sats.{IsTrueClause, IsTrueLit, held_of, truth_of}
-use Rattle.nz_engine.specs.Checking.{HasFound, IsPosed, terms_named, truth_in, value_at}
+use Rattle.nz_engine.specs.Checking.{HasCoveredWorths, HasFound, IsPosed, terms_named, truth_in, value_at}
 use Rattle.nz_engine.specs.Preparing.{PreparedState, HoldsUnit, IsOfForm, IsPrepared, IsSearched, atoms_of, boolean_terms, unit_of}
 use Rattle.nz_engine.proofs.LevelPreservation.{some_of, some_within}
 use Rattle.nz_engine.proofs.ConstantValues.{constant_values, is_assignment, listed_behind, listed_first, listed_truth, no_truth}
@@ -91,9 +91,12 @@ real_of real_sort a b = refl
 
 -- ---- What was found
 
-module _ (rows_meet : RowsMeetTables) (decides : TablesDecide) (numbers : TermHasItsNumber) (of_node : TermOfNode) (assigns : AssignsByNumber) (own : AtomsOfTerms) (ns : List Node)
+module _ (rows_meet : RowsMeetTables) (decides : TablesDecide) (order : TakenTermsAreInOrder) (numbers : TermHasItsNumber) (of_node : TermOfNode) (assigns : AssignsByNumber) (own : AtomsOfTerms) (ns : List Node)
     (levels : List (List ℕ)) (assumed : List TermLit) (p : PreparedState) (posed : IsPosed ns levels assumed p) (found : HasFound ns assumed p) (ps : List (ℕ × Value))
-    (adds : HasWorths p.sat.theory ns (flat_map (value_at ns p) p.form.terms.ids) ps) where
+    (covered : HasCoveredWorths ns p ps) where
+  abbrev adds : HasWorths p.sat.theory ns covered.marks (flat_map (value_at ns p) p.form.terms.ids) ps
+  adds = covered.worths
+
   ready : IsPrepared ns levels (levels ++ terms_named assumed ∷ []) p
   ready = posed.standing.raised
 
@@ -234,24 +237,28 @@ module _ (rows_meet : RowsMeetTables) (decides : TablesDecide) (numbers : TermHa
       ∙ ap (λ (o : Option Value). unwrap_or o (default_value c.sort)) (listed_behind (flat_map (value_at ns p) p.form.terms.ids) adds.added i (no_truth ns p p.form.terms.ids i c (head_at i c n) other)) in
       subst (λ (u : Term). unit_value values (apply (constant c) no_terms) =ℚ worths u) has.2
       (subst (λ (v : Value). number_of v =ℚ worths (term_in ns i)) (sym value)
-      (adds.constants i n.node c n.at n.head real))
+      (adds.constants i n.node c (covered.marked.all i ((found.handed.terms.listed i).1 has.1)) n.at n.head real))
 
   -- ---- Terms
 
-  tables_met : (t : ℕ) → IsSome (covered_at p.form t) → MeetsTables truths worths (number_in ns) values (post_order (term_in ns t))
+  tables_met : (t : ℕ) → IsSome (covered_at p.form t) → MeetsTables truths worths (number_in ns) values (listing_order (term_in ns t))
   tables_met t some =
+      let taken : IsTaken (term_in ns t) = ready.taken t some in
       let clauses = rows_meet ns levels p.log p.form posed.table ready.order ready.covers truths worths rows_met t some in
+      let same : listing_order (term_in ns t) ≡ post_order (term_in ns t) = order.listing (term_in ns t) taken in
+      let part : (u : Term) → Contains (listing_order (term_in ns t)) u → Contains (post_order (term_in ns t)) u = λ u has. subst (λ (us : List Term). Contains us u) same has in
       record {
-        gates = clauses.gates;
-        links = clauses.links;
-        units = clauses.units;
+        gates = λ u has. clauses.gates u (part u has);
+        links = λ u has. clauses.links u (part u has);
+        units = λ u has. clauses.units u (part u has);
         known = λ u has boolean.
-            let of = part_covered t some u has in
+            let of = part_covered t some u (part u has) in
             let own_boolean : is_boolean_term (term_in ns of.0) ≡ true = ap is_boolean_term of.2 ∙ boolean in
             let known = truth_known of.0 of.1 own_boolean in
             (known.0, subst (λ (x : Term). truths x ≡ Some known.0) of.2 (truth_is of.0 (covered_within of.0 of.1) own_boolean ∙ known.1));
-        constants = λ c sign has e. constant_truth c sign (part_covered t some (apply (constant c) no_terms) has) e;
-        numbers = λ c has other. constant_number c (part_covered t some (apply (constant c) no_terms) has) other;
+        constants = λ c sign has e. constant_truth c sign (part_covered t some (apply (constant c) no_terms) (part (apply (constant c) no_terms) has)) e;
+        numbers = λ c has other. constant_number c (part_covered t some (apply (constant c) no_terms) (part (apply (constant c) no_terms) has)) other;
+        integral = λ u integer. absurd (decides.integers (term_in ns t) u taken integer);
       }
 
   each_value : AllByRecursion (IsValueOf ns) ps

@@ -1,6 +1,6 @@
 -- A clause of negations of assumed literals refutes them.
 use Rattle.std.proofs.Common.{◌≡◌, ℕ, suc, Bool, true, false, not, ◌||◌, true≢false, List, [], ◌∷◌, ◌++◌, take, drop, map, Option, Some, None, Result, Ok, Err, IfOk, refl, sym, ap, ◌∙◌, subst, Vec, Global}
-use Rattle.std.specs.Prelude.{All, Contains, IsSome, IfSome, IsTrue, option_map, slice_get}
+use Rattle.std.specs.Prelude.{All, Contains, flat_map, IsSome, IfSome, IsTrue, option_map, slice_get}
 use Rattle.std.specs.List.{AllByRecursion}
 use Rattle.std.proofs.lemmas.List.{take-append-drop, map-append}
 use Rattle.std.proofs.Math.Bool.{not-not}
@@ -8,13 +8,16 @@ use Rattle.std.proofs.lemmas.Option.{same_Some}
 use Rattle.std.proofs.lemmas.Grind.{flat_map-append}
 use Rattle.std.proofs.lemmas.List.Elements.{All-contains, All-contains_itself, All-from_recursion, All-weaker, recursion_from_All}
 use Rattle.nz_lists.proofs.Elements.{AllByRecursion-map}
+use Rattle.nz_fractions.specs.Fraction.{first_wide}
 use Rattle.nz_spec.specs.terms.Term.{Assignment, IsTrueUnder, is_true, value_of}
 use Rattle.nz_spec.specs.terms.Term as Term
 use Rattle.nz_spec.specs.terms.Table.{Node, IsTable, assignment_by, term_in}
 use Rattle.nz_spec.specs.search.Decide.{AreModelValues, asserted_numbers, asserted_terms}
 use Rattle.nz_spec.specs.clauses.Literal.{Clause, term_literal, are_same_sign, is_literal_true, is_clause_true, AreTrueLiterals}
-use Rattle.nz_spec.specs.search.Legal.{IsDeadEnd, at_first}
-use Rattle.nz_spec.specs.clauses.Steps.{Step, IsDerivation, DerivationsGrow, Derives}
+use Rattle.nz_spec.specs.terms.Model.{IsUnsatisfiable}
+use Rattle.nz_spec.specs.terms.Form.{Numbering}
+use Rattle.nz_spec.specs.terms.FormOf.{number_in}
+use Rattle.nz_spec.specs.clauses.Steps.{Step, given_step, hold_step, beat_step, gate_step, link_step, unit_step, farkas_step, branch_step, cut_step, resolve_step, asserting, step_operations, IsDerivation, DerivationsGrow, Derives}
 use Rattle.nz_search.specs.declared.decide.Verdict.{Verdict}
 use Rattle.nz_search.specs.declared.decide.Verdict.TheVariants.{Sat, Unsat}
 use Rattle.nz_log.specs.declared.atoms.Atom.{Atom}
@@ -28,7 +31,7 @@ use Rattle.nz_log.specs.Logs.{LogState, Entry, entry_at, IsLive, level_at, liter
 use Rattle.nz_log.specs.Spelling.{AreStepsOf, steps_of}
 use Rattle.nz_log.specs.Sound.{IsLog, live_terms, ClausesAreTrue}
 use Rattle.nz_term.specs.TermLits.{AreNegations, clause_of_terms, literal_of, turned}
-use Rattle.nz_search.specs.Verdicts.{IfSat, IfUnsat, OnUnsat, task_in}
+use Rattle.nz_search.specs.Verdicts.{IfSat, IfUnsat, OnUnsat}
 use Rattle.nz_sat.specs.Conflicts.{Refutes}
 use Rattle.nz_engine.specs.Engines.{literals_in, on_term, on_terms}
 use Rattle.nz_engine.specs.Checking.{IsAnswer}
@@ -51,15 +54,37 @@ live_true ns levels level a h =
     (each_of (IsTrueUnder a) (live_terms ns levels level) (map (term_in ns) (asserted_numbers (drop (suc level) levels)))
     (subst (AllByRecursion (IsTrueUnder a)) (sym (live_front ns levels level)) h)).0
 
+-- the operations of a step are the same whatever is asserted
+same_operations : (number : Numbering) (ts us : List Term.Term) (s : Step) → step_operations number (asserting ts) s ≡ step_operations number (asserting us) s
+same_operations number ts us (given_step k) = refl
+same_operations number ts us (hold_step i from_above) = refl
+same_operations number ts us beat_step = refl
+same_operations number ts us (gate_step t j) = refl
+same_operations number ts us (link_step t j) = refl
+same_operations number ts us (unit_step t j) = refl
+same_operations number ts us (farkas_step ms) = refl
+same_operations number ts us (branch_step ps k) = refl
+same_operations number ts us (cut_step ms) = refl
+same_operations number ts us (resolve_step i j l) = refl
+
+all_operations : (number : Numbering) (ts us : List Term.Term) (steps : List Step) → flat_map (step_operations number (asserting ts)) steps ≡ flat_map (step_operations number (asserting us)) steps
+all_operations number ts us [] = refl
+all_operations number ts us (s ∷ ss) =
+    let first = same_operations number ts us s in
+    let rest = all_operations number ts us ss in
+    λ i. first i ++ rest i
+
 -- what is derived at a level is derived from all that is asserted
 derived_from_all : DerivationsGrow → (ns : List Node) (levels : List (List ℕ)) (level : ℕ) (steps : List Step) (c : Clause)
-    → Derives (live_terms ns levels level) steps c → Derives (asserted_terms ns levels) steps c
+    → Derives (number_in ns) (asserting (live_terms ns levels level)) steps c → Derives (number_in ns) (asserting (asserted_terms ns levels)) steps c
 derived_from_all grow ns levels level steps c d =
+    let number = number_in ns in
+    let live = live_terms ns levels level in
     record {
-      number = d.number;
       front = d.front;
-      derivation = subst (λ ts. IsDerivation d.number ts steps (d.front ++ c ∷ [])) (live_front ns levels level)
-          (grow.asserted d.number (live_terms ns levels level) (map (term_in ns) (asserted_numbers (drop (suc level) levels))) steps (d.front ++ c ∷ []) d.derivation);
+      derivation = subst (λ ts. IsDerivation number (asserting ts) steps (d.front ++ c ∷ [])) (live_front ns levels level)
+          (grow.asserted number (asserting live) (map (term_in ns) (asserted_numbers (drop (suc level) levels))) steps (d.front ++ c ∷ []) d.derivation);
+      fits = ap first_wide (all_operations number (asserted_terms ns levels) live steps) ∙ d.fits;
     }
 
 -- ---- Clauses of negations
@@ -122,12 +147,12 @@ negations_of assumed atoms (Some e) h = (e, refl, of_some (on_terms atoms e.lite
 
 -- so no assignment makes what is asserted and assumed true
 pub dead_end : ClausesAreTrue → (ns : List Node) → IsTable ns → (levels : List (List ℕ)) (log : LogState) → IsLog ns levels log → (assumed : List TermLit) (id : ℕ)
-    → AreNegations assumed (literals_in log id) → IsDeadEnd (task_in ns levels assumed []) at_first
-dead_end law ns table levels log order assumed id h a model holds decided =
+    → AreNegations assumed (literals_in log id) → IsUnsatisfiable (asserted_terms ns levels) (map (literal_of ns) assumed)
+dead_end law ns table levels log order assumed id h a model =
     let e = negations_of assumed log.atoms (entry_at log id) h in
     let c = e.2 in
     let true_there = law ns table levels log order id e.0 e.1 a model.sorts (live_true ns levels e.0.level a model.asserted_hold) in
-    none_true ns a assumed holds c.0 (recursion_from_All (λ (l : TermLit). Contains assumed (turned l)) c.0 c.2)
+    none_true ns a assumed model.assumed_hold c.0 (recursion_from_All (λ (l : TermLit). Contains assumed (turned l)) c.0 c.2)
     (subst (λ d. is_clause_true a d ≡ true) (on_terms_say ns log.atoms e.0.literals c.0 c.1) true_there)
 
 -- ---- Clauses that can be asked for
@@ -140,11 +165,11 @@ clause_says ns log (Some x) c e = on_terms_say ns log.atoms x.literals c e
 
 pub derived : {E : Type 0} → DerivationsGrow → (ns : List Node) (levels : List (List ℕ)) (log : LogState) (id : ℕ) (r : Result (Vec own.Step Global) E) → IsTable ns → IsLog ns levels log
     → IfOk r (λ steps. AreStepsOf log id steps.items)
-    → IfOk r (λ steps. (c : List TermLit) → literals_in log id ≡ Some c → Derives (asserted_terms ns levels) (steps_of ns steps.items) (clause_of_terms ns c))
+    → IfOk r (λ steps. (c : List TermLit) → literals_in log id ≡ Some c → Derives (number_in ns) (asserting (asserted_terms ns levels)) (steps_of ns steps.items) (clause_of_terms ns c))
 derived grow ns levels log id (Ok steps) table order h =
     λ c e.
     derived_from_all grow ns levels (level_at log id) (steps_of ns steps.items) (clause_of_terms ns c)
-    (subst (λ d. Derives (live_terms ns levels (level_at log id)) (steps_of ns steps.items) d) (clause_says ns log (entry_at log id) c e) (h ns levels table order))
+    (subst (λ d. Derives (number_in ns) (asserting (live_terms ns levels (level_at log id))) (steps_of ns steps.items) d) (clause_says ns log (entry_at log id) c e) (h ns levels table order))
 derived grow ns levels log id (Err x) table order h = tt
 
 -- ---- A clause that refutes assumed literals
@@ -196,7 +221,7 @@ refuted_by log assumed there (Err x) h = tt
 
 -- an answer without values
 pub unsat_of : (ns : List Node) (levels : List (List ℕ)) (assumed : List TermLit) (log : LogState) (v : Verdict) → IsAnswer ns levels assumed log v
-    → OnUnsat v (IsDeadEnd (task_in ns levels assumed []) at_first)
+    → OnUnsat v (IsUnsatisfiable (asserted_terms ns levels) (map (literal_of ns) assumed))
 unsat_of ns levels assumed log (Sat ps) h = tt
 unsat_of ns levels assumed log (Unsat id) h = h.0
 

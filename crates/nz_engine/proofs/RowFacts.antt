@@ -18,7 +18,7 @@ use Rattle.nz_spec.specs.clauses.Gates.{holds, fails, list_of, is_boolean_term, 
 use Rattle.nz_spec.specs.clauses.Links.{minus, link_clauses}
 use Rattle.nz_spec.specs.clauses.Literal.{Literal, term_literal, is_at_most, is_below, are_same_literal, Clause, clause_of}
 use Rattle.nz_spec.specs.clauses.Steps as Steps
-use Rattle.nz_spec.specs.clauses.Steps.{step_clause}
+use Rattle.nz_spec.specs.clauses.Steps.{step_clause, asserting}
 use Rattle.nz_spec.specs.terms.Table.{Node, IsTable, term_in}
 use Rattle.nz_spec.specs.terms.Taken.{IsTakenHead, IsTaken}
 use Rattle.nz_spec.specs.clauses.Units.{unit_clauses}
@@ -27,7 +27,7 @@ use Rattle.nz_fractions.proofs.Identities.{neg-nonzero}
 use Rattle.nz_log.specs.declared.atoms.Atom.{Atom}
 use Rattle.nz_log.specs.declared.lits.Lit.{Lit}
 use Rattle.nz_log.specs.Atoms.{clause_in, literal_in}
-use Rattle.nz_log.specs.Axioms.{Axiom, axiom_step, link_of, unit_of, farkas_of, branch_of, cut_of}
+use Rattle.nz_log.specs.Axioms.{Axiom, IsClauseOf, axiom_step, link_of, unit_of, farkas_of, branch_of, cut_of}
 use Rattle.nz_log.specs.Logs.{Origin, assertion_of, gate_of, axiom_of, chain_of, row_term, Entry, LogState, entry_at, literals_at}
 use Rattle.nz_log.specs.Sound.{IsLog, IsMade}
 use Rattle.nz_cform.specs.Covering.{IsRowAt}
@@ -246,11 +246,10 @@ module _ (laws : RowLaws) (ns : List Node) (table : IsTable ns) (levels : List (
     -- the step of an axiom, over the table itself
     step_here : (a : Axiom) (literals : List Lit)
         → ((more : List Node) (later : List Atom) → IsTable (ns ++ more) → ((i : ℕ) (x : Atom) → slice_get log.atoms i ≡ Some x → slice_get later i ≡ Some x)
-        → step_clause (number_in (ns ++ more)) [] [] (axiom_step (ns ++ more) later a) ≡ Some (clause_in (ns ++ more) later literals))
-        → step_clause (number_in ns) [] [] (axiom_step ns log.atoms a) ≡ Some (clause_in ns log.atoms literals)
+        → IsClauseOf (ns ++ more) later a literals)
+        → step_clause (number_in ns) (asserting []) [] (axiom_step ns log.atoms a) ≡ Some (clause_in ns log.atoms literals)
     step_here a literals f =
-        subst (λ (xs : List Node). step_clause (number_in xs) [] [] (axiom_step xs log.atoms a) ≡ Some (clause_in xs log.atoms literals)) (append-nil ns)
-        (f [] log.atoms (subst IsTable (sym (append-nil ns)) table) (λ i x at. at))
+        (subst (λ (xs : List Node). IsClauseOf xs log.atoms a literals) (append-nil ns) (f [] log.atoms (subst IsTable (sym (append-nil ns)) table) (λ i x at. at))).clause
 
     by_origin : (i : ℕ) (e : Entry) (o : Origin) → IsMade ns levels log i e o → row_term o ≡ Some t → Contains e.literals l → Goal
     by_origin i e (assertion_of k) made is has = absurd cc

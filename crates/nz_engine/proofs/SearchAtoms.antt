@@ -1,5 +1,5 @@
 -- A search over what is prepared: its atoms, what they say, and what stays when it has learned.
-use Rattle.std.proofs.Common.{◌≡◌, inl, inr, ℕ, suc, Bool, true, false, not, List, [], ◌∷◌, ◌++◌, get_or, map, Option, Some, None, option_map, Result, Ok, Err, IfOk, refl, sym, ap, subst, ◌∙◌}
+use Rattle.std.proofs.Common.{◌≡◌, inl, inr, ℕ, suc, Bool, true, false, not, List, [], ◌∷◌, ◌++◌, get_or, map, Option, Some, None, option_map, Result, Ok, Err, IfOk, refl, sym, ap, subst, ◌∙◌, ◌⊎◌}
 use Rattle.std.specs.Prelude.{All, Contains, IsSome, slice_get}
 use Rattle.std.specs.List.{AllByRecursion}
 use Rattle.std.proofs.lemmas.Option.{get_or_from_slice_get, slice_get_within}
@@ -13,8 +13,9 @@ use Rattle.nz_spec.specs.terms.Form as spec
 use Rattle.nz_spec.specs.terms.Form.{negated_part}
 use Rattle.nz_spec.specs.terms.FormOf.{number_in}
 use Rattle.nz_spec.specs.clauses.Gates.{is_boolean_term}
-use Rattle.nz_spec.specs.search.Legal.{Task, IsAtom, IsTabled, terms_known, told_literals}
-use Rattle.nz_spec.specs.clauses.Literal.{term_literal, is_at_most, StandOnce}
+use Rattle.nz_spec.specs.search.Search.{Task, terms_known, told_literals}
+use Rattle.nz_spec.specs.search.Atoms.{IsTabled, IsTruth}
+use Rattle.nz_spec.specs.clauses.Literal.{term_literal, is_at_most, StandOnce, Literal}
 use Rattle.nz_spec.specs.terms.Table.{Node, IsTable, term_in}
 use Rattle.nz_spec.specs.terms.Taken.{IsTakenBoolean}
 use Rattle.nz_spec.specs.terms.Term as Term
@@ -51,7 +52,7 @@ use Rattle.nz_reals.specs.Sums.{AreNonzero}
 use Rattle.nz_sat.specs.Numbers.{IsAtomAt, atom_literal}
 use Rattle.nz_sat.specs.Sats as sat
 use Rattle.nz_sat.specs.Sats.{AreNamed, AreOn, HoldsMore, IsAsked, IsSatisfied, IsTheoryMet, truth_of}
-use Rattle.nz_engine.specs.Checking.{AreHanded, AreLearnable, HasFound, HaveAtoms, IsLearnable, IsNonzero, IsPosed, IsReady, MayBegin, terms_named, truth_in}
+use Rattle.nz_engine.specs.Checking.{AreHanded, AreLearnable, HasFound, HaveAtoms, IsLearnable, IsNonzero, IsPosed, IsReady, MayBegin, terms_named, truth_in, IsPlainAtom, AreCoveredAmong}
 use Rattle.nz_engine.specs.Preparing.{PreparedState, AreSearched, IsOfForm, IsPrepared, IsSearched, atoms_of, boolean_terms}
 use Rattle.nz_engine.specs.SearchLaws.{RowLaws, SearchLaws}
 use Rattle.nz_engine.proofs.LevelPreservation.{made_of_more, some_of, some_within, still_searched}
@@ -137,14 +138,14 @@ by_number : (ns : List Node) (ps : List Part) → AreNonzeroParts (parts_over ns
 by_number ns [] h = tt
 by_number ns (p ∷ ps) h = (h.0, by_number ns ps h.1)
 
-tabled_by : (ns : List Node) (q : Task) (t : Term.Term) (ps : List spec.Part) (b : Fraction) (sign : Bool) → Contains q.listed t → IsOfRow (number_in ns) t (with_sign sign (is_at_most ps b))
-    → IsTabled q.listed (is_at_most ps b)
-tabled_by ns q t ps b true listed h =
+tabled_by : (ns : List Node) (us : List Term.Term) (t : Term.Term) (ps : List spec.Part) (b : Fraction) (sign : Bool) → Contains us t → IsOfRow (number_in ns) t (with_sign sign (is_at_most ps b))
+    → IsTabled (number_in ns) us (is_at_most ps b)
+tabled_by ns us t ps b true listed h =
     let k = h.bound refl in
-    record { number = number_in ns; term = t; listed = listed; row = k.row; tabled = k.tabled; has = inl k.has }
-tabled_by ns q t ps b false listed h =
+    record { term = t; listed = listed; row = k.row; tabled = k.tabled; linear = refl; has = inl k.has }
+tabled_by ns us t ps b false listed h =
     let k = h.bound refl in
-    record { number = number_in ns; term = t; listed = listed; row = k.row; tabled = k.tabled; has = inr k.has }
+    record { term = t; listed = listed; row = k.row; tabled = k.tabled; linear = refl; has = inr k.has }
 
 -- the atom of a bound is of no strict one
 normal_bound : (atoms : List Atom) (i : ℕ) (b : Bound) → AreAtoms atoms → slice_get atoms i ≡ Some (AtMost b) → b.strict ≡ false
@@ -238,18 +239,20 @@ module _ (laws : RowLaws) (ns : List Node) (table : IsTable ns) (levels roots : 
           by_number ns b.sides.parts (by_sign (parts_over ns b.sides.parts) b.sides.offset x.bound.literal.sign x.fact.literal)
 
   -- and it may be named, where what is covered is listed
-  module _ (q : Task) (listed : (t : ℕ) → IsSome (covered_at p.form t) → Contains q.listed (term_in ns t)) where
-    pub searched_nameable : (i : ℕ) → IsSearched ns p.log p.form i → IsAtom q (atom_literal ns p.log.atoms i)
+  module _ (us : List Term.Term) (listed : (t : ℕ) → IsSome (covered_at p.form t) → Contains us (term_in ns t)) where
+    abbrev IsNameable : Literal → Type 0
+    IsNameable l = IsTruth us l ⊎ IsTabled (number_in ns) us l
+
+    pub searched_nameable : (i : ℕ) → IsSearched ns p.log p.form i → IsTruth us (atom_literal ns p.log.atoms i) ⊎ IsTabled (number_in ns) us (atom_literal ns p.log.atoms i)
     searched_nameable i s = by_atom s.atom s.at s.of
       where
-        by_atom : (a : Atom) → slice_get p.log.atoms i ≡ Some a → IsOfForm ns p.form i a → IsAtom q (atom_literal ns p.log.atoms i)
+        by_atom : (a : Atom) → slice_get p.log.atoms i ≡ Some a → IsOfForm ns p.form i a → IsNameable (atom_literal ns p.log.atoms i)
         by_atom (Term t) at of =
-            let is : atom_literal ns p.log.atoms i ≡ term_literal (term_in ns t) true = literal_at_atom ns p.log.atoms (record { atom = i; sign = true }) (Term t) at in
-            subst (IsAtom q) (sym is) (refl, of.1, listed t of.0)
+            inl (record { term = term_in ns t; boolean = of.1; listed = listed t of.0; is = literal_at_atom ns p.log.atoms (record { atom = i; sign = true }) (Term t) at })
         by_atom (AtMost b) at of =
             let x = bound_of_row i b at of in
-            subst (IsAtom q) (sym (bound_in_log ns p.log.atoms (record { atom = i; sign = true }) b at (normal_bound p.log.atoms i b ready.order.atoms at)))
-            (tabled_by ns q (term_in ns x.bound.term) (parts_over ns b.sides.parts) b.sides.offset x.bound.literal.sign (listed x.bound.term x.covered) x.fact)
+            subst IsNameable (sym (bound_in_log ns p.log.atoms (record { atom = i; sign = true }) b at (normal_bound p.log.atoms i b ready.order.atoms at)))
+            (inr (tabled_by ns us (term_in ns x.bound.term) (parts_over ns b.sides.parts) b.sides.offset x.bound.literal.sign (listed x.bound.term x.covered) x.fact))
 
 -- ---- The atoms of a search
 
@@ -315,23 +318,27 @@ module _ (ns : List Node) (p : PreparedState) (own : AtomsOfTerms) (are : AreAto
 
 -- ---- A search that is handed its atoms
 
+-- what is covered is listed in what is asked
+pub covered_among : {ns : List Node} {levels : List (List ℕ)} {assumed : List TermLit} {p : PreparedState} → IsPosed ns levels assumed p → AreCoveredAmong ns p (task_in ns levels assumed []).listed
+covered_among {ns} {levels} {assumed} {p} posed t some =
+    let ready = posed.standing.raised in
+    let k = some_of (covered_at p.form t) some in
+    let roots = asserted_numbers levels ++ terms_named assumed in
+    let all = asserted_numbers (levels ++ terms_named assumed ∷ []) in
+    let into : (r : ℕ) → Contains (live_at (levels ++ terms_named assumed ∷ []) k.0) r → Contains roots r = λ r has.
+    let place = place_of (live_at (levels ++ terms_named assumed ∷ []) k.0) r has in
+    subst (λ xs. Contains xs r) (all_roots levels (terms_named assumed))
+    (has_found all place.0 r (in_all (levels ++ terms_named assumed ∷ []) (suc k.0) place.0 r place.1)) in
+    let of = made_of_more ns (live_at (levels ++ terms_named assumed ∷ []) k.0) roots t into (ready.made t k.0 k.1) in
+    listed_part ns levels assumed of.root of.has (term_in ns t) of.part
+
 module _ (laws : RowLaws) (own : AtomsOfTerms) {ns : List Node} {levels : List (List ℕ)} {assumed : List TermLit} {p : PreparedState} (posed : IsPosed ns levels assumed p)
     {ids : List ℕ} {lits : List Lit} (n : AreHanded ns p assumed ids lits) where
   abbrev ready : IsPrepared ns levels (levels ++ terms_named assumed ∷ []) p
   ready = posed.standing.raised
 
-  -- what is covered is listed in what is asked
   covered_listed : (t : ℕ) → IsSome (covered_at p.form t) → Contains (task_in ns levels assumed []).listed (term_in ns t)
-  covered_listed t some =
-      let k = some_of (covered_at p.form t) some in
-      let roots = asserted_numbers levels ++ terms_named assumed in
-      let all = asserted_numbers (levels ++ terms_named assumed ∷ []) in
-      let into : (r : ℕ) → Contains (live_at (levels ++ terms_named assumed ∷ []) k.0) r → Contains roots r = λ r has.
-      let place = place_of (live_at (levels ++ terms_named assumed ∷ []) k.0) r has in
-      subst (λ xs. Contains xs r) (all_roots levels (terms_named assumed))
-      (has_found all place.0 r (in_all (levels ++ terms_named assumed ∷ []) (suc k.0) place.0 r place.1)) in
-      let of = made_of_more ns (live_at (levels ++ terms_named assumed ∷ []) k.0) roots t into (ready.made t k.0 k.1) in
-      listed_part ns levels assumed of.root of.has (term_in ns t) of.part
+  covered_listed = covered_among posed
 
   bound_at : (i : ℕ) → IsSome (listed_at p.form.bounds i) → (b : Bound) × (slice_get p.log.atoms i ≡ Some (AtMost b))
   bound_at i some =
@@ -367,10 +374,11 @@ module _ (laws : RowLaws) (own : AtomsOfTerms) {ns : List Node} {levels : List (
       let q = task_in ns levels assumed ts in
       record {
         over = posed.over;
+        numbering = refl;
         rest = restart.more p.sat.theory ns ts (terms_known q) (λ t c. Contains-append_left ts q.listed t c) rest;
         within = ids_within;
-        nameable = All-weaker (IsSearched ns p.log p.form) (λ i. IsAtom q (atom_literal ns p.log.atoms i))
-            (searched_nameable laws ns posed.table levels (levels ++ terms_named assumed ∷ []) p ready q covered_listed) ids ids_searched;
+        nameable = All-weaker (IsSearched ns p.log p.form) (λ i. IsPlainAtom q (atom_literal ns p.log.atoms i))
+            (searched_nameable laws ns posed.table levels (levels ++ terms_named assumed ∷ []) p ready q.listed covered_listed) ids ids_searched;
         once = ids_once;
         atoms = ready.order.atoms;
       }
@@ -404,15 +412,15 @@ module _ (laws : RowLaws) (own : AtomsOfTerms) {ns : List Node} {levels : List (
   pub are_consistent : AreConsistent assumed → sat.AreConsistent lits
   are_consistent apart = subst sat.AreConsistent (sym n.on_atoms) (consistent_lits p.log.atoms assumed n.there.named apart)
 
-  pub is_asked : (ts : List Term.Term) → IsAsked ns levels p.log ids lits (task_in ns levels assumed ts)
-  is_asked ts =
+  pub is_asked : (ts : List Term.Term) (work : WorkList Note) → (search_after ns work).under ≡ map (literal_of ns) assumed → IsAsked ns levels p.log ids lits work (task_in ns levels assumed ts)
+  is_asked ts work under =
       record {
         table = posed.table;
         within = ids_within;
         named = lits_among;
         order = ready.order;
         asserted = refl;
-        assumed_literals = sym (says ns p.log.atoms assumed n.there.named) ∙ ap (map (literal_in ns p.log.atoms)) (sym n.on_atoms);
+        under = under ∙ sym (says ns p.log.atoms assumed n.there.named) ∙ ap (map (literal_in ns p.log.atoms)) (sym n.on_atoms);
       }
 
   -- ---- In a log that grows

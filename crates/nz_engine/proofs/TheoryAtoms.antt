@@ -5,7 +5,8 @@ use Rattle.std.proofs.lemmas.List.{map-append, take_more}
 use Rattle.std.proofs.lemmas.Option.{get_or_from_slice_get, slice_get-get_or, slice_get_within}
 use Rattle.std.proofs.lemmas.List.Elements.{All-contains, All-from_get_or, All-take, Contains-get_or, recursion_from_All}
 use Rattle.nz_lists.proofs.Members.{has_found, map_has}
-use Rattle.nz_spec.specs.search.Legal.{Task, terms_known}
+use Rattle.nz_spec.specs.search.Search.{Task, no_point, terms_known}
+use Rattle.nz_spec.specs.laws.LegalWork.{LegalWorkGoesOn}
 use Rattle.nz_spec.specs.clauses.Literal.{TellsLiterals}
 use Rattle.nz_spec.specs.terms.Table.{Node}
 use Rattle.nz_spec.specs.search.Work.{WorkLine, WorkList, NoteLine, with_line}
@@ -17,16 +18,16 @@ use Rattle.nz_search.specs.declared.stop.Stop.{Stop}
 use Rattle.nz_search.specs.declared.stop.Stop.TheVariants.{Memory, Spent}
 use Rattle.nz_log.specs.Atoms.{IsAtomIn, IsLitIn, TellsLits}
 use Rattle.nz_search.specs.Notes.{forms_over}
-use Rattle.nz_search.specs.Standing.{Stands}
+use Rattle.nz_search.specs.Standing.{Stands, search_after}
 use Rattle.nz_reals.specs.Joins.{IsAtomFor, IsNumberIn, MayLearn, NotesForm}
 use Rattle.nz_reals.specs.Stands.{HasTold, IsAt, IsKnownAtom, IsOf, IsOver}
 use Rattle.nz_reals.specs.Starts.{MayRestart, NotesStart}
 use Rattle.nz_reals.specs.State.{Theory}
 use Rattle.nz_sat.specs.Numbers.{IsAtomAt}
-use Rattle.nz_engine.specs.Checking.{AreLearnable, AreNumbered, BeginsAnew, EndsWith, HasBegun, IsLearnable, IsNonzero, MayBegin, NotesFirst, NotesForms, atom_lines, form_lines}
+use Rattle.nz_engine.specs.Checking.{AreLearnable, AreNumbered, BeginsAnew, EndsWith, HasBegun, IsLearnable, IsNonzero, IsPlain, MayBegin, NotesFirst, NotesForms, atom_lines, form_lines}
 use Rattle.nz_engine.specs.Joining.{AreNumbersBelow}
-use Rattle.nz_engine.proofs.CheckEnds.{legal_none}
-use Rattle.nz_engine.proofs.AtomNotes.{atoms_no_unit, atoms_within, begun_more, begun_none, forms_no_unit, forms_within, legal_first, notes_all, numbered_first, numbered_still, stands_named, started}
+use Rattle.nz_engine.proofs.CheckEnds.{lead_none, plain_none}
+use Rattle.nz_engine.proofs.AtomNotes.{atoms_no_unit, atoms_within, begun_more, begun_none, forms_no_unit, forms_within, leads_first, notes_all, numbered_first, numbered_still, plain_all, plain_first, plain_still, stands_named, started}
 
 -- the atoms of these places
 abbrev pub atoms_at : List ℕ → List ℕ → List ℕ
@@ -139,11 +140,12 @@ restart_stops all ids t new work none =
       begun = begun_none t all ids work none;
       noted = tt;
       stands = tt;
-      stopped = λ ns q may. legal_none q ns work none;
+      stopped = λ ns q may. (no_point, lead_none q ns work none);
+      plain = λ ns q may. plain_none q ns work none;
       unspent = λ e. cc;
     }
 
-module _ (tells : TellsLits) (tells_spec : TellsLiterals) (all : List Atom) (ids : List ℕ) (learnable : (t : Theory) × AreLearnable t all ids) (t first : Theory) (work mid : WorkList Note) (none : work.lines ≡ [])
+module _ (goes_on : LegalWorkGoesOn) (tells : TellsLits) (tells_spec : TellsLiterals) (all : List Atom) (ids : List ℕ) (learnable : (t : Theory) × AreLearnable t all ids) (t first : Theory) (work mid : WorkList Note) (none : work.lines ≡ [])
     (n : NotesStart t work mid) (stands : (ns : List Node) (q : Task) → IsOver t ns → MayRestart t ns (terms_known q) → Stands (IsAt first ns) ns q mid) where
   stood : (ns : List Node) (q : Task) → MayBegin t ns q all ids → Stands (IsAt first ns) ns q mid
   stood ns q may = stands ns q may.over may.rest
@@ -164,9 +166,14 @@ module _ (tells : TellsLits) (tells_spec : TellsLiterals) (all : List Atom) (ids
         noted = tt;
         stands = tt;
         stopped = λ ns q may.
-            let h = stood ns q may in
-            legal_first tells tells_spec ns may.over.table all may.atoms mid (forms_over ns n.start.forms.items) (started ns t work mid none n) t q ids may after f.count
-            (ap (λ (w : WorkList Note). w.lines) f.noted) h.point h.legal;
+            let h = stood ns q may in (
+              h.point,
+              leads_first goes_on tells tells_spec ns may.over.table all may.atoms mid (forms_over ns n.start.forms.items) (started ns t work mid none n) t q ids may after f.count
+                  (ap (λ (w : WorkList Note). w.lines) f.noted) h.point h.legal,
+            );
+        plain = λ ns q may.
+            plain_first goes_on tells tells_spec ns may.over.table all may.atoms mid (forms_over ns n.start.forms.items) (started ns t work mid none n) t q ids may after f.count
+            (ap (λ (w : WorkList Note). w.lines) f.noted);
         unspent = λ e. cc;
       }
 
@@ -186,13 +193,19 @@ module _ (tells : TellsLits) (tells_spec : TellsLiterals) (all : List Atom) (ids
 
     names_lead : (ns : List Node) (q : Task) → MayBegin t ns q all ids → Stands (IsAt first ns) ns q names
     names_lead ns q may =
-        stands_named tells tells_spec ns may.over.table all may.atoms mid (forms_over ns n.start.forms.items) (started ns t work mid none n) t q ids may names first
+        stands_named goes_on tells tells_spec ns may.over.table all may.atoms mid (forms_over ns n.start.forms.items) (started ns t work mid none n) t q ids may names first
         (ap (λ (w : WorkList Note). w.lines) named) (stood ns q may)
 
     numbered : (ns : List Node) (q : Task) → MayBegin t ns q all ids → AreNumbered ns all ids names
     numbered ns q may =
-        numbered_first tells tells_spec ns may.over.table all may.atoms mid (forms_over ns n.start.forms.items) (started ns t work mid none n) t q ids may names
+        numbered_first goes_on tells tells_spec ns may.over.table all may.atoms mid (forms_over ns n.start.forms.items) (started ns t work mid none n) t q ids may names
         (ap (λ (w : WorkList Note). w.lines) named)
+
+    names_plain : (ns : List Node) (q : Task) → MayBegin t ns q all ids → IsPlain q (search_after ns after)
+    names_plain ns q may =
+        plain_still ns q names after forms
+        (plain_all goes_on tells tells_spec ns may.over.table all may.atoms mid (forms_over ns n.start.forms.items) (started ns t work mid none n) t q ids may names
+        (ap (λ (w : WorkList Note). w.lines) named))
 
     within_log : All (λ i. i < length all) ids
     within_log k d below = let s = (learnable.1.each k d below).within in slice_get_within all _ s.atom s.at
@@ -211,6 +224,7 @@ module _ (tells : TellsLits) (tells_spec : TellsLiterals) (all : List Atom) (ids
           noted = notes_all all ids forms.forms n.start after within_log lines_all;
           stands = λ ns q may. ok ns q may.within (numbered ns q may) (names_lead ns q may);
           stopped = tt;
+          plain = names_plain;
           unspent = tt;
         }
     sums_joined (Err e) kept untold of over ok err unspent =
@@ -222,5 +236,6 @@ module _ (tells : TellsLits) (tells_spec : TellsLiterals) (all : List Atom) (ids
           noted = tt;
           stands = tt;
           stopped = λ ns q may. err ns q may.within (numbered ns q may) (names_lead ns q may);
+          plain = names_plain;
           unspent = unspent;
         }

@@ -1,5 +1,7 @@
 -- A check: its atoms, its answer, its work, and where it stopped.
-use Rattle.std.specs.Prelude.{◌≡◌, ℕ, ◌<◌, ◌≤◌, ◌++◌, Bool, List, [], ◌∷◌, length, All, Contains, Option, Some, None, IsSome, if◌then◌else◌, map, option_map, slice_get, slice_index_or, take, IfErr, OnOk, Result, ⊤}
+use Rattle.std.specs.Prelude.{◌≡◌, ◌⊎◌, ℕ, ◌<◌, ◌≤◌, ◌++◌, Bool, true, List, [], ◌∷◌, length, All, Contains, Option, Some, None, IsSome, if◌then◌else◌, flat_map, map, option_map, slice_get, slice_index_or, take, IfErr, OnOk, Result, ⊤}
+use Rattle.std.specs.declared.vec.Vec.{Vec}
+use Rattle.std.specs.declared.alloc.Global.{Global}
 use Rattle.nz_spec.specs.terms.Term as spec_term
 use Rattle.nz_spec.specs.terms.Term.{Head, constant, Value, is_bool, truth}
 use Rattle.nz_spec.specs.terms.Table.{Node, IsTable, term_in, assignment_by}
@@ -8,10 +10,14 @@ use Rattle.nz_spec.specs.search.Decide.{asserted_numbers, asserted_terms, AreMod
 use Rattle.nz_spec.specs.terms.Form as form
 use Rattle.nz_spec.specs.clauses.Literal as spec
 use Rattle.nz_spec.specs.clauses.Literal.{AreTrueLiterals, StandOnce}
-use Rattle.nz_spec.specs.search.Legal.{Task, at_first, IsAtom, IsDeadEnd, AreLegal, terms_known}
+use Rattle.nz_spec.specs.terms.FormOf.{number_in}
+use Rattle.nz_spec.specs.terms.Model.{IsUnsatisfiable}
+use Rattle.nz_spec.specs.search.Search.{Task, Search, at_first, no_point, terms_known}
+use Rattle.nz_spec.specs.search.Atoms.{IsTabled, IsTruth}
+use Rattle.nz_spec.specs.search.Legal.{Lead}
 use Rattle.nz_spec.specs.search.Places.{IsStoppedLegally}
 use Rattle.nz_spec.specs.terms.Taken.{IsTakenBoolean}
-use Rattle.nz_spec.specs.search.Work.{WorkLine, NoteLine, WorkList, unit_count}
+use Rattle.nz_spec.specs.search.Work.{WorkLine, NoteLine, WorkList, unit_count, with_line}
 use Rattle.nz_search.specs.declared.decide.Verdict.{Verdict}
 use Rattle.nz_search.specs.declared.decide.Verdict.TheVariants.{Sat, Unsat}
 use Rattle.nz_log.specs.declared.atoms.Atom as log
@@ -24,8 +30,8 @@ use Rattle.nz_search.specs.declared.stop.Stop.TheVariants.{Wide, Spent, Memory}
 use Rattle.nz_term.specs.declared.term_lits.TermLit.{TermLit}
 use Rattle.nz_log.specs.Atoms.{AreAtoms, HasTerm, lits_of, term_place}
 use Rattle.nz_log.specs.Logs.{LogState}
-use Rattle.nz_place.specs.Places.{IsPlaceIn, IsSiteWithin, place_of}
-use Rattle.nz_search.specs.Standing.{IsStoppedAt, Stands}
+use Rattle.nz_place.specs.Places.{IsSiteWithin, place_of}
+use Rattle.nz_search.specs.Standing.{IsStoppedAt, IsWanting, Stands, search_after}
 use Rattle.nz_term.specs.TermLits.{literal_of, AreNegations}
 use Rattle.nz_search.specs.Verdicts.{task_in}
 use Rattle.nz_search.specs.declared.note.Note.{Note}
@@ -34,13 +40,16 @@ use Rattle.nz_search.specs.Notes.{noted_list, AreNotedWithin}
 use Rattle.nz_cform.specs.Forms.{covered_at}
 use Rattle.nz_cform.specs.Listings.{IsListing}
 use Rattle.nz_cform.specs.Stops.{IsStopIn}
+use Rattle.nz_reals.specs.Chosen.{HasWorths}
+use Rattle.nz_reals.specs.Constants.{is_marked}
 use Rattle.nz_reals.specs.Exclusions.{HasNeighbours}
-use Rattle.nz_reals.specs.Joins.{IsNumberIn}
+use Rattle.nz_reals.specs.Joins.{IsNumberIn, IsStoppedJoining}
+use Rattle.nz_reals.specs.Limits.{IsPlaceOfValues}
 use Rattle.nz_reals.specs.Stands.{HasTold, IsAt, IsFeasible, IsOf, IsOver}
 use Rattle.nz_reals.specs.Starts.{MayRestart}
 use Rattle.nz_reals.specs.State.{Theory}
 use Rattle.nz_reals.specs.Sums.{AreNonzero}
-use Rattle.nz_sat.specs.Numbers.{AreBeginnings, AreNotedIn, IsAtomAt, atom_literal}
+use Rattle.nz_sat.specs.Numbers.{AreNotedIn, IsAtomAt, atom_literal}
 use Rattle.nz_sat.specs.Sats.{IsSatisfied, IsTheoryMet, truth_of}
 use Rattle.nz_engine.specs.Engines.{literals_in}
 use Rattle.nz_engine.specs.Levels.{count_of}
@@ -94,6 +103,32 @@ pub record MaySearch (ns : List Node) (levels : List (List ℕ)) (assumed : List
   pub posed : IsPosed ns levels assumed p
   pub rest : MayRestart p.sat.theory ns ts
 
+-- ---- A search of terms and their tables
+
+-- an atom of what is listed: that a Boolean term is true, or a bound of the tables
+abbrev pub IsPlainAtom : Task → spec.Literal → Type 0
+IsPlainAtom q l = IsTruth q.listed l ⊎ IsTabled q.numbering q.listed l
+
+-- All atoms are of what is listed, and at most one search began.
+pub record IsPlain (q : Task) (s : Search) : Type 0 where
+  pub atoms : All (IsPlainAtom q) s.atoms
+  pub begun : s.begun ≤ 1
+
+-- No search began yet, and nothing was decided, learned or told.
+pub record IsUnbegun (s : Search) : Type 0 where
+  pub begun : s.begun ≡ 0
+  pub decided : s.decided ≡ []
+  pub learned : s.learned ≡ []
+  pub told : s.told ≡ []
+
+-- One search began, which goes under these literals, and nothing was decided, learned or told.
+pub record HasGoneUnder (ls : List spec.Literal) (s : Search) : Type 0 where
+  pub begun : s.begun ≡ 1
+  pub under : s.under ≡ ls
+  pub decided : s.decided ≡ []
+  pub learned : s.learned ≡ []
+  pub told : s.told ≡ []
+
 -- ---- Notes
 
 -- the note of an atom
@@ -127,10 +162,21 @@ pub record HasBegun (t : Theory) (all : List log.Atom) (ids : List ℕ) (old new
   pub units : unit_count new.lines ≡ 0
   pub limit : new.limit ≡ old.limit
 
--- The list names these atoms, in this order, and notes nothing else but forms.
+-- The list names these atoms, in this order, and no search began yet.
 pub record NotesAll (all : List log.Atom) (ids : List ℕ) (work : WorkList Note) : Type 0 where
   pub noted : AreNotedIn all work.lines ids
-  pub beginnings : AreBeginnings work.lines
+  pub unbegun : (ns : List Node) → IsUnbegun (search_after ns work)
+
+-- the list with the note more that a search goes under these literals
+pub record NotesUnder (ls : List TermLit) (old new : WorkList Note) : Type 0 where
+  pub literals : Vec TermLit Global
+  pub items : literals.items ≡ ls
+  pub line : new ≡ with_line old (NoteLine (notes.Under literals))
+
+-- The list names these atoms, in this order, and a search began that goes under these literals.
+pub record GoesUnder (all : List log.Atom) (ids : List ℕ) (ls : List TermLit) (work : WorkList Note) : Type 0 where
+  pub noted : AreNotedIn all work.lines ids
+  pub under : (ns : List Node) → HasGoneUnder (map (literal_of ns) ls) (search_after ns work)
 
 -- the list knows each of these atoms by its place
 abbrev pub AreNumbered : List Node → List log.Atom → List ℕ → WorkList Note → Type 0
@@ -157,17 +203,18 @@ pub record AreLearnable (t : Theory) (all : List log.Atom) (ids : List ℕ) : Ty
 -- A search is asked over these atoms, which it may name, each once, in the table. It may begin with the theory, where it stands.
 pub record MayBegin (t : Theory) (ns : List Node) (q : Task) (all : List log.Atom) (ids : List ℕ) : Type 0 where
   pub over : IsOver t ns
+  pub numbering : q.numbering ≡ number_in ns
   pub rest : MayRestart t ns (terms_known q)
   pub within : All (IsAtomAt ns all) ids
-  pub nameable : All (λ i. IsAtom q (atom_literal ns all i)) ids
+  pub nameable : All (λ i. IsPlainAtom q (atom_literal ns all i)) ids
   pub once : StandOnce ids
   pub atoms : AreAtoms all
 
--- what is known of a list where a stop came
+-- what is known of a list where a stop came: at the row of a form that joins, in a search, or for want of a unit or of memory
 abbrev pub EndsWith : List Node → Task → WorkList Note → Stop → Type 0
-EndsWith ns q work (Wide place) = IsStoppedAt ns q work place
-EndsWith ns q work Spent = AreLegal q (noted_list ns work).lines
-EndsWith ns q work Memory = AreLegal q (noted_list ns work).lines
+EndsWith ns q work (Wide place) = IsStoppedJoining ns q work place ⊎ IsStoppedAt ns q work place
+EndsWith ns q work Spent = IsWanting ns q work
+EndsWith ns q work Memory = (point : Point) × Lead q at_first no_point (noted_list ns work).lines point
 
 -- What comes of a theory that begins anew and learns of these atoms, where the list had no line.
 pub record BeginsAnew (all : List log.Atom) (ids : List ℕ) (old new : Theory) (before after : WorkList Note) (result : Result (Unit {0}) Stop) : Type 0 where
@@ -178,18 +225,20 @@ pub record BeginsAnew (all : List log.Atom) (ids : List ℕ) (old new : Theory) 
   pub noted : OnOk result (NotesAll all ids after)
   pub stands : OnOk result ((ns : List Node) (q : Task) → MayBegin old ns q all ids → Stands (IsAt new ns) ns q after)
   pub stopped : IfErr result (λ e. (ns : List Node) (q : Task) → MayBegin old ns q all ids → EndsWith ns q after e)
+  pub plain : (ns : List Node) (q : Task) → MayBegin old ns q all ids → IsPlain q (search_after ns after)
   pub unspent : IfErr result (λ e. e ≡ Spent → ⊥)
 
 -- All has been done that comes before a search over these atoms and literals, which may begin over the levels over which it might have before: the theory has
--- learned of the atoms, of which the list tells, and stands where the list leads.
+-- learned of the atoms, of which the list tells, and stands where the list leads, which goes under what is assumed.
 pub record IsBegun (ns : List Node) (assumed : List TermLit) (old p : PreparedState) (ids : List ℕ) (lits : List Lit) (work : WorkList Note) : Type 0 where
   pub laws : SearchLaws
   pub ready : IsReady ns assumed old p ids lits
   pub of : IsOf p.sat.theory p.log.atoms ids
   pub untold : HasTold p.sat.theory []
-  pub notes : NotesAll p.log.atoms ids work
+  pub notes : GoesUnder p.log.atoms ids assumed work
   pub neighbours : HasNeighbours p.sat.theory p.log ids (ids_held p.sat.clauses)
   pub stands : (levels : List (List ℕ)) (ts : List spec_term.Term) → MaySearch ns levels assumed ts old → Stands (IsAt p.sat.theory ns) ns (task_in ns levels assumed ts) work
+  pub plain : (levels : List (List ℕ)) (ts : List spec_term.Term) → MaySearch ns levels assumed ts old → IsPlain (task_in ns levels assumed ts) (search_after ns work)
 
 -- an operation of a term that this one is made of left the numbers
 pub record IsTermPlace (ns : List Node) (root : spec_term.Term) (place : Place) : Type 0 where
@@ -249,9 +298,24 @@ pub record IsStop (ns : List Node) (q : Task) (work : WorkList Note) (place : Pl
   pub within : IsSiteWithin ns place.site
   pub legally : IsStoppedLegally q (noted_list ns work) (place_of ns place)
 
--- an operation of the theory left the numbers, wherever it stands
-abbrev pub IsStopOf : List Node → Theory → Place → Type 0
-IsStopOf ns t place = (fs : List (List form.Part)) (ls : List spec.Literal) (x : Point) → IsAt t ns fs ls x → IsPlaceIn ns fs ls x place
+-- an operation of the values of these terms' constants left the numbers, wherever the theory stands
+abbrev pub IsStopOf : List Node → List spec_term.Term → Theory → Place → Type 0
+IsStopOf ns ts t place = (fs : List (List form.Part)) (ls : List spec.Literal) (x : Point) → IsAt t ns fs ls x → IsPlaceOfValues ns ts fs ls x place
+
+-- the terms that are covered are among these
+abbrev pub AreCoveredAmong : List Node → PreparedState → List spec_term.Term → Type 0
+AreCoveredAmong ns p ts = (i : ℕ) → IsSome (covered_at p.form i) → Contains ts (term_in ns i)
+
+-- The marked numbers are these.
+pub record AreMarksOf (ts : List ℕ) (marks : List Bool) : Type 0 where
+  pub right : (i : ℕ) → is_marked marks i ≡ true → Contains ts i
+  pub all : (i : ℕ) → Contains ts i → is_marked marks i ≡ true
+
+-- Behind the truths stand values of the covered constants, by the worths of a theory.
+pub record HasCoveredWorths (ns : List Node) (p : PreparedState) (ps : List (ℕ × Value)) : Type 0 where
+  pub marks : List Bool
+  pub marked : AreMarksOf p.form.terms.ids marks
+  pub worths : HasWorths p.sat.theory ns marks (flat_map (value_at ns p) p.form.terms.ids) ps
 
 -- ---- Answers
 
@@ -260,4 +324,4 @@ abbrev pub IsAnswer : List Node → List (List ℕ) → List TermLit → LogStat
 IsAnswer ns levels assumed log (Sat ps) =
     AreModelValues ns (asserted_terms ns levels) [] ps × AreTrueLiterals (assignment_by ns ps) (map (literal_of ns) assumed)
 IsAnswer ns levels assumed log (Unsat id) =
-    IsDeadEnd (task_in ns levels assumed []) at_first × AreNegations assumed (literals_in log id)
+    IsUnsatisfiable (asserted_terms ns levels) (map (literal_of ns) assumed) × AreNegations assumed (literals_in log id)

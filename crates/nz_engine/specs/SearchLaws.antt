@@ -1,4 +1,5 @@
 -- The laws that a search over what is prepared rests on.
+use Rattle.nz_spec.specs.laws.LegalWork.{LegalWorkGoesOn}
 use Rattle.nz_spec.specs.terms.FormOf.{FormsAreSums}
 use Rattle.nz_spec.specs.terms.WellSorted.{OperandsAreSorted}
 use Rattle.nz_log.specs.Atoms.{AtomsOfTerms}
@@ -15,3 +16,4 @@ pub record SearchLaws : Type 0 where
   pub atoms : AtomsOfTerms
   pub covers : CoversStay
   pub restart : TheoriesRestart
+  pub goes_on : LegalWorkGoesOn

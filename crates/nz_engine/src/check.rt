@@ -1,13 +1,13 @@
 //! A check, over what is kept from the one before.
 ghost use Rattle.std.specs.Prelude.{◌≡◌, ◌++◌, ℕ, [], All, List, length, map, take, IfErr, IfOk};
 ghost use Rattle.nz_spec.specs.search.Decide.{AreInTable, AreModelValues, IsFrontOfTable, asserted_numbers, asserted_terms};
-ghost use Rattle.nz_spec.specs.search.Legal.{AreLegal, terms_known};
+ghost use Rattle.nz_spec.specs.search.Legal.{AreLegal, IsSpentLegally};
+ghost use Rattle.nz_spec.specs.search.Search.{terms_known};
 ghost use Rattle.nz_spec.specs.clauses.Literal.{AreTrueLiterals};
 ghost use Rattle.nz_spec.specs.terms.Order.{HasCompanions};
 ghost use Rattle.nz_spec.specs.terms.Table.{Node, assignment_by, term_in};
 ghost use Rattle.nz_spec.specs.terms.Taken.{IsTakenBoolean};
 ghost use Rattle.nz_spec.specs.terms.Term as spec;
-ghost use Rattle.nz_spec.specs.search.Work.{IsSpent};
 ghost use Rattle.nz_term.specs.declared.term_lits.TermLit.{TermLit};
 ghost use Rattle.nz_search.specs.declared.stop.Stop.TheVariants as stop;
 ghost use Rattle.nz_search.specs.Notes.{noted_list};
@@ -17,7 +17,7 @@ ghost use Rattle.nz_term.specs.TermLits.{AreConsistent, AreOfTerms, literal_of};
 ghost use Rattle.nz_search.specs.Verdicts.{OnSpent, task_in};
 ghost use Rattle.nz_cform.specs.Covering.{Covers};
 ghost use Rattle.nz_reals.specs.Starts.{MayRestart};
-ghost use Rattle.nz_engine.specs.Checking.{HasFound, IsAnswer, IsPosed, IsRootStop, IsStop, IsStopOf, Works, terms_named};
+ghost use Rattle.nz_engine.specs.Checking.{AreCoveredAmong, HasFound, IsAnswer, IsPosed, IsRootStop, IsStop, IsStopOf, Works, terms_named};
 ghost use Rattle.nz_engine.specs.Engines.{IsKept, IsLow, IsReadied, nothing_kept, theory_of};
 ghost use Rattle.nz_engine.specs.Preparing.{IsPrepared};
 
@@ -29,9 +29,10 @@ use nz_log::laws::{atoms_of_terms, clauses_are_true, logs_stay, logs_stay_levele
 use nz_reals::Reals;
 use nz_reals::laws::theories_restart;
 use nz_search::{Note, Stop, Verdict};
-use nz_spec::deciding::tables_decide;
+use nz_spec::deciding::{tables_decide, taken_terms_are_in_order};
 use nz_spec::form::term_has_its_number;
 use nz_spec::table::{assigns_by_number, term_of_node, term_stays};
+use nz_spec::work::{pivots_are_legal, plain_work_is_legal};
 use nz_term::{Assign, TermLit, Terms, known_table};
 use std::alloc::Global;
 use std::mem;
@@ -153,7 +154,7 @@ fn model(alloc: Global, terms: &Terms, prepared: &Prepared) -> Result<Assign, St
     requires covers { Covers terms.now prepared.now.log prepared.now.form }
     requires found { (assumed : List TermLit) × HasFound terms.now assumed prepared.now }
     ensures model { IfOk result (λ ps. (levels : List (List ℕ)) (assumed : List TermLit) → IsPosed terms.now levels assumed prepared.now → HasFound terms.now assumed prepared.now → AreModelValues terms.now (asserted_terms terms.now levels) [] ps × AreTrueLiterals (assignment_by terms.now ps) (map (literal_of terms.now) assumed)) }
-    ensures place { IfErr result (λ e. OnWide e (IsStopOf terms.now prepared.now.sat.theory)) }
+    ensures place { (ts : List spec.Term) → AreCoveredAmong terms.now prepared.now ts → IfErr result (λ e. OnWide e (IsStopOf terms.now ts prepared.now.sat.theory)) }
     ensures unspent { IfErr result (λ e. e ≡ stop.Spent → ⊥) }
 {
     term_of_node();
@@ -161,6 +162,7 @@ fn model(alloc: Global, terms: &Terms, prepared: &Prepared) -> Result<Assign, St
     term_has_its_number();
     rows_meet_tables();
     tables_decide();
+    taken_terms_are_in_order();
     atoms_of_terms();
     prepared.values(alloc, terms)
 }
@@ -193,12 +195,14 @@ pub fn decide(
     ensures legal { (ts : List spec.Term) → MayRestart (theory_of kept) terms.now ts → AreLegal (task_in terms.now levels.now assumed.now ts) (noted_list terms.now work.new).lines }
     ensures begins { IfOk result (λ f. (ts : List spec.Term) → MayRestart (theory_of kept) terms.now ts → MayRestart f.prepared.sat.theory terms.now (terms_known (task_in terms.now levels.now assumed.now ts))) }
     ensures works { Works terms.now work.old work.new }
-    ensures spent { IfErr result (λ s. OnSpent s (IsSpent work.new)) }
+    ensures spent { IfErr result (λ s. OnSpent s ((ts : List spec.Term) → MayRestart (theory_of kept) terms.now ts → IsSpentLegally (task_in terms.now levels.now assumed.now ts) (noted_list terms.now work.new))) }
     ensures stopped { IfErr result (λ s. OnWide s (λ p. (ts : List spec.Term) → MayRestart (theory_of kept) terms.now ts → IsStop terms.now (task_in terms.now levels.now assumed.now ts) work.new p)) }
     ensures place_within { IfErr result (λ s. OnWide s (λ p. IsSiteWithin terms.now p.site)) }
 {
     clauses_are_true();
     theories_restart();
+    plain_work_is_legal();
+    pivots_are_legal();
     term_stays();
     known_table(terms);
     let mut prepared = posed(alloc, kept, levels, terms, assumed)?;

@@ -31,4 +31,4 @@ pub put_over_all : TermStays → (ns : List Node) (levels : List (List ℕ)) (ol
     → IsLog ns levels old → IsLog ns levels new
 put_over_all stays ns levels old new id a c puts atoms inside sorted within clause order =
     let result : Result ℕ Memory = Ok id in
-    axiom_in_order old new a c result puts tt atoms ns levels within (axiom_made stays ns new.atoms a c inside sorted within (λ more table there all. (clause more table).clause)) order
+    axiom_in_order old new a c result puts tt atoms ns levels within (axiom_made stays ns new.atoms a c inside sorted within (λ more table there all. clause more table)) order

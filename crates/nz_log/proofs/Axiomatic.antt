@@ -9,21 +9,21 @@ use Rattle.nz_spec.specs.clauses.Farkas.{farkas_clause, is_contradiction, negati
 use Rattle.nz_spec.specs.terms.FormOf.{number_in}
 use Rattle.nz_fractions.specs.Fraction.{first_wide}
 use Rattle.nz_spec.specs.clauses.Literal.{Clause, clause_of, once}
-use Rattle.nz_spec.specs.clauses.Steps.{farkas_step, step_clause, IsSortedStep}
+use Rattle.nz_spec.specs.clauses.Steps.{farkas_step, step_clause, IsSortedStep, asserting}
 use Rattle.nz_spec.specs.terms.Table.{Node, IsTable, TermStays}
 use Rattle.nz_lin.specs.Comes.{IsDone}
 use Rattle.nz_log.specs.declared.atoms.Atom.{Atom}
 use Rattle.nz_log.specs.declared.lits.Lit.{Lit}
 use Rattle.nz_log.specs.declared.multiples.LitMultiple.{LitMultiple}
 use Rattle.nz_log.specs.Atoms.{AreAtoms, AreWithin, IsLitIn, LiteralsAgree, clause_in}
-use Rattle.nz_log.specs.Axioms.{AreMultiples, AreMultiplesIn, Axiom, IsAxiom, IsAxiomIn, IsClauseOf, axiom_step, farkas_of, multiples_in, negated_lits, sum_in}
+use Rattle.nz_log.specs.Axioms.{AreMultiples, AreMultiplesIn, Axiom, IsAxiom, IsAxiomIn, IsClauseOf, axiom_step, farkas_of, first_wide_in_step, multiples_in, negated_lits, sum_in}
 use Rattle.nz_log.specs.Leveled.{AreTold}
 use Rattle.nz_log.specs.Lits.{are_same_lit}
 use Rattle.nz_log.specs.Logs.{Entry, JoinsAtoms, LogState, Puts, axiom_entry, axiom_of, entry_at, row_term}
 use Rattle.nz_log.specs.Sound.{IsLog}
 use Rattle.nz_log.specs.Growth.{Grows}
 use Rattle.nz_log.proofs.LiteralAgreement.{clause_named, literal_turned}
-use Rattle.nz_log.proofs.LiteralPreservation.{all_wider, axiom_in_wider, clause_stays, step_stays}
+use Rattle.nz_log.proofs.LiteralPreservation.{all_stay, all_wider, axiom_in_wider, clause_stays, step_stays}
 use Rattle.nz_log.proofs.Leveled.{logs_stay_leveled}
 use Rattle.nz_log.proofs.Soundness.{rule_in_order}
 
@@ -32,8 +32,7 @@ use Rattle.nz_log.proofs.Soundness.{rule_in_order}
 -- what is so over every table that goes on from this one stays so when atoms join
 pub axiom_made : TermStays → (ns : List Node) (atoms : List Atom) (a : Axiom) (c : List Lit) → IsAxiomIn ns atoms a → IsSortedStep (axiom_step ns atoms a) → AreWithin ns atoms c
     → ((more : List Node) → IsTable (ns ++ more) → IsAxiomIn (ns ++ more) atoms a → AreWithin (ns ++ more) atoms c
-    → step_clause (number_in (ns ++ more)) [] [] (axiom_step (ns ++ more) atoms a) ≡ Some (clause_in (ns ++ more) atoms c))
-    → IsAxiom ns atoms a c
+    → IsClauseOf (ns ++ more) atoms a c) → IsAxiom ns atoms a c
 axiom_made stays ns atoms a c within sorted w gives =
     record {
       within = within;
@@ -41,9 +40,13 @@ axiom_made stays ns atoms a c within sorted w gives =
       taken = λ more later table still.
           let there = axiom_in_wider stays ns more atoms a within in
           let all = all_wider stays ns more atoms c w in
-          ap (step_clause (number_in (ns ++ more)) [] []) (step_stays (ns ++ more) atoms later still a there)
-          ∙ gives more table there all
-          ∙ ap Some (sym (clause_stays (ns ++ more) atoms later still c all));
+          let is = gives more table there all in
+          let same = step_stays (ns ++ more) atoms later still a there in
+          record {
+            within = all_stay (ns ++ more) atoms later still c all;
+            clause = ap (step_clause (number_in (ns ++ more)) (asserting []) []) same ∙ is.clause ∙ ap Some (sym (clause_stays (ns ++ more) atoms later still c all));
+            fits = ap (first_wide_in_step (ns ++ more)) same ∙ is.fits;
+          };
     }
 
 -- the log in which one is put stays in order
@@ -91,7 +94,7 @@ module _ (ns : List Node) (atoms : List Atom) where
 
   module _ (agree : LiteralsAgree ns atoms) (ms : List LitMultiple) (within : AreMultiplesIn ns atoms ms) (multiples : AreMultiples ns atoms ms) where
     pub farkas_gives : IsTrue (is_contradiction (sum_in ns atoms ms).result)
-        → step_clause (number_in ns) [] [] (farkas_step (multiples_in ns atoms ms)) ≡ Some (clause_in ns atoms (refuted ms))
+        → step_clause (number_in ns) (asserting []) [] (farkas_step (multiples_in ns atoms ms)) ≡ Some (clause_in ns atoms (refuted ms))
     farkas_gives contradiction =
         let qs = multiples_in ns atoms ms in
         let some : Clause = clause_of (negations_of qs) in

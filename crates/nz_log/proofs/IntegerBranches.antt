@@ -11,7 +11,7 @@ use Rattle.nz_spec.specs.terms.Form.{negated_part}
 use Rattle.nz_spec.specs.terms.FormOf.{number_in}
 use Rattle.nz_spec.specs.clauses.LinearLiteral.{HaveSortedUnits, are_integral, is_whole, parts_of}
 use Rattle.nz_spec.specs.clauses.Literal.{Literal, Clause, clause_of, is_at_most, is_below, negation_of, once, term_literal}
-use Rattle.nz_spec.specs.clauses.Steps.{IsSortedStep, branch_step, step_taken}
+use Rattle.nz_spec.specs.clauses.Steps.{IsSortedStep, branch_step, step_taken, asserting}
 use Rattle.nz_spec.specs.terms.Table.{Node, term_in}
 use Rattle.nz_lin.specs.declared.bound.Bound.{Bound}
 use Rattle.nz_term.specs.declared.stops.ArithmeticStop.{ArithmeticStop}
@@ -83,8 +83,8 @@ module _ (ps : List form.Part) (k : Fraction) (integral : IsTrue (are_integral p
       let lits : List Lit = first ∷ second ∷ [] in
       let step : axiom_step ns atoms (branch_of first) ≡ branch_step ps k =
       ap (λ l. branch_step (bound_of l).parts (bound_of l).limit) one ∙ ap (λ x. branch_step x.parts x.limit) (bound_said ns b) ∙ (λ i. branch_step (parts i) (limit i)) in
-      let taken : step_taken (number_in ns) [] [] (axiom_step ns atoms (branch_of first)) ≡ turned_into two_sided (next_limit k) =
-      ap (step_taken (number_in ns) [] []) step ∙ branch_taken in
+      let taken : step_taken (number_in ns) (asserting []) [] (axiom_step ns atoms (branch_of first)) ≡ turned_into two_sided (next_limit k) =
+      ap (step_taken (number_in ns) (asserting []) []) step ∙ branch_taken in
       let at_most : literal_in ns atoms first ≡ is_at_most ps k =
       one ∙ ap (λ (s : Bool). bounded s (parts_over ns b.sides.parts) b.sides.offset) normal ∙ (λ i. is_at_most (parts i) (limit i)) in
       let above_ : literal_in ns atoms second ≡ is_at_most (map negated_part ps) (next_limit k).result =

@@ -12,7 +12,7 @@ use Rattle.nz_spec.specs.clauses.Farkas.{is_multiple, negations_of, sum_of_multi
 use Rattle.nz_spec.specs.terms.FormOf.{number_in}
 use Rattle.nz_spec.specs.clauses.LinearLiteral.{HaveSortedUnits, are_integral, parts_of}
 use Rattle.nz_spec.specs.clauses.Literal.{Literal, Clause, clause_of, is_at_most, once}
-use Rattle.nz_spec.specs.clauses.Steps.{IsSortedStep, cut_step, step_taken}
+use Rattle.nz_spec.specs.clauses.Steps.{IsSortedStep, cut_step, step_taken, asserting}
 use Rattle.nz_spec.specs.terms.Table.{Node}
 use Rattle.nz_lin.specs.declared.bound.Bound.{Bound}
 use Rattle.nz_term.specs.declared.stops.ArithmeticStop.{ArithmeticStop}
@@ -89,7 +89,7 @@ module _ (ns : List Node) (qs : List farkas.Multiple) (multiples : IsTrue (list_
 
     pub cut_is : LiteralsAgree ns new → IsClauseOf ns new (cut_of ms) (once are_same_lit lits)
     cut_is agree =
-        let taken : step_taken (number_in ns) [] [] (axiom_step ns new (cut_of ms)) ≡ and_then sum (λ x. turned_into rounded_clause limit) = ap (step_taken (number_in ns) [] []) step ∙ cut_taken in
+        let taken : step_taken (number_in ns) (asserting []) [] (axiom_step ns new (cut_of ms)) ≡ and_then sum (λ x. turned_into rounded_clause limit) = ap (step_taken (number_in ns) (asserting []) []) step ∙ cut_taken in
         record {
           within = AllByRecursion-put (IsLitIn ns new) are_same_lit lits [] tt within;
           clause = ap (λ (c : Computation (Option Clause)). c.result) taken ∙ ap (λ c. Some (clause_of c)) (sym named) ∙ ap Some (sym (clause_named ns new agree lits within));

@@ -25,6 +25,7 @@ pub mod Members
 pub mod MultipleSums
 pub mod NamedGates
 pub mod NumberedForms
+pub mod OnlyJoined
 pub mod Operations
 pub mod PremiseOrder
 pub mod RowLiterals

@@ -1,18 +1,20 @@
 -- The clauses of the link table stay when the table of terms grows: they number no term but those of the table.
-use Rattle.std.proofs.Common.{◌≡◌, ℕ, suc, ◌<◌, List, [], ◌∷◌, ◌++◌, length, map, get_or, Some, if◌then◌else◌, refl, sym, ap, subst, ◌∙◌, arith}
+use Rattle.std.proofs.Common.{◌≡◌, ℕ, suc, ◌<◌, List, [], ◌∷◌, ◌++◌, length, map, get_or, Option, Some, if◌then◌else◌, refl, sym, ap, subst, ◌∙◌, arith}
 use Rattle.std.specs.Prelude.{slice_get}
 use Rattle.std.specs.List.{AllByRecursion}
 use Rattle.std.proofs.lemmas.List.{length-append}
 use Rattle.std.proofs.lemmas.Option.{slice_get-get_or}
 use Rattle.std.proofs.lemmas.List.Elements.{recursion_from_All}
-use Rattle.nz_spec.specs.numbers.Computation.{at_once, in_turn, turned_into}
+use Rattle.nz_fractions.specs.Fraction.{first_wide}
+use Rattle.nz_spec.specs.numbers.Computation.{Computation, at_once, in_turn, turned_into}
 use Rattle.nz_spec.specs.terms.Form.{Numbering}
 use Rattle.nz_spec.specs.terms.FormOf.{number_in, TermHasItsNumber}
 use Rattle.nz_spec.specs.clauses.Gates.{fails, holds, is_boolean_term, list_of}
 use Rattle.nz_spec.specs.clauses.LinearLiteral.{is_at_most_zero, is_below_zero}
 use Rattle.nz_spec.specs.clauses.Links.{IsArithmetic, at_most_literal, below_literal, link_clauses, links_over}
+use Rattle.nz_spec.specs.clauses.Literal.{Clause}
 use Rattle.nz_spec.specs.terms.Order.{HasCompanions, IsInTable, companions_of}
-use Rattle.nz_spec.specs.clauses.Steps.{clause_at, link_step, step_clause}
+use Rattle.nz_spec.specs.clauses.Steps.{asserting, clause_at, link_step, step_taken}
 use Rattle.nz_spec.specs.terms.Table.{Node, IsTable, TermOfNode, TermStays, term_in, terms_at}
 use Rattle.nz_spec.specs.terms.Term.{Head, less, at_most, equality, is_int, to_int, falsum, Term, apply, Terms, no_terms, terms}
 use Rattle.nz_log.specs.declared.atoms.Atom.{Atom}
@@ -104,10 +106,10 @@ module _ (own : TermHasItsNumber) (stays : TermStays) (node : TermOfNode) (ns mo
       (λ a same one. companion ns h ts a companion_there same one))
 
   pub same_link : (t j : ℕ) → t < length ns
-      → step_clause (number_in (ns ++ more)) [] [] (link_step (term_in (ns ++ more) t) j) ≡ step_clause (number_in ns) [] [] (link_step (term_in ns t) j)
+      → step_taken (number_in (ns ++ more)) (asserting []) [] (link_step (term_in (ns ++ more) t) j) ≡ step_taken (number_in ns) (asserting []) [] (link_step (term_in ns t) j)
   same_link t j within =
-      ap (λ u. (clause_at (link_clauses (number_in (ns ++ more)) u) j).result) (stays ns more t within)
-      ∙ ap (λ cs. (clause_at cs j).result) (same_clauses (term_in ns t) (t, within, refl))
+      ap (λ u. clause_at (link_clauses (number_in (ns ++ more)) u) j) (stays ns more t within)
+      ∙ ap (λ cs. clause_at cs j) (same_clauses (term_in ns t) (t, within, refl))
 
 -- so what such a clause is over a table it is over each that goes on from it
 pub link_axiom : TermHasItsNumber → TermStays → TermOfNode → (ns : List Node) → IsTable ns → HasCompanions ns → (atoms : List Atom) (t j : ℕ) (c : List Lit) → t < length ns
@@ -115,4 +117,9 @@ pub link_axiom : TermHasItsNumber → TermStays → TermOfNode → (ns : List No
 link_axiom own stays node ns table companions atoms t j c within arithmetic is =
     axiom_made stays ns atoms (link_of t j) c within arithmetic is.within
     (λ more longer there all.
-    same_link own stays node ns more table longer companions t j within ∙ is.clause ∙ ap Some (sym (same_clause stays ns more atoms c is.within)))
+    let same = same_link own stays node ns more table longer companions t j within in
+    record {
+      within = all;
+      clause = ap (λ (s : Computation (Option Clause)). s.result) same ∙ is.clause ∙ ap Some (sym (same_clause stays ns more atoms c is.within));
+      fits = ap (λ (s : Computation (Option Clause)). first_wide s.operations) same ∙ is.fits;
+    })

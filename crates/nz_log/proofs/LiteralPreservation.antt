@@ -5,9 +5,8 @@ use Rattle.std.specs.List.{AllByRecursion}
 use Rattle.std.proofs.lemmas.List.{length-append}
 use Rattle.nz_spec.specs.clauses.Farkas as farkas
 use Rattle.nz_spec.specs.clauses.Farkas.{bound_of}
-use Rattle.nz_spec.specs.terms.FormOf.{number_in}
 use Rattle.nz_spec.specs.clauses.Literal.{term_literal}
-use Rattle.nz_spec.specs.clauses.Steps.{link_step, unit_step, farkas_step, branch_step, cut_step, step_clause, IsSortedStep}
+use Rattle.nz_spec.specs.clauses.Steps.{link_step, unit_step, farkas_step, branch_step, cut_step, IsSortedStep}
 use Rattle.nz_spec.specs.terms.Table.{Node, IsTable, TermStays, term_in}
 use Rattle.nz_spec.specs.terms.Term.{sort_of}
 use Rattle.nz_lin.specs.declared.form.Part.{Part}
@@ -18,7 +17,7 @@ use Rattle.nz_log.specs.declared.atoms.Atom.TheVariants.{Term, AtMost}
 use Rattle.nz_log.specs.declared.lits.Lit.{Lit}
 use Rattle.nz_log.specs.declared.multiples.LitMultiple.{LitMultiple}
 use Rattle.nz_log.specs.Atoms.{AreWithin, IsAtomIn, IsLitIn, Stay, atom_in, clause_in, literal_in, with_sign}
-use Rattle.nz_log.specs.Axioms.{AreMultiplesIn, Axiom, link_of, unit_of, farkas_of, branch_of, cut_of, IsAxiom, IsAxiomIn, axiom_step, multiples_in}
+use Rattle.nz_log.specs.Axioms.{AreMultiplesIn, Axiom, link_of, unit_of, farkas_of, branch_of, cut_of, IsAxiom, IsAxiomIn, IsClauseOf, axiom_step, multiples_in}
 
 -- what a literal says by its atom
 pub literal_at : (ns : List Node) (atoms : List Atom) (l : Lit) (a : Atom) → slice_get atoms l.atom ≡ Some a → literal_in ns atoms l ≡ with_sign l.sign (atom_in ns a)
@@ -139,6 +138,6 @@ module _ (stays : TermStays) (ns more : List Node) where
           within = axiom_in_wider a h.within;
           sorted = subst IsSortedStep (sym (same_step a h.within)) h.sorted;
           taken = λ rest later table still.
-              subst (λ ms. step_clause (number_in ms) [] [] (axiom_step ms later a) ≡ Some (clause_in ms later c)) (sym (append_assoc ns more rest))
+              subst (λ ms. IsClauseOf ms later a c) (sym (append_assoc ns more rest))
               (h.taken (more ++ rest) later (subst IsTable (append_assoc ns more rest) table) still);
         }

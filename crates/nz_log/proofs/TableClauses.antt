@@ -8,7 +8,7 @@ use Rattle.nz_spec.specs.terms.FormOf.{number_in}
 use Rattle.nz_fractions.specs.Fraction.{first_wide}
 use Rattle.nz_spec.specs.clauses.Links.{link_clauses}
 use Rattle.nz_spec.specs.clauses.Literal.{Clause, clause_of, once}
-use Rattle.nz_spec.specs.clauses.Steps.{clause_at, link_step, step_taken, unit_step}
+use Rattle.nz_spec.specs.clauses.Steps.{clause_at, link_step, step_taken, unit_step, asserting}
 use Rattle.nz_spec.specs.terms.Table.{Node}
 use Rattle.nz_spec.specs.terms.Term.{Term, apply}
 use Rattle.nz_spec.specs.clauses.Units.{unit_clauses}
@@ -31,12 +31,12 @@ row_taken : (rows : List Row) (j : ℕ) (row : Row) → slice_get rows j ≡ Som
 row_taken rows j row at =
     ap (λ o. elim o [ None ↦ at_once None | Some c ↦ turned_into (λ d. Some (clause_of d)) c ]) (slice_get-map in_turn rows j ∙ ap (option_map in_turn) at)
 
-module _ (ns : List Node) (atoms : List Atom) (a : Axiom) (rows : List Row) (j : ℕ) (taken : step_taken (number_in ns) [] [] (axiom_step ns atoms a) ≡ clause_at (map in_turn rows) j) where
+module _ (ns : List Node) (atoms : List Atom) (a : Axiom) (rows : List Row) (j : ℕ) (taken : step_taken (number_in ns) (asserting []) [] (axiom_step ns atoms a) ≡ clause_at (map in_turn rows) j) where
   -- the literals of a row are the clause of the step
   table_clause : LiteralsAgree ns atoms → (row : Row) (v : List RowLiteral) (c : List Lit) → slice_get rows j ≡ Some row → IsDone (in_turn row) (row_literals_in ns v)
       → clause_in ns atoms c ≡ row_literals_in ns v → AreWithin ns atoms c → IsClauseOf ns atoms a (once are_same_lit c)
   table_clause agree row v c at done says within =
-      let made : step_taken (number_in ns) [] [] (axiom_step ns atoms a) ≡ turned_into (λ d. Some (clause_of d)) (in_turn row) = taken ∙ row_taken rows j row at in
+      let made : step_taken (number_in ns) (asserting []) [] (axiom_step ns atoms a) ≡ turned_into (λ d. Some (clause_of d)) (in_turn row) = taken ∙ row_taken rows j row at in
       record {
         within = AllByRecursion-put (IsLitIn ns atoms) are_same_lit c [] tt within;
         clause = ap (λ (k : Computation (Option Clause)). k.result) made ∙ ap (λ d. Some (clause_of d)) (sym done.result ∙ sym says)
@@ -45,7 +45,7 @@ module _ (ns : List Node) (atoms : List Atom) (a : Axiom) (rows : List Row) (j :
       }
 
 -- the clause of a row that was put
-pub row_puts : {E : Type 0} (ns : List Node) (a : Axiom) (rows : List Row) (j : ℕ) (old new : LogState) → step_taken (number_in ns) [] [] (axiom_step ns new.atoms a) ≡ clause_at (map in_turn rows) j
+pub row_puts : {E : Type 0} (ns : List Node) (a : Axiom) (rows : List Row) (j : ℕ) (old new : LogState) → step_taken (number_in ns) (asserting []) [] (axiom_step ns new.atoms a) ≡ clause_at (map in_turn rows) j
     → LiteralsAgree ns new.atoms → (v : List RowLiteral) → IsRowAt ns rows j v → (r : Result ℕ E) → IfOk r (λ id. PutsRow old id a v new) → IfOk r (λ id. PutsAxiom ns old id a new)
 row_puts ns a rows j old new taken agree v is (Err x) puts = puts
 row_puts ns a rows j old new taken agree v is (Ok id) puts =
@@ -75,8 +75,8 @@ links_are ns (apply h ts) = refl
 units_are : (ns : List Node) (t : Term) → unit_clauses (number_in ns) t ≡ map in_turn (unit_rows ns t)
 units_are ns (apply h ts) = refl
 
-pub link_taken : (ns : List Node) (t : Term) (j : ℕ) → step_taken (number_in ns) [] [] (link_step t j) ≡ clause_at (map in_turn (link_rows ns t)) j
+pub link_taken : (ns : List Node) (t : Term) (j : ℕ) → step_taken (number_in ns) (asserting []) [] (link_step t j) ≡ clause_at (map in_turn (link_rows ns t)) j
 link_taken ns t j = ap (λ cs. clause_at cs j) (links_are ns t)
 
-pub unit_taken : (ns : List Node) (t : Term) (j : ℕ) → step_taken (number_in ns) [] [] (unit_step t j) ≡ clause_at (map in_turn (unit_rows ns t)) j
+pub unit_taken : (ns : List Node) (t : Term) (j : ℕ) → step_taken (number_in ns) (asserting []) [] (unit_step t j) ≡ clause_at (map in_turn (unit_rows ns t)) j
 unit_taken ns t j = ap (λ cs. clause_at cs j) (units_are ns t)

@@ -7,7 +7,7 @@ use Rattle.std.proofs.lemmas.Option.{slice_get-map}
 use Rattle.nz_spec.specs.terms.Term.{Term, Assignment, is_true, value_of, IsTrueUnder}
 use Rattle.nz_spec.specs.terms.Table.{Node, IsTable, term_in, OneNumber}
 use Rattle.nz_spec.specs.terms.FormOf.{number_in}
-use Rattle.nz_spec.specs.clauses.Steps.{clauses_behind, DerivedClausesAreTrue}
+use Rattle.nz_spec.specs.clauses.Steps.{clauses_behind, DerivedClausesAreTrue, asserting}
 use Rattle.nz_spec.specs.terms.Model.{IsAssignment}
 use Rattle.nz_spec.specs.search.Decide.{asserted_numbers}
 use Rattle.nz_spec.specs.clauses.Literal.{clause_of, IsClauseTrue, TellsLiterals, ClauseIsTrueTogether, ResolventIsTrue}
@@ -49,9 +49,9 @@ axiom_is_true : DerivedClausesAreTrue → (ns : List Node) → IsTable ns → (a
     → IsClauseTrue a (clause_in ns atoms c)
 axiom_is_true derived ns table atoms x c h a good =
     let taken = taken_now ns table atoms x c h in
-    let derivation : clauses_behind (number_in ns) [] [] (axiom_step ns atoms x ∷ []) ≡ Some (clause_in ns atoms c ∷ []) =
+    let derivation : clauses_behind (number_in ns) (asserting []) [] (axiom_step ns atoms x ∷ []) ≡ Some (clause_in ns atoms c ∷ []) =
     ap (λ o. elim o [ None ↦ None | Some d ↦ Some (d ∷ []) ]) taken in
-    (derived (number_in ns) [] (axiom_step ns atoms x ∷ []) (clause_in ns atoms c ∷ []) (h.sorted, tt) derivation a good tt).0
+    (derived (number_in ns) (asserting []) (axiom_step ns atoms x ∷ []) (clause_in ns atoms c ∷ []) (h.sorted, tt) derivation a good (record { asserted = tt; held = tt; claimed = tt })).0
 
 module _ (derived : DerivedClausesAreTrue) (gates : GatesAreTrue) (together : ClauseIsTrueTogether) (resolvents : ResolventIsTrue)
     (ns : List Node) (table : IsTable ns) (levels : List (List ℕ)) (s : LogState) (agree : LiteralsAgree ns s.atoms) (order : IsLog ns levels s)

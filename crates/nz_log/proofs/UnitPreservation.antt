@@ -1,7 +1,7 @@
 -- The clauses of the unit table stay when the table of terms grows: they number no term but those of the table.
 use Rattle.std.proofs.Common.{◌≡◌, ℕ, ◌<◌, List, [], ◌∷◌, ◌++◌, length, map, Option, Some, None, refl, sym, ap, subst, ◌∙◌}
 use Rattle.std.specs.List.{AllByRecursion}
-use Rattle.nz_fractions.specs.Fraction.{Fraction, Arithmetic, Sum, Difference, whole}
+use Rattle.nz_fractions.specs.Fraction.{Fraction, Arithmetic, Sum, Difference, first_wide, whole}
 use Rattle.std.specs.Prelude.{pos}
 use Rattle.nz_spec.specs.numbers.Computation.{Computation, and_then, at_once, in_turn, turned_into}
 use Rattle.nz_spec.specs.terms.Form.{Form, Numbering, joined, negated_form, unit_form}
@@ -9,9 +9,9 @@ use Rattle.nz_spec.specs.terms.FormOf.{form_of, number_in, TermHasItsNumber}
 use Rattle.nz_spec.specs.clauses.Gates.{fails, holds, list_of}
 use Rattle.nz_spec.specs.terms.Linear.{constant_value}
 use Rattle.nz_spec.specs.clauses.Links.{IsArithmetic, at_most_literal, minus, plus}
-use Rattle.nz_spec.specs.clauses.Literal.{is_at_most}
+use Rattle.nz_spec.specs.clauses.Literal.{Clause, is_at_most}
 use Rattle.nz_spec.specs.terms.Order.{HasCompanions, IsInTable, companions_of}
-use Rattle.nz_spec.specs.clauses.Steps.{clause_at, step_clause, unit_step}
+use Rattle.nz_spec.specs.clauses.Steps.{asserting, clause_at, step_taken, unit_step}
 use Rattle.nz_spec.specs.terms.Table.{Node, IsTable, TermOfNode, TermStays, term_in}
 use Rattle.nz_spec.specs.terms.Term.{Head, bool_sort, choice, integer_quotient, modulus, magnitude, to_int, Term, apply, Terms, no_terms, terms}
 use Rattle.nz_spec.specs.clauses.Units.{at_most_number, at_most_zero, below_number, greatest_remainder, magnitude_rows, quotient_rows, remainder_rows, times_unit, unit_clauses, units_over}
@@ -133,10 +133,10 @@ module _ (own : TermHasItsNumber) (stays : TermStays) (node : TermOfNode) (ns mo
       (listed (IsInTable ns) ts (closed node ns table h ts there)) (λ a k. companion ns h ts a k companion_there))
 
   same_unit : (t j : ℕ) → t < length ns
-      → step_clause (number_in (ns ++ more)) [] [] (unit_step (term_in (ns ++ more) t) j) ≡ step_clause (number_in ns) [] [] (unit_step (term_in ns t) j)
+      → step_taken (number_in (ns ++ more)) (asserting []) [] (unit_step (term_in (ns ++ more) t) j) ≡ step_taken (number_in ns) (asserting []) [] (unit_step (term_in ns t) j)
   same_unit t j within =
-      ap (λ u. (clause_at (unit_clauses (number_in (ns ++ more)) u) j).result) (stays ns more t within)
-      ∙ ap (λ cs. (clause_at cs j).result) (same_clauses (term_in ns t) (t, within, refl))
+      ap (λ u. clause_at (unit_clauses (number_in (ns ++ more)) u) j) (stays ns more t within)
+      ∙ ap (λ cs. clause_at cs j) (same_clauses (term_in ns t) (t, within, refl))
 
 -- so what such a clause is over a table it is over each that goes on from it
 pub unit_axiom : TermHasItsNumber → TermStays → TermOfNode → (ns : List Node) → IsTable ns → HasCompanions ns → (atoms : List Atom) (t j : ℕ) (c : List Lit) → t < length ns
@@ -144,4 +144,9 @@ pub unit_axiom : TermHasItsNumber → TermStays → TermOfNode → (ns : List No
 unit_axiom own stays node ns table companions atoms t j c within arithmetic is =
     axiom_made stays ns atoms (unit_of t j) c within arithmetic is.within
     (λ more longer there all.
-    same_unit own stays node ns more table longer companions t j within ∙ is.clause ∙ ap Some (sym (same_clause stays ns more atoms c is.within)))
+    let same = same_unit own stays node ns more table longer companions t j within in
+    record {
+      within = all;
+      clause = ap (λ (s : Computation (Option Clause)). s.result) same ∙ is.clause ∙ ap Some (sym (same_clause stays ns more atoms c is.within));
+      fits = ap (λ (s : Computation (Option Clause)). first_wide s.operations) same ∙ is.fits;
+    })

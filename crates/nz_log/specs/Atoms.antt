@@ -1,5 +1,5 @@
 -- Atoms by number, and what literals on them say over a table of terms.
-use Rattle.std.specs.Prelude.{◌≡◌, ℕ, suc, ◌<◌, ◌==◌, Bool, true, false, List, [], ◌∷◌, length, map, Option, Some, None, slice_get, if◌then◌else◌, ⊤}
+use Rattle.std.specs.Prelude.{◌≡◌, ◌⊎◌, ℕ, suc, ◌<◌, ◌==◌, Bool, true, false, List, [], ◌∷◌, length, map, Option, Some, None, slice_get, if◌then◌else◌, Contains, ⊤}
 use Rattle.std.specs.List.{AllByRecursion}
 use Rattle.nz_spec.specs.terms.Table.{Node, IsTable, term_in}
 use Rattle.nz_spec.specs.clauses.Literal.{Literal, term_literal, negation_of, Clause, are_same_literal, StandOnce}
@@ -26,6 +26,14 @@ pub record AreAtoms (atoms : List Atom) : Type 0 where
 -- each atom keeps its number
 abbrev pub Stay : (old new : List Atom) → Type 0
 Stay old new = (i : ℕ) (a : Atom) → slice_get old i ≡ Some a → slice_get new i ≡ Some a
+
+-- the number of an atom that has joined is one of these
+abbrev pub JoinOnly : (old new : List Atom) → (ℕ → Type 0) → Type 0
+JoinOnly old new P = (i : ℕ) → i < length new → (i < length old) ⊎ P i
+
+-- one of the literals is on the atom of this number
+abbrev pub IsAtomOf : List Lit → ℕ → Type 0
+IsAtomOf c i = (l : Lit) × Contains c l × (i ≡ l.atom)
 
 -- the terms that an atom names
 abbrev pub unit_numbers : List Part → List ℕ

@@ -9,7 +9,7 @@ use Rattle.nz_spec.specs.terms.Form.{negated_part}
 use Rattle.nz_spec.specs.terms.FormOf.{number_in}
 use Rattle.nz_spec.specs.clauses.Literal.{Literal, is_at_most}
 use Rattle.nz_spec.specs.terms.Table.{Node, IsTable, term_in}
-use Rattle.nz_spec.specs.clauses.Steps.{Step, link_step, unit_step, farkas_step, branch_step, cut_step, step_clause, step_operations, IsSortedStep}
+use Rattle.nz_spec.specs.clauses.Steps.{Step, link_step, unit_step, farkas_step, branch_step, cut_step, step_clause, step_operations, IsSortedStep, asserting}
 use Rattle.nz_lin.specs.declared.bound.Bound.{Bound}
 use Rattle.nz_lin.specs.Forms.{parts_over}
 use Rattle.nz_log.specs.declared.atoms.Atom.{Atom}
@@ -54,20 +54,19 @@ IsAxiomIn ns atoms (cut_of ms) = AreMultiplesIn ns atoms ms
 
 -- the first operation of a step that leaves the numbers
 abbrev pub first_wide_in_step : List Node → Step → Option Operation
-first_wide_in_step ns s = first_wide (step_operations (number_in ns) s)
+first_wide_in_step ns s = first_wide (step_operations (number_in ns) (asserting []) s)
 
 -- the literals are the clause of the step, over a table, and none of its operations leaves the numbers
 pub record IsClauseOf (ns : List Node) (atoms : List Atom) (a : Axiom) (c : List Lit) : Type 0 where
   pub within : AreWithin ns atoms c
-  pub clause : step_clause (number_in ns) [] [] (axiom_step ns atoms a) ≡ Some (clause_in ns atoms c)
+  pub clause : step_clause (number_in ns) (asserting []) [] (axiom_step ns atoms a) ≡ Some (clause_in ns atoms c)
   pub fits : first_wide_in_step ns (axiom_step ns atoms a) ≡ None
 
 -- The step of the clause is in order over a table, and gives the clause over that table and each that goes on from it, whatever atoms join.
 pub record IsAxiom (ns : List Node) (atoms : List Atom) (a : Axiom) (c : List Lit) : Type 0 where
   pub within : IsAxiomIn ns atoms a
   pub sorted : IsSortedStep (axiom_step ns atoms a)
-  pub taken : (more : List Node) (later : List Atom) → IsTable (ns ++ more) → Stay atoms later
-      → step_clause (number_in (ns ++ more)) [] [] (axiom_step (ns ++ more) later a) ≡ Some (clause_in (ns ++ more) later c)
+  pub taken : (more : List Node) (later : List Atom) → IsTable (ns ++ more) → Stay atoms later → IsClauseOf (ns ++ more) later a c
 
 -- ---- What the rules ask and answer
 

@@ -7,7 +7,7 @@ use Rattle.nz_spec.specs.terms.Model.{IsAssignment}
 use Rattle.nz_spec.specs.search.Decide.{asserted_numbers, with_number}
 use Rattle.nz_spec.specs.terms.FormOf.{number_in}
 use Rattle.nz_spec.specs.clauses.Literal.{clause_of, IsClauseTrue}
-use Rattle.nz_spec.specs.clauses.Steps.{step_clause}
+use Rattle.nz_spec.specs.clauses.Steps.{step_clause, asserting}
 use Rattle.nz_spec.specs.clauses.Gates.{holds, gate_clauses, HasBooleanArguments}
 use Rattle.nz_log.specs.declared.atoms.Atom.{Atom}
 use Rattle.nz_log.specs.declared.lits.Lit.{Lit}
@@ -81,4 +81,4 @@ GatesNameArguments = (ns : List Node) (t : ℕ) (n : Node) → slice_get ns t �
 -- The step of a clause that holds by arithmetic alone gives it.
 abbrev pub AxiomsAreTaken : Type 0
 AxiomsAreTaken = (ns : List Node) → IsTable ns → (atoms : List Atom) (a : Axiom) (c : List Lit) → IsAxiom ns atoms a c
-    → step_clause (number_in ns) [] [] (axiom_step ns atoms a) ≡ Some (clause_in ns atoms c)
+    → step_clause (number_in ns) (asserting []) [] (axiom_step ns atoms a) ≡ Some (clause_in ns atoms c)

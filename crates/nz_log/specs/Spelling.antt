@@ -4,10 +4,11 @@ use Rattle.std.specs.Bool.{⊤}
 use Rattle.nz_spec.specs.clauses.Farkas as farkas
 use Rattle.nz_spec.specs.clauses.Farkas.{bound_of}
 use Rattle.nz_spec.specs.clauses.Literal as spec
+use Rattle.nz_spec.specs.terms.FormOf.{number_in}
 use Rattle.nz_spec.specs.terms.Table.{Node, IsTable, term_in}
 use Rattle.nz_lin.specs.Bounds.{literal_over}
 use Rattle.nz_spec.specs.clauses.Steps as steps
-use Rattle.nz_spec.specs.clauses.Steps.{given_step, gate_step, link_step, unit_step, farkas_step, branch_step, cut_step, resolve_step, Derives}
+use Rattle.nz_spec.specs.clauses.Steps.{given_step, gate_step, link_step, unit_step, farkas_step, branch_step, cut_step, resolve_step, asserting, Derives}
 use Rattle.nz_log.specs.declared.atoms.Atom.{Atom}
 use Rattle.nz_log.specs.declared.origins.Link.{Link}
 use Rattle.nz_log.specs.declared.steps.Literal.{Literal}
@@ -124,4 +125,4 @@ origin_place places n (chain_of first ks) = chain_place n (slice_index places fi
 -- In a log in order the steps derive the clause of a number from the assertions that are live at its level.
 abbrev pub AreStepsOf : LogState → ℕ → List Step → Type 0
 AreStepsOf s id ss = (ns : List Node) (levels : List (List ℕ)) → IsTable ns → IsLog ns levels s
-    → Derives (live_terms ns levels (level_at s id)) (steps_of ns ss) (clause_in ns s.atoms (literals_at s id))
+    → Derives (number_in ns) (asserting (live_terms ns levels (level_at s id))) (steps_of ns ss) (clause_in ns s.atoms (literals_at s id))

@@ -7,7 +7,7 @@ ghost use Rattle.nz_spec.specs.terms.Same.{are_same_fraction};
 ghost use Rattle.nz_spec.specs.terms.Term.{are_same_sort};
 ghost use Rattle.nz_term.specs.Constants.{sort_of};
 ghost use Rattle.nz_log.specs.declared.atoms.Atom.TheVariants.{Term, AtMost};
-ghost use Rattle.nz_log.specs.Atoms.{AreAtoms, IsFoundTerm, IsNormal, Stay};
+ghost use Rattle.nz_log.specs.Atoms.{AreAtoms, IsFoundTerm, IsNormal, JoinOnly, Stay};
 ghost use Rattle.nz_log.specs.Keys.{are_same_atom, are_same_bound, are_same_part, are_same_units, fed_atom, fed_bound, fed_part};
 ghost use Rattle.nz_log.specs.Same.{atom_decides};
 
@@ -188,6 +188,7 @@ impl Atoms {
         requires normal { IsNormal atom }
         ensures there { IfOk result (λ id. slice_get self.new id ≡ Some atom) }
         ensures stay { Stay self.old self.new }
+        ensures only { IfOk result (λ id. JoinOnly self.old self.new (λ i. i ≡ id)) }
         ensures atoms { AreAtoms self.new }
         ensures unchanged { OnErr result (self.new ≡ self.old) }
     {

@@ -8,9 +8,9 @@ ghost use Rattle.nz_lin.specs.Bounds.{HasUnits, IsLiteral};
 ghost use Rattle.nz_lin.specs.Comes.{IsOperated};
 ghost use Rattle.nz_lin.specs.Forms.{parts_over};
 ghost use Rattle.nz_term.specs.Stops.{IsStopAt};
-ghost use Rattle.nz_log.specs.Atoms.{AreAtoms, literal_in};
+ghost use Rattle.nz_log.specs.Atoms.{AreAtoms, IsAtomOf, JoinOnly, literal_in};
 ghost use Rattle.nz_log.specs.Axioms.{AreMultiples, AreMultiplesIn, above_literal, first_wide_in_step, multiples_in, next_limit, sum_in};
-ghost use Rattle.nz_log.specs.Logs.{JoinsAtoms, PutsBranch, PutsCut};
+ghost use Rattle.nz_log.specs.Logs.{JoinsAtoms, PutsBranch, PutsCut, literals_at};
 ghost use Rattle.nz_log.specs.Sound.{IsLog};
 
 use crate::log::Log;
@@ -37,6 +37,7 @@ impl Log {
         ensures made { IfOk result (λ id. PutsBranch self.old id bound self.new) }
         ensures stop { IfErr result (λ s. (ns : List Node) → HasUnits ns bound → IsStopAt (first_wide_in_step ns (branch_step (parts_over ns bound.sides.parts) bound.sides.offset)) s) }
         ensures atoms { AreAtoms self.new.atoms }
+        ensures only { IfOk result (λ id. JoinOnly self.old.atoms self.new.atoms (IsAtomOf (literals_at self.new id))) }
         ensures unchanged { OnErr result (JoinsAtoms self.old self.new) }
         // Over a table that has the units, with values of their sorts, the log stays in order.
         ensures sound { (ns : List Node) (levels : List (List ℕ)) → HasUnits ns bound → HaveSortedUnits (parts_over ns bound.sides.parts) → IsLog ns levels self.old → IsLog ns levels self.new }
@@ -63,6 +64,7 @@ impl Log {
         ensures made { IfOk result (λ id. PutsCut self.old id multiples.now self.new) }
         ensures stop { IfErr result (λ s. (ns : List Node) → IsTable ns → AreMultiplesIn ns self.old.atoms multiples.now → IsStopAt (first_wide_in_step ns (cut_step (multiples_in ns self.old.atoms multiples.now))) s) }
         ensures atoms { AreAtoms self.new.atoms }
+        ensures only { IfOk result (λ id. JoinOnly self.old.atoms self.new.atoms (IsAtomOf (literals_at self.new id))) }
         ensures unchanged { OnErr result (JoinsAtoms self.old self.new) }
         // Over a table that has the terms of the literals, where their units have values of their sorts, the log stays in order.
         ensures sound { (ns : List Node) (levels : List (List ℕ)) → AreMultiplesIn ns self.old.atoms multiples.now → AllByRecursion (λ m. HaveSortedUnits (parts_of (literal_in ns self.old.atoms m.literal))) multiples.now → IsLog ns levels self.old → IsLog ns levels self.new }

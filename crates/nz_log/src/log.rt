@@ -3,7 +3,7 @@ ghost use Rattle.std.specs.Prelude.{◌≡◌, ℕ, ◌<◌, List, length, false
 ghost use Rattle.nz_spec.specs.terms.Table.{Node};
 ghost use Rattle.nz_lin.specs.Bounds.{HasUnits, literal_over};
 ghost use Rattle.nz_log.specs.declared.atoms.Atom.TheVariants.{AtMost};
-ghost use Rattle.nz_log.specs.Atoms.{AreAtoms, HasTerm, IsFoundTerm, IsLitIn, literal_in, term_place};
+ghost use Rattle.nz_log.specs.Atoms.{AreAtoms, HasTerm, IsFoundTerm, IsLitIn, JoinOnly, literal_in, term_place};
 ghost use Rattle.nz_log.specs.Logs.{IsLive, JoinsAtoms, Puts, RestsOn, empty_log, entry_at, level_at, literals_at};
 ghost use Rattle.nz_log.specs.Spelling.{AreStepsOf, literal_read};
 ghost use Rattle.nz_log.specs.Stored.{entry_of, origin_of};
@@ -78,6 +78,7 @@ impl Log {
         ensures number { IfOk result (λ id. id ≡ term_place self.new.atoms term) }
         ensures there { OnOk result (HasTerm self.new.atoms term) }
         ensures joins { JoinsAtoms self.old self.new }
+        ensures only { IfOk result (λ id. JoinOnly self.old.atoms self.new.atoms (λ i. i ≡ id)) }
         ensures atoms { AreAtoms self.new.atoms }
         ensures unchanged { OnErr result (self.new ≡ self.old) }
     {
@@ -94,6 +95,7 @@ impl Log {
         ensures literal { IfOk result (λ l. (ns : List Node) → literal_in ns self.new.atoms l ≡ literal_over ns bound) }
         ensures within { IfOk result (λ l. (ns : List Node) → HasUnits ns bound → IsLitIn ns self.new.atoms l) }
         ensures joins { JoinsAtoms self.old self.new }
+        ensures only { IfOk result (λ l. JoinOnly self.old.atoms self.new.atoms (λ i. i ≡ l.atom)) }
         ensures atoms { AreAtoms self.new.atoms }
         ensures unchanged { OnErr result (self.new ≡ self.old) }
     {
@@ -113,6 +115,7 @@ impl Log {
         requires normal { bound.strict ≡ false }
         ensures there { IfOk result (λ id. slice_get self.new.atoms id ≡ Some (AtMost bound)) }
         ensures joins { JoinsAtoms self.old self.new }
+        ensures only { IfOk result (λ id. JoinOnly self.old.atoms self.new.atoms (λ i. i ≡ id)) }
         ensures atoms { AreAtoms self.new.atoms }
         ensures unchanged { OnErr result (self.new ≡ self.old) }
     {

@@ -4,9 +4,9 @@ ghost use Rattle.nz_spec.specs.clauses.Links.{IsArithmetic};
 ghost use Rattle.nz_spec.specs.terms.Order.{HasCompanions};
 ghost use Rattle.nz_spec.specs.terms.Table.{Node, term_in};
 ghost use Rattle.nz_rows.specs.Rows.{AreRowLiteralsIn, IsRowAt, IsRowLiteralIn, link_rows, row_literal_in, unit_rows};
-ghost use Rattle.nz_log.specs.Atoms.{AreAtoms, IsLitIn, literal_in};
+ghost use Rattle.nz_log.specs.Atoms.{AreAtoms, IsAtomOf, IsLitIn, JoinOnly, literal_in};
 ghost use Rattle.nz_log.specs.Axioms.{link_of, unit_of};
-ghost use Rattle.nz_log.specs.Logs.{AreLitsOf, JoinsAtoms, PutsAxiom, PutsRow};
+ghost use Rattle.nz_log.specs.Logs.{AreLitsOf, JoinsAtoms, PutsAxiom, PutsRow, literals_at};
 ghost use Rattle.nz_log.specs.Sound.{IsLog};
 ghost use Rattle.nz_log.specs.Stored.{axiom_in};
 
@@ -38,6 +38,7 @@ impl Log {
         requires row { IsRowAt terms.now (link_rows terms.now (term_in terms.now term)) j row.items }
         ensures made { IfOk result (λ id. PutsAxiom terms.now self.old id (link_of term j) self.new) }
         ensures atoms { AreAtoms self.new.atoms }
+        ensures only { IfOk result (λ id. JoinOnly self.old.atoms self.new.atoms (IsAtomOf (literals_at self.new id))) }
         ensures unchanged { OnErr result (JoinsAtoms self.old self.new) }
         // Where the arguments have values of their sorts, the log stays in order.
         ensures sound { (levels : List (List ℕ)) → IsArithmetic (term_in terms.now term) → IsLog terms.now levels self.old → IsLog terms.now levels self.new }
@@ -68,6 +69,7 @@ impl Log {
         requires row { IsRowAt terms.now (unit_rows terms.now (term_in terms.now term)) j row.items }
         ensures made { IfOk result (λ id. PutsAxiom terms.now self.old id (unit_of term j) self.new) }
         ensures atoms { AreAtoms self.new.atoms }
+        ensures only { IfOk result (λ id. JoinOnly self.old.atoms self.new.atoms (IsAtomOf (literals_at self.new id))) }
         ensures unchanged { OnErr result (JoinsAtoms self.old self.new) }
         // Where the arguments have values of their sorts, the log stays in order.
         ensures sound { (levels : List (List ℕ)) → IsArithmetic (term_in terms.now term) → IsLog terms.now levels self.old → IsLog terms.now levels self.new }
@@ -85,6 +87,7 @@ impl Log {
     fn put_row(&mut self, row: Vec<RowLiteral>, reason: Axiom) -> Result<ClauseId, Memory>
         ensures made { IfOk result (λ id. PutsRow self.old id (axiom_in reason) row.items self.new) }
         ensures atoms { AreAtoms self.new.atoms }
+        ensures only { IfOk result (λ id. JoinOnly self.old.atoms self.new.atoms (IsAtomOf (literals_at self.new id))) }
         ensures unchanged { OnErr result (JoinsAtoms self.old self.new) }
     {
         let literals = self.row_lits(row)?;
@@ -96,6 +99,7 @@ impl Log {
     fn row_lits(&mut self, row: Vec<RowLiteral>) -> Result<Vec<Lit>, Memory>
         ensures literals { IfOk result (λ v. (ns : List Node) → AreRowLiteralsIn ns row.items → AreLitsOf ns self.new.atoms row.items v.items) }
         ensures joins { JoinsAtoms self.old self.new }
+        ensures only { IfOk result (λ v. JoinOnly self.old.atoms self.new.atoms (IsAtomOf v.items)) }
         ensures atoms { AreAtoms self.new.atoms }
     {
         self.atom_count();
@@ -112,6 +116,7 @@ impl Log {
         ensures literal { IfOk result (λ l. (ns : List Node) → literal_in ns self.new.atoms l ≡ row_literal_in ns said) }
         ensures within { IfOk result (λ l. (ns : List Node) → IsRowLiteralIn ns said → IsLitIn ns self.new.atoms l) }
         ensures joins { JoinsAtoms self.old self.new }
+        ensures only { IfOk result (λ l. JoinOnly self.old.atoms self.new.atoms (λ i. i ≡ l.atom)) }
         ensures atoms { AreAtoms self.new.atoms }
     {
         match said {

@@ -9,6 +9,7 @@ use Rattle.nz_spec.specs.simplex.LiteralBounds.{position_under}
 use Rattle.nz_spec.specs.search.Notes as spec
 use Rattle.nz_spec.specs.search.Notes.{term_site, joining_site, exchange_site, value_site, sum_site, limit_site, model_site}
 use Rattle.nz_spec.specs.search.Places.{IsOperationIn, LeavesNumbers}
+use Rattle.nz_spec.specs.terms.FormOf.{number_in}
 use Rattle.nz_spec.specs.terms.Table.{Node, term_in}
 use Rattle.nz_frac.specs.Operations.{operation_of}
 use Rattle.nz_lin.specs.declared.bound.BoundMultiple as lin
@@ -44,6 +45,6 @@ IsSiteWithin ns site = ⊤
 
 -- The operation is of the computation at the place, of a simplex with these forms that was told these literals, at this point; and it leaves the numbers.
 pub record IsPlaceIn (ns : List Node) (fs : List (List Part)) (ls : List Literal) (x : Point) (place : Place) : Type 0 where
-  pub at : IsOperationIn ls (position_under fs x ls) (site_of ns place.site) (operation_of place.wide)
+  pub at : IsOperationIn (number_in ns) ls (position_under fs x ls) (site_of ns place.site) (operation_of place.wide)
   pub leaves : LeavesNumbers (operation_of place.wide)
   pub within : IsSiteWithin ns place.site

@@ -2,10 +2,12 @@
 use Rattle.std.proofs.Common.{◌≡◌, ◌==◌, ℕ, Bool, true, false, List, [], ◌∷◌, ◌++◌, Option, Some, None, refl, sym, ap, ◌∙◌, subst, if◌then◌else◌}
 use Rattle.std.specs.Prelude.{IsSome, IsTrue, slice_get, slice_index_or}
 use Rattle.std.proofs.lemmas.List.Elements.{All-push, All-weaker}
+use Rattle.std.proofs.lemmas.Option.{slice_get-get_or}
 use Rattle.nz_lists.proofs.Members.{at_of}
 use Rattle.nz_lists.proofs.Numbers.{equal-number, same-number}
-use Rattle.nz_spec.specs.clauses.Farkas.{bound_of, is_linear_literal}
-use Rattle.nz_spec.specs.search.Legal.{literal_by}
+use Rattle.nz_spec.specs.clauses.Farkas.{is_linear_literal}
+use Rattle.nz_spec.specs.clauses.LinearLiteral.{parts_of}
+use Rattle.nz_spec.specs.search.Search.{never}
 use Rattle.nz_spec.specs.clauses.Literal.{Literal, is_at_most}
 use Rattle.nz_spec.specs.simplex.LiteralBounds.{turned}
 use Rattle.nz_spec.specs.terms.Table.{IsTable, Node}
@@ -58,11 +60,13 @@ normal_at atoms id b are at = at_of IsNormal atoms are.normal id (AtMost b) at
 pub named_sum : (ns : List Node) (atoms : List Atom) (id number : ℕ) (work : WorkList Note) (b s : Bound) → slice_get atoms id ≡ Some (AtMost b) → b.strict ≡ false → s ≡ zero_bound (turned_sum b.sides.parts)
     → IsNumberIn ns atoms id number work → IsNamedSum ns s.sides.parts number work
 named_sum ns atoms id number work b s at normal is known =
-    let says : literal_by (search_after ns work).atoms (number, true) ≡ is_at_most (parts_over ns b.sides.parts) b.sides.offset =
-    known.says ∙ bound_in_log ns atoms (record { atom = id; sign = true }) b at normal in
+    let atom : Literal = slice_index_or (search_after ns work).atoms number never in
+    let says : atom ≡ is_at_most (parts_over ns b.sides.parts) b.sides.offset = known.says ∙ bound_in_log ns atoms (record { atom = id; sign = true }) b at normal in
     record {
-      may = record { named = known.named; bound = subst (λ (l : Literal). IsTrue (is_linear_literal l)) (sym says) refl };
-      sum = ap (λ (l : Literal). turned (bound_of l).parts) says ∙ sym (turned_over ns b.sides.parts) ∙ ap (λ (x : Bound). parts_over ns x.sides.parts) (sym is);
+      bound = atom;
+      named = slice_get-get_or (search_after ns work).atoms number never known.named;
+      linear = subst (λ (l : Literal). IsTrue (is_linear_literal l)) (sym says) refl;
+      sum = ap (λ (l : Literal). turned (parts_of l)) says ∙ sym (turned_over ns b.sides.parts) ∙ ap (λ (x : Bound). parts_over ns x.sides.parts) (sym is);
     }
 
 -- what is known of one atom more

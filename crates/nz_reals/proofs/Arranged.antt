@@ -1,23 +1,26 @@
 -- Units and sums that join before a search.
 use Rattle.std.proofs.Common.{◌≡◌, ◌⊎◌, inl, inr, ℕ, ◌<◌, ◌≤◌, Bool, true, false, List, [], ◌∷◌, map, length, Option, Some, None, refl, sym, ap, ◌∙◌, subst, true≢false, if◌then◌else◌, arith}
-use Rattle.std.specs.Prelude.{All, Contains, pos, slice_get, slice_index_or}
+use Rattle.std.specs.Prelude.{All, Contains, option_map, pos, slice_get, slice_index_or}
 use Rattle.std.specs.List.{AllByRecursion}
 use Rattle.std.proofs.lemmas.List.Elements.{All-contains, All-from_recursion}
+use Rattle.std.proofs.lemmas.Option.{slice_get-map}
 use Rattle.nz_lists.proofs.Elements.{AllByRecursion-append, AllByRecursion-weaker}
-use Rattle.nz_lists.proofs.Members.{by_each, each_of, map_from, map_has}
+use Rattle.nz_lists.proofs.Members.{at_of, by_each, each_of, map_from, map_has}
 use Rattle.nz_lists.proofs.Numbers.{below_or_past}
 use Rattle.nz_fractions.specs.Fraction.{Fraction, neg_ℚ, whole}
 use Rattle.nz_fractions.proofs.Identities.{neg-back}
-use Rattle.nz_spec.specs.simplex.Bland.{Position, Side, zero_infinitesimal}
+use Rattle.nz_spec.specs.simplex.Bland.{Position, zero_infinitesimal}
 use Rattle.nz_spec.specs.clauses.Farkas.{bound_of}
 use Rattle.nz_spec.specs.terms.Form as spec
-use Rattle.nz_spec.specs.terms.Form.{unit_form}
+use Rattle.nz_spec.specs.terms.Form.{Numbering, unit_form}
 use Rattle.nz_spec.specs.numbers.Infinitesimal.{Infinitesimal}
-use Rattle.nz_spec.specs.search.Legal.{IsSumOf, IsTabled}
-use Rattle.nz_spec.specs.clauses.Literal.{Literal, TellsLiterals, is_at_most, negation_of, term_literal}
-use Rattle.nz_spec.specs.simplex.LiteralBounds.{FormBound, bound_said, turned}
+use Rattle.nz_spec.specs.clauses.LinearLiteral.{parts_of}
+use Rattle.nz_spec.specs.search.Atoms.{IsTabled}
+use Rattle.nz_spec.specs.search.Beginnings.{IsKnownForm, of_bound, IsKnownPlace, at_zero, at_bound}
+use Rattle.nz_spec.specs.clauses.Literal.{Literal, StandOnce, TellsLiterals, is_at_most, is_below, negation_of, term_literal}
+use Rattle.nz_spec.specs.simplex.LiteralBounds.{FormBound, turned}
 use Rattle.nz_spec.specs.simplex.PositionMoves.{with_form, with_unit}
-use Rattle.nz_spec.specs.terms.Table.{IsTable, Node, OneNumber, term_in}
+use Rattle.nz_spec.specs.terms.Table.{HasOneNumberEach, IsTable, Node, OneNumber, term_in}
 use Rattle.nz_spec.specs.terms.Term.{Term}
 use Rattle.nz_spec.specs.clauses.Units.{times_unit}
 use Rattle.nz_lin.specs.declared.bound.Bound.{Bound}
@@ -68,6 +71,11 @@ with_new_units ns s f = with_all_units (position_over ns s) (unit_terms ns (new_
 
 -- ---- A bound among atoms
 
+parts_told : (l : Literal) → parts_of l ≡ (bound_of l).parts
+parts_told (term_literal t sign) = refl
+parts_told (is_at_most ps b) = refl
+parts_told (is_below ps b) = refl
+
 module _ (all : List Atom) (ids : List ℕ) (b : Bound) (among : IsBoundAmong all ids b) where
   -- over a table
   module _ (ns : List Node) (within : AreAtomsIn ns all ids) where
@@ -79,9 +87,10 @@ module _ (all : List Atom) (ids : List ℕ) (b : Bound) (among : IsBoundAmong al
     abbrev says : Literal
     says = literal_in ns all (record { atom = among.id; sign = true })
 
-    says_parts : (bound_of says).parts ≡ parts_over ns b.sides.parts
+    says_parts : parts_of says ≡ parts_over ns b.sides.parts
     says_parts =
-        ap (λ (o : Option Atom). (bound_of (elim o [ None ↦ term_literal (term_in ns 0) true | Some a ↦ with_sign true (atom_in ns a) ])).parts) among.at
+        parts_told says
+        ∙ ap (λ (o : Option Atom). (bound_of (elim o [ None ↦ term_literal (term_in ns 0) true | Some a ↦ with_sign true (atom_in ns a) ])).parts) among.at
         ∙ literal_parts ns b
 
     form_units : (f : List Part) → IsFormOfBound b f → AreUnits ns f
@@ -129,6 +138,23 @@ module _ (all : List Atom) (ids : List ℕ) (b : Bound) (among : IsBoundAmong al
         by_test : (t : Bool) → AllByRecursion (IsSumAmong ns all ids) (if t then with_new_units ns s f else with_form (with_new_units ns s f) (parts_over ns f)).forms
         by_test true = with_these
         by_test false = AllByRecursion-append (IsSumAmong ns all ids) (with_new_units ns s f).forms (parts_over ns f ∷ []) with_these (sum_among f is, tt)
+
+-- ---- Forms over a table
+
+map_found : {X Y : Type 0} (f : X → Y) (xs : List X) (i : ℕ) (y : Y) → slice_get (map f xs) i ≡ Some y → (x : X) × (slice_get xs i ≡ Some x) × (f x ≡ y)
+map_found {X} {Y} f xs i y at = by_case (slice_get xs i) refl (sym (slice_get-map f xs i) ∙ at)
+  where
+    by_case : (o : Option X) → slice_get xs i ≡ o → option_map f o ≡ Some y → (x : X) × (slice_get xs i ≡ Some x) × (f x ≡ y)
+    by_case None e h = absurd cc
+    by_case (Some x) e h = (x, e, cc)
+
+-- what stands once does so over the table
+pub forms_once : (ns : List Node) → HasOneNumberEach ns → (fs : List (List Part)) → AllByRecursion (AreUnits ns) fs → StandOnce fs → StandOnce (map (parts_over ns) fs)
+forms_once ns one fs units once i j f at to =
+    let g = map_found (parts_over ns) fs i f at in
+    let h = map_found (parts_over ns) fs j f to in
+    let same : g.0 ≡ h.0 = one_sum ns one g.0 h.0 (at_of (AreUnits ns) fs units i g.0 g.1).names (at_of (AreUnits ns) fs units j h.0 h.1).names (g.2 ∙ sym h.2) in
+    once i j h.0 (g.1 ∙ ap Some same) h.1
 
 -- ---- A theory
 
@@ -227,9 +253,9 @@ module _ (all : List Atom) (ids : List ℕ) where
       record { table = may.table; over = h.over may.table may.is_table may.within; units = unit_units may.table p (each_of (NamesUnit may.table) b.sides.parts units.names p has); sum = unit_sum p }
 
   -- a bound that is tabled is so with either sign
-  tabled_with : (ts : List Term) (ps : List spec.Part) (b : Fraction) (sign : Bool) → IsTabled ts (is_at_most ps b) → IsTabled ts (with_sign sign (is_at_most ps b))
-  tabled_with ts ps b true h = h
-  tabled_with ts ps b false h = record { number = h.number; term = h.term; listed = h.listed; row = h.row; tabled = h.tabled; has = by_case h.has }
+  tabled_with : (number : Numbering) (ts : List Term) (ps : List spec.Part) (b : Fraction) (sign : Bool) → IsTabled number ts (is_at_most ps b) → IsTabled number ts (with_sign sign (is_at_most ps b))
+  tabled_with number ts ps b true h = h
+  tabled_with number ts ps b false h = record { term = h.term; listed = h.listed; row = h.row; tabled = h.tabled; linear = refl; has = by_case h.has }
     where
       back : negation_of (negation_of (is_at_most ps b)) ≡ is_at_most ps b
       back = ap (λ (qs : List spec.Part). is_at_most qs (neg_ℚ (neg_ℚ b))) (parts_back ps) ∙ ap (is_at_most ps) (neg-back b)
@@ -244,17 +270,19 @@ module _ (all : List Atom) (ids : List ℕ) where
       let here = h.over ns over.table within in
       record {
         known =
-            All-from_recursion (λ (f : List spec.Part). (l : Literal) × IsTabled ts l × IsSumOf l f) (map (parts_over ns) u.simplex.forms)
-            (AllByRecursion-weaker (IsSumAmong ns all ids) (λ (f : List spec.Part). (l : Literal) × IsTabled ts l × IsSumOf l f)
-            (λ f s. (literal_in ns all (record { atom = s.among.id; sign = true }), All-contains (IsTabledAtom ns ts all) ids s.among.id tabled s.among.listed s.bound s.among.at, s.is))
+            All-from_recursion (λ (f : List spec.Part). (f ≡ []) ⊎ IsKnownForm ts [] f) (map (parts_over ns) u.simplex.forms)
+            (AllByRecursion-weaker (IsSumAmong ns all ids) (λ (f : List spec.Part). (f ≡ []) ⊎ IsKnownForm ts [] f)
+            (λ f s.
+            let known = All-contains (IsTabledAtom ns ts all) ids s.among.id tabled s.among.listed s.bound s.among.at in
+            inr (of_bound known.0 (literal_in ns all (record { atom = s.among.id; sign = true })) known.1 s.is))
             (map (parts_over ns) u.simplex.forms) (h.sums ns over.table within));
+        once = λ i j f at to some. forms_once ns (one ns over.table) u.simplex.forms here.units forms.once i j f at to;
         basis = (sound.ready ns here).basis;
         places = λ k v at. by_place k v (h.places k v at);
       }
     where
-      by_place : (k : ℕ) (v : Infinitesimal) → StandsAmong all ids u.simplex.forms k v
-          → (v ≡ zero_infinitesimal) ⊎ ((l : Literal) × (side : Side) × IsTabled ts l × (bound_said (map (parts_over ns) u.simplex.forms) l ≡ Some (record { form = k; side = side; bound = v })))
-      by_place k v (inl zero) = inl zero
+      by_place : (k : ℕ) (v : Infinitesimal) → StandsAmong all ids u.simplex.forms k v → IsKnownPlace ts (map (parts_over ns) u.simplex.forms) k v
+      by_place k v (inl zero) = at_zero zero
       by_place k v (inr b) =
           let ps = b.bound.sides.parts in
           let q = b.bound.sides.offset in
@@ -263,13 +291,10 @@ module _ (all : List Atom) (ids : List ℕ) where
           bound_in_log ns all (record { atom = b.among.id; sign = true }) b.bound b.among.at (normal_at all b.among.id b.bound atoms b.among.at)
           in
           let known = All-contains (IsTabledAtom ns ts all) ids b.among.id tabled b.among.listed b.bound b.among.at in
-          inr (
-            with_sign b.sign (is_at_most (parts_over ns ps) q),
-            half y.side,
-            tabled_with ts (parts_over ns ps) q b.sign (subst (IsTabled ts) says known),
-            said_of_form ns u.simplex k ps q b.sign (one ns over.table) tells (h.over ns over.table within) forms b.form
-                ∙ ap (λ (x : Infinitesimal). let o : Option FormBound = Some (record { form = k; side = half y.side; bound = x }) in o) (sym b.value),
-          )
+          at_bound known.0 (with_sign b.sign (is_at_most (parts_over ns ps) q)) (half y.side)
+          (record { plain = with_sign b.sign (is_at_most (parts_over ns ps) q); tabled = tabled_with known.0 ts (parts_over ns ps) q b.sign (subst (IsTabled known.0 ts) says known.1); is_tight = false; is = refl })
+          (said_of_form ns u.simplex k ps q b.sign (one ns over.table) tells (h.over ns over.table within) forms b.form
+          ∙ ap (λ (x : Infinitesimal). let o : Option FormBound = Some (record { form = k; side = half y.side; bound = x }) in o) (sym b.value))
 
 -- ---- How forms move when one joins
 

@@ -1,5 +1,5 @@
 -- The values of forms that are constants alone, one after another.
-use Rattle.std.proofs.Common.{◌≡◌, ℕ, ◌+◌, ◌<◌, inl, inr, true, List, [], ◌∷◌, ◌++◌, map, length, Option, Some, None, refl, sym, ap, ◌∙◌, subst, true≢false, arith, append_assoc}
+use Rattle.std.proofs.Common.{◌≡◌, ℕ, ◌+◌, ◌<◌, inl, inr, Bool, true, List, [], ◌∷◌, ◌++◌, map, length, Option, Some, None, refl, sym, ap, ◌∙◌, subst, true≢false, arith, append_assoc}
 use Rattle.std.specs.Prelude.{◌==◌, Contains, option_map, slice_get}
 use Rattle.std.specs.Cmp.{first_so}
 use Rattle.std.proofs.lemmas.List.{length-map, map-append}
@@ -24,7 +24,8 @@ use Rattle.nz_lin.specs.Forms.{AreUnits, parts_over}
 use Rattle.nz_tab.specs.Laws.{UnitsAreForms}
 use Rattle.nz_tab.specs.Units.{is_form_of, is_one}
 use Rattle.nz_simplex.specs.State.{IsOver, IsSound, position_over}
-use Rattle.nz_reals.specs.Chosen.{AddsValues, IsAlone, IsRealConstant, Puts, PutsFirst, PutsNone, PutsValue}
+use Rattle.nz_reals.specs.Chosen.{AddsValues, Puts, PutsFirst, PutsNone, PutsValue}
+use Rattle.nz_reals.specs.Constants.{IsAlone, IsRealConstant}
 use Rattle.nz_reals.specs.Limits.{HasValues, pairs_below, value_of}
 use Rattle.nz_reals.specs.State.{Theory, sum_at}
 use Rattle.nz_reals.specs.Stored.{AreForms}
@@ -46,9 +47,9 @@ module _ (t : Theory) (ns : List Node) (over : IsOver ns t.simplex) (forms : Are
 
   -- ---- One form after another
 
-  module _ (e : Fraction) (old : List (ℕ × spec.Value)) where
-    module _ (n : ℕ) (mid new : List (ℕ × spec.Value)) (less : n < length t.simplex.forms) (h : PutsFirst t ns e n old mid) where
-      puts_none : PutsNone t ns n mid new → PutsFirst t ns e (n + 1) old new
+  module _ (marks : List Bool) (e : Fraction) (old : List (ℕ × spec.Value)) where
+    module _ (n : ℕ) (mid new : List (ℕ × spec.Value)) (less : n < length t.simplex.forms) (h : PutsFirst t ns marks e n old mid) where
+      puts_none : PutsNone t ns marks n mid new → PutsFirst t ns marks e (n + 1) old new
       puts_none x = record {
         added = h.added;
         joined = x.same ∙ h.joined;
@@ -56,11 +57,11 @@ module _ (t : Theory) (ns : List Node) (over : IsOver ns t.simplex) (forms : Are
         right = λ u v has. let r = h.right u v has in (r.0, let k = r.1 in omega (arith, k), r.2, r.3);
         all = λ k u i alone. elim (below_or_last n k i) [
           | inl before ↦ h.all k u before alone
-          | inr last ↦ absurd (x.none u (subst (λ (m : ℕ). IsAlone ns (sum_at t m) u) last alone))
+          | inr last ↦ absurd (x.none u (subst (λ (m : ℕ). IsAlone ns marks (sum_at t m) u) last alone))
         ];
       }
 
-      puts_value : PutsValue t ns e n mid new → PutsFirst t ns e (n + 1) old new
+      puts_value : PutsValue t ns marks e n mid new → PutsFirst t ns marks e (n + 1) old new
       puts_value x = record {
         added = more;
         joined = x.joined ∙ ap (λ l. l ++ pair ∷ []) h.joined ∙ append_assoc old h.added (pair ∷ []);
@@ -72,7 +73,7 @@ module _ (t : Theory) (ns : List Node) (over : IsOver ns t.simplex) (forms : Are
           | inr same ↦
               let unit : x.unit ≡ u = ap (λ (y : ℕ × spec.Value). y.0) same in
               let value : spec.number x.value ≡ v = ap (λ (y : ℕ × spec.Value). y.1) same in
-              (n, omega arith, subst (IsAlone ns (sum_at t n)) unit x.alone, (x.value, sym value, x.right, x.number))
+              (n, omega arith, subst (IsAlone ns marks (sum_at t n)) unit x.alone, (x.value, sym value, x.right, x.number))
         ];
         all = λ k u i alone. elim (below_or_last n k i) [
           | inl before ↦ let v = h.all k u before alone in (v.0, Contains-append_left h.added (pair ∷ []) (u, v.0) v.1)
@@ -101,14 +102,14 @@ module _ (t : Theory) (ns : List Node) (over : IsOver ns t.simplex) (forms : Are
               let same = one_form r.0 n x.unit (omega (arith, k, less)) less (subst (λ (m : ℕ). is_form_of m (sum_at t r.0) ≡ true) y.2 r.2.0) x.alone.0 in
               omega (arith, k, same)
 
-      pub puts_more : Puts t ns e n mid new → PutsFirst t ns e (n + 1) old new
+      pub puts_more : Puts t ns marks e n mid new → PutsFirst t ns marks e (n + 1) old new
       puts_more (inl x) = puts_value x
       puts_more (inr x) = puts_none x
 
     -- ---- All forms
 
     module _ (sound : IsSound t.simplex) (values : PositionsHaveValues) (has : HasValues t) (numbers : AreNumbers (length t.simplex.forms) (value_of t)) (least : IsLeastLimit (pairs_below t (length t.simplex.forms)) e) where
-      pub adds_values : (n : ℕ) (new : List (ℕ × spec.Value)) → n ≡ length t.simplex.forms → PutsFirst t ns e n old new → AddsValues t ns (position_over ns t.simplex) old new
+      pub adds_values : (n : ℕ) (new : List (ℕ × spec.Value)) → n ≡ length t.simplex.forms → PutsFirst t ns marks e n old new → AddsValues t ns marks (position_over ns t.simplex) old new
       adds_values n new end h = record {
         added = h.added;
         joined = h.joined;
@@ -123,12 +124,12 @@ module _ (t : Theory) (ns : List Node) (over : IsOver ns t.simplex) (forms : Are
               let r = h.right u v there in
               let k = r.1 in (
                 r.0,
-                record { listed = omega (arith, k, end); alone = r.2.0; name = r.2.1.name; node = r.2.1.node; at = r.2.1.at; head = r.2.1.head; real = r.2.1.real },
+                record { listed = omega (arith, k, end); alone = r.2.0; of = r.2.1; marked = r.2.2 },
                 r.3,
               );
           all = λ u k is.
               h.all k u (let inside = is.listed in omega (arith, inside, end))
-              (is.alone, record { name = is.name; node = is.node; at = is.at; head = is.head; real = is.real });
+              (is.alone, is.of, is.marked);
         };
       }
 

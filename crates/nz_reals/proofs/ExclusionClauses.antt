@@ -1,6 +1,6 @@
 -- Clauses that bounds of one form exclude each other: what the log has then.
-use Rattle.std.proofs.Common.{◌≡◌, ℕ, ◌+◌, ◌-◌, ◌<◌, ◌≤◌, Bool, ◌⊎◌, inl, inr, zero, suc, List, [], ◌∷◌, ◌++◌, get_or, length, map, Option, Some, None, refl, sym, ap, ◌∙◌, subst, arith, true}
-use Rattle.std.specs.Prelude.{All, Contains, IsSome, set, slice_get, slice_index_or}
+use Rattle.std.proofs.Common.{◌≡◌, ℕ, ◌+◌, ◌-◌, ◌<◌, ◌≤◌, Bool, inl, inr, List, [], ◌∷◌, ◌++◌, get_or, length, map, Option, Some, None, refl, sym, ap, ◌∙◌, subst, arith, true}
+use Rattle.std.specs.Prelude.{All, Contains, IsSome, slice_get, slice_index_or}
 use Rattle.std.specs.List.{AllAdjacentBelow}
 use Rattle.std.proofs.lemmas.List.Elements.{All-contains, All-from_recursion, All-push, All-weaker, Contains-append_cases, Contains-append_left, Contains-append_right}
 use Rattle.std.proofs.lemmas.Option.{get_or_from_slice_get}
@@ -20,7 +20,7 @@ use Rattle.nz_log.specs.Sound.{IsLog}
 use Rattle.nz_search.specs.Theories.{IsClash}
 use Rattle.nz_log.specs.Growth.{Grows}
 use Rattle.nz_reals.specs.declared.neighbours.Lower as code
-use Rattle.nz_reals.specs.Exclusions.{AddsOn, AreAtomsOver, AreExcluded, AreJoined, AreLowers, HasNeighbours, IsExclusion, Joins, Keeps, lits_of}
+use Rattle.nz_reals.specs.Exclusions.{AddsOn, AreAtomsOver, AreExcluded, AreJoined, AreLowers, HasNeighbours, HasNone, IsExclusion, IsFresh, Joins, Keeps, lits_of}
 use Rattle.nz_reals.specs.Stands.{IsOf}
 use Rattle.nz_reals.specs.State.{Theory}
 use Rattle.nz_reals.specs.Tells.{both, literals_of}
@@ -113,6 +113,16 @@ pub exclusions_more : (old new : LogState) (ids cs : List ℕ) (l other : Lit) (
 exclusions_more old new ids cs l other id on other_on adds all clash =
     All-push (IsExclusion new ids) cs id (exclusions_kept old new ids cs adds.keeps all) (record { first = l; second = other; first_on = on; second_on = other_on; clash = clash })
 
+pub fresh_kept : (start old new : LogState) (held cs : List ℕ) → Keeps old new → All (IsFresh start old held) cs → All (IsFresh start new held) cs
+fresh_kept start old new held cs keeps all =
+    All-weaker (IsFresh start old held) (IsFresh start new held)
+    (λ id x. record { first = x.first; second = x.second; clash = clash_kept old new (x.first ∷ x.second ∷ []) id keeps x.clash; none = x.none }) cs all
+
+pub fresh_more : (start old new : LogState) (held cs : List ℕ) (l other : Lit) (id : ℕ) → Keeps old new → HasNone start held l other → All (IsFresh start old held) cs → IsClash new (l ∷ other ∷ []) id
+    → All (IsFresh start new held) (cs ++ id ∷ [])
+fresh_more start old new held cs l other id keeps none all clash =
+    All-push (IsFresh start new held) cs id (fresh_kept start old new held cs keeps all) (record { first = l; second = other; clash = clash; none = none })
+
 -- ---- Neighbours
 
 -- they have their clause still, where there are more
@@ -148,22 +158,6 @@ clash_of_pair log xs i id live (l, m, pair, same) d e =
       | inr is ↦ pair_clash log id live told m l is pair.two told_second told_first
     ]
 
-marked_more : (marks : List Bool) (place i : ℕ) → slice_get (set marks place true) i ≡ Some true → (i ≡ place) ⊎ (slice_get marks i ≡ Some true)
-marked_more [] place i at = inr at
-marked_more (b ∷ bs) zero zero at = inl refl
-marked_more (b ∷ bs) zero (suc i) at = inr at
-marked_more (b ∷ bs) (suc place) zero at = inr at
-marked_more (b ∷ bs) (suc place) (suc i) at = elim (marked_more bs place i at) [ inl e ↦ inl (ap suc e) | inr was ↦ inr was ]
-
--- one place more is marked
-pub joined_too : (log : LogState) (held : List ℕ) (xs : List code.Lower) (marks : List Bool) (place id : ℕ) → AreJoined log held xs marks → Contains held id → IsLive log id
-    → Joins xs place (literals_at log id) → AreJoined log held xs (set marks place true)
-joined_too log held xs marks place id are has live joins i at =
-    elim (marked_more marks place i at) [
-      | inl e ↦ (id, has, live, subst (λ k. Joins xs k (literals_at log id)) (sym e) joins)
-      | inr was ↦ are i was
-    ]
-
 -- the clauses that are held, and those that are new
 pub excluded_held : (t : Theory) (log new : LogState) (held cs : List ℕ) (xs : List code.Lower) (marks : List Bool) (i : ℕ) → Keeps log new → AreJoined log held xs marks → slice_get marks i ≡ Some true
     → (d e : code.Lower) → AreExcluded t new (held ++ cs) (get_or xs i d).literal (negated_lit (get_or xs (i - 1) e).literal)
@@ -185,6 +179,7 @@ joined_more t old new cs ds xs i first keeps more joined one =
 pub record IsExcluding (t : Theory) (start log : LogState) (atoms held cs : List ℕ) (xs : List code.Lower) (i : ℕ) : Type 0 where
   pub clauses : All (IsExclusion log atoms) cs
   pub adds : AddsOn atoms start log
+  pub fresh : All (IsFresh start log held) cs
   pub joined : AreJoinedBelow t log (held ++ cs) xs i
 
 module _ (t : Theory) (start log : LogState) (atoms held cs : List ℕ) (xs : List code.Lower) (i : ℕ) (first : 0 < i) (was : IsExcluding t start log atoms held cs xs i) where
@@ -194,15 +189,17 @@ module _ (t : Theory) (start log : LogState) (atoms held cs : List ℕ) (xs : Li
   excluding_held first_log marks keeps are at = record {
     clauses = was.clauses;
     adds = was.adds;
+    fresh = was.fresh;
     joined = joined_more t log log (held ++ cs) (held ++ cs) xs i first (keeps_same log) (λ id has. has) was.joined (λ d. excluded_held t first_log log held cs xs marks i keeps are at d d);
   }
 
   -- it is put
-  pub excluding_more : (new : LogState) (ds : List ℕ) → AddsOn atoms log new → ((id : ℕ) → Contains cs id → Contains ds id) → All (IsExclusion new atoms) ds
+  pub excluding_more : (new : LogState) (ds : List ℕ) → AddsOn atoms log new → ((id : ℕ) → Contains cs id → Contains ds id) → All (IsExclusion new atoms) ds → All (IsFresh start new held) ds
       → ((d : code.Lower) → AreExcluded t new ds (get_or xs i d).literal (negated_lit (get_or xs (i - 1) d).literal)) → IsExcluding t start new atoms held ds xs (i + 1)
-  excluding_more new ds adds more all here = record {
+  excluding_more new ds adds more all fresh here = record {
     clauses = all;
     adds = adds_more atoms start log new was.adds adds;
+    fresh = fresh;
     joined = joined_more t log new (held ++ cs) (held ++ ds) xs i first adds.keeps
         (λ id has. elim (Contains-append_cases held cs id has) [ inl a ↦ Contains-append_left held ds id a | inr b ↦ Contains-append_right held ds id (more id b) ]) was.joined
         (λ d. excluded_kept t new new ds (held ++ ds) (get_or xs i d).literal (negated_lit (get_or xs (i - 1) d).literal) (keeps_same new) (λ id b. Contains-append_right held ds id b) (here d));

@@ -1,22 +1,27 @@
 -- A fraction for the infinitesimal: the least of 1 and what the values of all forms and their bounds allow.
 use Rattle.std.proofs.Common.{◌≡◌, ℕ, zero, suc, ◌+◌, ◌<◌, ◌≤◌, ◌⊎◌, inl, inr, Bool, true, false, List, [], ◌∷◌, ◌++◌, length, Option, Some, None, pos, refl, sym, ap, ◌∙◌, subst, true≢false, arith, append-nil}
 use Rattle.std.specs.Prelude.{Contains, IsSome, option_map, unwrap_or, if◌then◌else◌}
+use Rattle.std.proofs.lemmas.Option.{slice_get-get_or, slice_get-map}
 use Rattle.std.proofs.lemmas.Int.{ints}
 use Rattle.std.proofs.lemmas.List.{length-map}
 use Rattle.std.proofs.lemmas.List.Elements.{All-contains, All-from_recursion, Contains-append_cases, Contains-append_left, Contains-append_right}
 use Rattle.nz_lists.proofs.Members.{by_each, has_cases, has_first, has_more, has_none}
 use Rattle.nz_lists.proofs.Numbers.{same_or_below}
-use Rattle.nz_fractions.specs.Fraction.{Fraction, IsNumber, Operation, Product, Sum, first_wide, fraction_lt, is_wide, outcome, whole, ◌=ℚ◌, ◌≤ℚ◌, ◌<ℚ◌, ◌+ℚ◌, ◌*ℚ◌}
+use Rattle.nz_fractions.specs.Fraction.{Fraction, IsNumber, Operation, Product, Sum, first_wide, fraction_lt, outcome, whole, ◌=ℚ◌, ◌≤ℚ◌, ◌<ℚ◌, ◌+ℚ◌, ◌*ℚ◌}
 use Rattle.nz_fractions.proofs.Arithmetic.{+ℚ-same, outcome-product, outcome-sum}
 use Rattle.nz_fractions.proofs.Laws.{lowest-same, ≤ℚ-from_lt, ≤ℚ_refl, ≤ℚ_trans, =ℚ_refl, =ℚ_trans}
 use Rattle.nz_spec.specs.simplex.Bland as bland
-use Rattle.nz_spec.specs.simplex.Bland.{HasValue, IsOutside, Point, Position, PositionsHaveValues, bound_on, lower_side, upper_side, zero_infinitesimal}
+use Rattle.nz_spec.specs.simplex.Bland.{HasValue, IsOutside, IsWithinBounds, Point, Position, PositionsHaveValues, bound_on, lower_side, upper_side, zero_infinitesimal}
 use Rattle.nz_spec.specs.terms.Form as spec
+use Rattle.nz_spec.specs.terms.Form.{unit_form}
 use Rattle.nz_spec.specs.numbers.Infinitesimal.{Infinitesimal, InfinitesimalsAreOrdered, IsLeastLimit, Pair, at, delta_operations, is_limiting, limit, limit_operations, limits, ◌≤δ◌}
 use Rattle.nz_spec.specs.clauses.Literal.{Literal}
 use Rattle.nz_spec.specs.simplex.LiteralBounds.{position_under}
-use Rattle.nz_spec.specs.search.Places.{IsChosen, IsOfLimit, IsOperationIn, IsPairOf, IsWithinBounds, in_order}
-use Rattle.nz_spec.specs.terms.Table.{Node}
+use Rattle.nz_spec.specs.search.Places.{IsChosen, IsOfLimit, IsOfModel, IsOperationIn, IsPairOf, in_order}
+use Rattle.nz_spec.specs.simplex.Climb.{unit_of}
+use Rattle.nz_spec.specs.terms.FormOf.{number_in}
+use Rattle.nz_spec.specs.terms.Table.{HasItsArguments, Node, TermOfNode, term_in, terms_at}
+use Rattle.nz_spec.specs.terms.Term.{Head, Term, apply, constant}
 use Rattle.nz_spec.specs.laws.ToldBounds.{AreNumbers}
 use Rattle.nz_frac.specs.Operations.{operation_of}
 use Rattle.nz_delta.specs.declared.delta.Delta.{Delta}
@@ -35,10 +40,11 @@ use Rattle.nz_search.specs.Places.{OnWide}
 use Rattle.nz_simplex.specs.Checks as checks
 use Rattle.nz_simplex.specs.Standing.{bound_in, half}
 use Rattle.nz_simplex.specs.State.{IsOver, IsSound, State, position_over, value_in}
-use Rattle.nz_reals.specs.Limits.{HasValues, IsLimitPlace, IsModelPlace, listed, pair_on, pairs_below, pairs_of, value_of}
+use Rattle.nz_tab.specs.Laws.{UnitsAreForms}
+use Rattle.nz_reals.specs.Constants.{AreMarkedAmong, IsRealConstant}
+use Rattle.nz_reals.specs.Limits.{HasValues, IsLimitPlace, IsModelPlace, IsModelPlaceIn, IsPlaceOfValues, listed, pair_on, pairs_below, pairs_of, value_of}
 use Rattle.nz_reals.specs.Stands.{IsAt}
-use Rattle.nz_reals.specs.State.{Theory}
-use Rattle.nz_fractions.proofs.FirstOperations.{first_wide-is}
+use Rattle.nz_reals.specs.State.{Theory, sum_at}
 use Rattle.nz_reals.proofs.TheoryPositions.{position_is}
 
 -- ---- Tests
@@ -112,14 +118,14 @@ one_least e is =
       reached = has_first (whole (pos 1)) [];
     })
 
--- the first operation that leaves the numbers is one of the limit's
-pub limit_stop : (pair : Pair) (op : Operation) → Some op ≡ first_wide (delta_operations (pair ∷ [])) → Contains (limit_operations pair) op × (is_wide op.operator op.left op.right ≡ true)
+-- the first operation that leaves the numbers is that of the limit, which the pair sets
+pub limit_stop : (pair : Pair) (op : Operation) → Some op ≡ first_wide (delta_operations (pair ∷ [])) → (is_limiting pair ≡ true) × (first_wide (limit_operations pair) ≡ Some op)
 unfolding delta_operations first_wide
-limit_stop pair op e = by_test (is_limiting pair) (sym e)
+limit_stop pair op e = by_test (is_limiting pair) refl (sym e)
   where
-    by_test : (b : Bool) → first_wide (if b then limit_operations pair ++ [] else []) ≡ Some op → Contains (limit_operations pair) op × (is_wide op.operator op.left op.right ≡ true)
-    by_test true f = first_wide-is (limit_operations pair) op (ap first_wide (sym (append-nil (limit_operations pair))) ∙ f)
-    by_test false f = absurd cc
+    by_test : (b : Bool) → is_limiting pair ≡ b → first_wide (if b then limit_operations pair ++ [] else []) ≡ Some op → (is_limiting pair ≡ true) × (first_wide (limit_operations pair) ≡ Some op)
+    by_test true limits f = (limits, ap first_wide (sym (append-nil (limit_operations pair))) ∙ f)
+    by_test false limits f = absurd cc
 
 -- ---- Bounds and values
 
@@ -269,31 +275,46 @@ module _ (t : Theory) (ns : List Node) (over : IsOver ns t.simplex) (sound : IsS
 
     -- ---- Where the value of a form leaves the numbers
 
-    pub model_place : (e : Fraction) (place : Place) → IsWithinBounds p → IsLeastLimit (pairs_below t n) e → IsModelPlace t e place
-        → (fs : List (List spec.Part)) (ls : List Literal) (x : Point) → position_under fs x ls ≡ p → IsPlaceIn ns fs ls x place
-    model_place e place within least h fs ls x same = record {
-      at =
-          subst (λ (q : Position). IsOperationIn ls q (site_of ns place.site) (operation_of place.wide)) (sym same)
-          (subst (λ (s : Site). IsOperationIn ls p (site_of ns s) (operation_of place.wide)) (sym h.site) (record {
+    module _ (node : TermOfNode) (units : UnitsAreForms) (marks : List Bool) (ts : List Term) (among : AreMarkedAmong ns marks ts) where
+      -- the term of a constant
+      constant_term : (u : ℕ) (c : IsRealConstant ns u) → term_in ns u ≡ unit_of c.name
+      constant_term u c =
+          let kids : c.node.kids ≡ [] = subst (λ (h : Head). HasItsArguments h c.node.kids) c.head (over.table.leaves u c.node c.at) in
+          node ns over.table u c.node c.at ∙ ap (λ (h : Head). apply h (terms_at (term_in ns) c.node.kids)) c.head ∙ ap (λ (is : List ℕ). apply (constant c.name) (terms_at (term_in ns) is)) kids
+
+      pub model_place : (e : Fraction) (place : Place) → IsWithinBounds p → IsLeastLimit (pairs_below t n) e → IsModelPlace t ns marks e place
+          → (fs : List (List spec.Part)) (ls : List Literal) (x : Point) → position_under fs x ls ≡ p → IsModelPlaceIn ts fs ls x place
+      model_place e place within least h fs ls x same =
+          let c : IsRealConstant ns h.unit = h.alone.1 in
+          let is : term_in ns h.unit ≡ unit_of c.name = constant_term h.unit c in
+          let own : IsOfModel ts p h.form (operation_of place.wide) = record {
             within = within;
-            listed = let inside = h.inside in omega (arith, inside, count);
+            constant = c.name;
+            is_listed = subst (Contains ts) is (among h.unit h.alone.2);
+            is =
+                slice_get-map (parts_over ns) t.simplex.forms h.form
+                ∙ ap (option_map (parts_over ns)) (slice_get-get_or t.simplex.forms h.form [] h.inside)
+                ∙ ap Some (units.form ns h.unit (sum_at t h.form) h.alone.0 ∙ ap (λ (u : Term). (unit_form u).parts) is);
             value = value_of t h.form;
             has = has_value h.form h.inside;
             delta = e;
             chosen = chosen e least;
-            of = h.of;
-          }));
-      leaves = h.leaves;
-      within = subst (λ (s : Site). IsSiteWithin ns s) (sym h.site) tt;
-    }
+            first = h.first;
+          } in
+          record {
+            form = h.form;
+            site = h.site;
+            at = subst (λ (q : Position). IsOfModel ts q h.form (operation_of place.wide)) (sym same) own;
+            leaves = h.leaves;
+          }
 
   -- ---- Where the limit of a form leaves the numbers
 
   pub limit_place : (place : Place) → IsWithinBounds p → HasValues t → IsLimitPlace t place → (fs : List (List spec.Part)) (ls : List Literal) (x : Point) → position_under fs x ls ≡ p → IsPlaceIn ns fs ls x place
   limit_place place within has h fs ls x same = record {
     at =
-        subst (λ (q : Position). IsOperationIn ls q (site_of ns place.site) (operation_of place.wide)) (sym same)
-        (subst (λ (s : Site). IsOperationIn ls p (site_of ns s) (operation_of place.wide)) (sym h.site) (by_side h.side (bound_of_pair t h.form h.side h.pair h.is)));
+        subst (λ (q : Position). IsOperationIn (number_in ns) ls q (site_of ns place.site) (operation_of place.wide)) (sym same)
+        (subst (λ (s : Site). IsOperationIn (number_in ns) ls p (site_of ns s) (operation_of place.wide)) (sym h.site) (by_side h.side (bound_of_pair t h.form h.side h.pair h.is)));
     leaves = h.leaves;
     within = subst (λ (s : Site). IsSiteWithin ns s) (sym h.site) tt;
   }
@@ -311,7 +332,8 @@ module _ (t : Theory) (ns : List Node) (over : IsOver ns t.simplex) (sound : IsS
           numbers = h.numbers;
           is = b.2;
         };
-        of = h.of;
+        limits = h.limits;
+        first = h.first;
       }
 
       by_side : (side : Side) → (b : Infinitesimal) × (bound_in t.simplex.asserted side h.form ≡ Some b) × (h.pair ≡ in_order (half side) b (value_of t h.form)) → IsOfLimit p h.form (places.half side) (operation_of place.wide)
@@ -320,16 +342,27 @@ module _ (t : Theory) (ns : List Node) (over : IsOver ns t.simplex) (sound : IsS
 
 -- ---- Wherever the theory stands
 
-module _ (order : InfinitesimalsAreOrdered) (t : Theory) (ns : List Node) (over : IsOver ns t.simplex) (sound : IsSound t.simplex) (feasible : checks.IsFeasible ns t.simplex) where
-  pub limit_stands : (place : Place) → IsLimitPlace t place → (fs : List (List spec.Part)) (ls : List Literal) (x : Point) → IsAt t ns fs ls x → IsPlaceIn ns fs ls x place
-  limit_stands place h fs ls x at = limit_place t ns over sound place feasible.within (has_values t ns over sound order feasible) h fs ls x (position_is t ns fs ls x at)
+-- a place of the values, wherever the theory stands
+abbrev pub StandsOfValues : Theory → List Node → List Term → Place → Type 0
+StandsOfValues t ns ts place = (fs : List (List spec.Part)) (ls : List Literal) (x : Point) → IsAt t ns fs ls x → IsPlaceOfValues ns ts fs ls x place
 
-  pub model_stands : PositionsHaveValues → AreNumbers (length t.simplex.forms) (value_of t) → (d : Fraction) → IsLeastLimit (pairs_below t (length t.simplex.forms)) d → (e : Stop) → OnWide e (IsModelPlace t d)
-      → OnWide e (λ (place : Place). (fs : List (List spec.Part)) (ls : List Literal) (x : Point) → IsAt t ns fs ls x → IsPlaceIn ns fs ls x place)
-  model_stands values numbers d least (Wide place) h = λ fs ls x at.
-      model_place t ns over sound values (has_values t ns over sound order feasible) numbers d place feasible.within least h fs ls x (position_is t ns fs ls x at)
-  model_stands values numbers d least Spent h = tt
-  model_stands values numbers d least Memory h = tt
+module _ (order : InfinitesimalsAreOrdered) (t : Theory) (ns : List Node) (over : IsOver ns t.simplex) (sound : IsSound t.simplex) (feasible : checks.IsFeasible ns t.simplex) (ts : List Term) where
+  pub limit_stands : (place : Place) → IsLimitPlace t place → StandsOfValues t ns ts place
+  limit_stands place h fs ls x at =
+      inl
+      (record {
+        form = h.form;
+        side = h.side;
+        site = h.site;
+        leaves = limit_place t ns over sound place feasible.within (has_values t ns over sound order feasible) h fs ls x (position_is t ns fs ls x at);
+      })
+
+  pub model_stands : PositionsHaveValues → TermOfNode → UnitsAreForms → (marks : List Bool) → AreMarkedAmong ns marks ts → AreNumbers (length t.simplex.forms) (value_of t) → (d : Fraction)
+      → IsLeastLimit (pairs_below t (length t.simplex.forms)) d → (e : Stop) → OnWide e (IsModelPlace t ns marks d) → OnWide e (StandsOfValues t ns ts)
+  model_stands values node units marks among numbers d least (Wide place) h = λ fs ls x at.
+      inr (model_place t ns over sound values (has_values t ns over sound order feasible) numbers node units marks ts among d place feasible.within least h fs ls x (position_is t ns fs ls x at))
+  model_stands values node units marks among numbers d least Spent h = tt
+  model_stands values node units marks among numbers d least Memory h = tt
 
 -- ---- The value where a fraction stands for the infinitesimal
 

@@ -227,7 +227,7 @@ alone_is ns one f (q ∷ []) p is unit e fs gs =
     let over : parts_over ns (q ∷ []) ≡ parts_over ns (p ∷ []) = λ i. record { coefficient = (mine ∙ sym theirs) i; unit = term_in ns (name i) } ∷ [] in
     one_sum ns one (q ∷ []) (p ∷ []) gs.names (subst (AreUnits ns) is fs).names over ∙ sym is
 
-unit_shape : (f : List Part) → is_unit_form f ≡ true → (p : Part) × (f ≡ p ∷ [])
+pub unit_shape : (f : List Part) → is_unit_form f ≡ true → (p : Part) × (f ≡ p ∷ [])
 unit_shape [] e = absurd (true≢false (sym e))
 unit_shape (p ∷ []) e = (p, refl)
 unit_shape (p ∷ q ∷ qs) e = absurd (true≢false (sym e))

@@ -7,6 +7,7 @@ pub mod Contradictions
 pub mod ExclusionClauses
 pub mod InfinitesimalLimits
 pub mod JoinedForms
+pub mod Joints
 pub mod KnownAtoms
 pub mod KnownLists
 pub mod LiteralForms
@@ -14,10 +15,12 @@ pub mod LowerBounds
 pub mod News
 pub mod RefutationClauses
 pub mod SearchStarts
+pub mod SumCounts
 pub mod Sums
 pub mod TheoryPositions
 pub mod TheoryStarts
 pub mod Tolds
+pub mod WhyForms
 pub mod Whys
 pub mod WideJoinRows
 pub mod WidePlaces

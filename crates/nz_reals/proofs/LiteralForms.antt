@@ -1,11 +1,11 @@
 -- What a literal says of the forms, as the definitions find it: the first form that is its sum, or the sum with the other signs.
-use Rattle.std.proofs.Common.{◌≡◌, ℕ, zero, suc, ◌+◌, ◌<◌, ◌⊎◌, inl, inr, Bool, true, false, List, [], ◌∷◌, map, length, Option, Some, refl, sym, ap, ◌∙◌, true≢false, arith, pos}
+use Rattle.std.proofs.Common.{◌≡◌, ℕ, zero, suc, ◌+◌, ◌<◌, ◌⊎◌, inl, inr, Bool, true, false, List, [], ◌∷◌, map, length, Option, Some, None, refl, sym, ap, ◌∙◌, subst, true≢false, arith, pos}
 use Rattle.std.proofs.lemmas.Bool.{false_from_ne_true}
-use Rattle.std.specs.Prelude.{option_map, slice_get, slice_index_or, if◌then◌else◌}
+use Rattle.std.specs.Prelude.{Contains, option_map, slice_get, slice_index_or, if◌then◌else◌}
 use Rattle.std.specs.List.{AllByRecursion}
 use Rattle.std.proofs.lemmas.List.{length-map}
 use Rattle.std.proofs.lemmas.Option.{get_or_from_slice_get, slice_get-get_or, slice_get_within}
-use Rattle.nz_lists.proofs.Members.{at_of}
+use Rattle.nz_lists.proofs.Members.{at_of, has_first, has_more}
 use Rattle.nz_lists.proofs.Places.{slice_index_or-map}
 use Rattle.nz_fractions.specs.Fraction.{Fraction, fraction_lt, neg_ℚ, whole}
 use Rattle.nz_fractions.proofs.Identities.{neg-back}
@@ -83,6 +83,21 @@ module _ (ns : List Node) (one : HasOneNumberEach ns) (tells : TellsLiterals) wh
 
       first_of : (xs ys : List spec.Part) → xs ≡ ys → head xs ≡ head ys
       first_of xs ys h = ap head h
+
+  -- a sum that is none of these forms isn't found among them
+  pub not_found : (k : ℕ) (fs : List (List Part)) (f : List Part) → AllByRecursion (AreUnits ns) fs → AllByRecursion IsFormSum fs → AreUnits ns f → IsFormSum f → (Contains fs f → ⊥)
+      → bounded_from k (map (parts_over ns) fs) (parts_over ns f) ≡ None
+  not_found k [] f units sums own sum none = refl
+  not_found k (g ∷ gs) f units sums own sum none =
+      passed k (parts_over ns g) (map (parts_over ns) gs) (parts_over ns f) (
+        false_from_ne_true (are_same_parts (parts_over ns g) (parts_over ns f)) (λ t. other (sums_told tells (parts_over ns g) (parts_over ns f) t)),
+        false_from_ne_true (are_same_parts (parts_over ns g) (map negated_part (parts_over ns f)))
+            (λ t. other (not_negated g f sums.0 sum (sums_told tells (parts_over ns g) (map negated_part (parts_over ns f)) t))),
+      )
+      ∙ not_found (suc k) gs f units.1 sums.1 own sum (λ has. none (has_more g f gs has))
+    where
+      other : parts_over ns g ≡ parts_over ns f → ⊥
+      other e = none (subst (Contains (g ∷ gs)) (one_sum ns one g f units.0.names own.names e) (has_first g gs))
 
   module _ (fs : List (List Part)) (units : AllByRecursion (AreUnits ns) fs) (sums : AllByRecursion IsFormSum fs) (single : StandOnce fs) where
     abbrev over : List (List spec.Part)

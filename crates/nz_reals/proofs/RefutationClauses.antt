@@ -175,16 +175,18 @@ farkas_operations ns ms are =
     ap (λ (b : Bool). first_wide (if b then turned_into (λ x. if is_contradiction x then Some (clause_of (negations_of ms)) else None) (sum_of_multiples (number_in ns) ms) else at_once None).operations) are
 
 pub sum_place : (ns : List Node) (t : Theory) (atoms : List Atom) (ids : List ℕ) (ms : List LitMultiple) (wide : frac.Wide) (bs : Vec lin.BoundMultiple Global) → IsOf t atoms ids → AreKnown t ms
-    → IsTrue (list_all is_multiple (multiples_in ns atoms ms)) → IsNumber wide.a → IsNumber wide.b
+    → Contradicts (number_in ns) (multiples_in ns atoms ms) → IsNumber wide.a → IsNumber wide.b
     → first_wide_in_step ns (farkas_step (multiples_in ns atoms ms)) ≡ Some (operation_of wide) → AreBoundsOf ns atoms ms bs.items
     → IsSumPlace ns t ms (record { wide = wide; site = Sum bs })
-sum_place ns t atoms ids ms wide bs of known are left right stop bounds =
+sum_place ns t atoms ids ms wide bs of known contradicts left right stop bounds =
     let same = multiples_are t atoms ids of ns ms known in
-    let found = first_wide-is (sum_of_multiples (number_in ns) (multiples_in ns atoms ms)).operations (operation_of wide) (sym (farkas_operations ns (multiples_in ns atoms ms) are) ∙ stop) in
+    let first : first_wide (sum_of_multiples (number_in ns) (multiples_in ns atoms ms)).operations ≡ Some (operation_of wide) =
+    sym (farkas_operations ns (multiples_in ns atoms ms) contradicts.multiples) ∙ stop in
     record {
       site = ap sum_site (bounds.bounds ∙ sym same);
-      of = subst (λ (xs : List farkas.Multiple). Contains (sum_of_multiples (number_in ns) xs).operations (operation_of wide)) (sym same) found.0;
-      leaves = record { left = left; right = right; wide = found.1 };
+      contradicts = subst (Contradicts (number_in ns)) (sym same) contradicts;
+      first = ap (λ (xs : List farkas.Multiple). first_wide (sum_of_multiples (number_in ns) xs).operations) same ∙ first;
+      leaves = record { left = left; right = right; wide = (first_wide-is (sum_of_multiples (number_in ns) (multiples_in ns atoms ms)).operations (operation_of wide) first).1 };
       within = bounds.units;
     }
 
@@ -217,4 +219,4 @@ pub sum_stops : (ns : List Node) (t : Theory) (atoms : List Atom) (ids : List �
     → first_wide_in_step ns (farkas_step (multiples_in ns atoms ms)) ≡ Some (operation_of wide) → AreBoundsOf ns atoms ms bs.items
     → stop ≡ Wide (record { wide = wide; site = Sum bs }) → OnWide stop (IsSumPlace ns t ms)
 sum_stops ns t atoms ids ms wide bs stop of known over contradicts left right first bounds is =
-    subst (λ (s : Stop). OnWide s (IsSumPlace ns t ms)) (sym is) (sum_place ns t atoms ids ms wide bs of known contradicts.multiples left right first bounds)
+    subst (λ (s : Stop). OnWide s (IsSumPlace ns t ms)) (sym is) (sum_place ns t atoms ids ms wide bs of known contradicts left right first bounds)

@@ -1,10 +1,10 @@
 -- Where a theory stands, when a literal is told, when the last ones are taken back, and when a check moves the point.
-use Rattle.std.proofs.Common.{◌≡◌, ℕ, zero, suc, ◌≤◌, ◌⊎◌, inl, inr, true, List, [], ◌∷◌, ◌++◌, map, take, length, Option, Some, None, refl, sym, ap, ◌∙◌, subst, arith}
-use Rattle.std.specs.Prelude.{option_map, slice_get}
+use Rattle.std.proofs.Common.{◌≡◌, ℕ, zero, suc, ◌≤◌, ◌⊎◌, inl, inr, Bool, true, false, List, [], ◌∷◌, ◌++◌, map, take, length, Option, Some, None, refl, sym, ap, ◌∙◌, subst, arith}
+use Rattle.std.specs.Prelude.{IsSome, is_some, option_map, slice_get, if◌then◌else◌}
 use Rattle.std.specs.List.{AllByRecursion}
 use Rattle.std.proofs.lemmas.List.{length-map, map-append, take-append-le, take_all}
 use Rattle.std.proofs.lemmas.Option.{slice_get_within}
-use Rattle.nz_spec.specs.simplex.Bland.{Point, Position, NonbasicFormsFit, lower_side, upper_side}
+use Rattle.nz_spec.specs.simplex.Bland.{Point, Position, NonbasicFormsFit, is_nonbasic, lower_side, upper_side}
 use Rattle.nz_spec.specs.terms.Form.{Part}
 use Rattle.nz_spec.specs.numbers.Infinitesimal.{Infinitesimal, infinitesimal_cmp, InfinitesimalsAreOrdered}
 use Rattle.nz_spec.specs.clauses.Literal.{Literal, TellsLiterals}
@@ -21,7 +21,7 @@ use Rattle.nz_log.specs.declared.lits.Lit.{Lit}
 use Rattle.nz_log.specs.Atoms.{literal_in}
 use Rattle.nz_simplex.specs.Moves.{IsBounded}
 use Rattle.nz_simplex.specs.Standing.{Held, half, is_news, standing}
-use Rattle.nz_simplex.specs.State.{IsSound, State, point_in, position_over}
+use Rattle.nz_simplex.specs.State.{IsSound, State, nonbasic_in, point_in, position_over, value_in}
 use Rattle.nz_reals.specs.declared.reals.MarkedLiteral.{MarkedLiteral}
 use Rattle.nz_reals.specs.Known.{form_bound}
 use Rattle.nz_reals.specs.Stands.{AreBounds, IsAt, IsOf, IsOver}
@@ -80,6 +80,19 @@ literal_kept ns old new l known forms =
 
 pub over_kept : (ns : List Node) (old new : Theory) → new.simplex.forms ≡ old.simplex.forms → IsOver old ns → IsOver new ns
 over_kept ns old new forms over = record { table = over.table; units = subst (AllByRecursion (AreUnits ns)) (sym forms) over.units }
+
+-- ---- Nonbasic forms
+
+pub nonbasic_is : (s : State) → IsSound s → (k : ℕ) → is_nonbasic (point_in s) k ≡ nonbasic_in s k
+nonbasic_is s sound k = by_test (nonbasic_in s k) refl
+  where
+    some : (o : Option Infinitesimal) → IsSome o → is_some o ≡ true
+    some None h = h
+    some (Some x) h = refl
+
+    by_test : (b : Bool) → nonbasic_in s k ≡ b → is_some (if b then value_in s k else None) ≡ b
+    by_test true e = some (value_in s k) (sound.known k e)
+    by_test false e = refl
 
 -- ---- A literal that is told
 

@@ -5,9 +5,14 @@ use Rattle.std.specs.List.{AllByRecursion}
 use Rattle.std.specs.declared.vec.Vec.{Vec}
 use Rattle.std.specs.declared.alloc.Global.{Global}
 use Rattle.std.proofs.Math.Path.{fun_ext}
+use Rattle.nz_lists.proofs.Members.{has_none}
 use Rattle.nz_spec.specs.terms.Form as spec
 use Rattle.nz_spec.specs.numbers.Infinitesimal.{Infinitesimal}
-use Rattle.nz_spec.specs.search.Legal.{Task, Search, MayBegin, Lead, at_first, no_point, after_lines, point_at, terms_known, told_literals}
+use Rattle.nz_spec.specs.laws.LegalWork.{MoreTermsMayBegin}
+use Rattle.nz_spec.specs.search.Beginnings.{MayBegin}
+use Rattle.nz_spec.specs.search.Legal.{Lead, after_lines}
+use Rattle.nz_spec.specs.search.Search.{Task, Search, at_first, goals_known, no_point, point_at, terms_known, told_literals}
+use Rattle.nz_spec.specs.clauses.Goals.{Goal}
 use Rattle.nz_spec.specs.search.Notes as noted
 use Rattle.nz_spec.specs.search.Notes.{start_note}
 use Rattle.nz_spec.specs.terms.Table.{Node}
@@ -64,7 +69,7 @@ notes_start t old new start is line =
       within = λ ns over. of_lists ns start.forms.items (subst (AllByRecursion (AreUnits ns)) (sym is.forms) over.units);
     }
 
-module _ (ns : List Node) (q : Task) (t : Theory) (old new : WorkList Note) (none : old.lines ≡ []) (n : NotesStart t old new) (over : IsOver t ns) (may : MayRestart t ns (terms_known q)) where
+module _ (more : MoreTermsMayBegin) (ns : List Node) (q : Task) (t : Theory) (old new : WorkList Note) (none : old.lines ≡ []) (n : NotesStart t old new) (over : IsOver t ns) (may : MayRestart t ns (terms_known q)) where
   abbrev fs : List (List spec.Part)
   fs = forms_over ns n.start.forms.items
 
@@ -81,10 +86,11 @@ module _ (ns : List Node) (q : Task) (t : Theory) (old new : WorkList Note) (non
   one_line =
       ap (λ (w : WorkList Note). map (noted_line ns) w.lines) n.line ∙ ap (λ (ls : List (WorkLine Note)). map (noted_line ns) (ls ++ NoteLine (notes.Start n.start) ∷ [])) none
 
-  may_begin : MayBegin (terms_known q) fs (point_at places)
+  may_begin : MayBegin (terms_known q) (goals_known q) fs (point_at places)
   may_begin =
-      subst (λ (gs : List (List spec.Part)). MayBegin (terms_known q) gs (point_at places)) (sym same_forms)
-      (subst (MayBegin (terms_known q) (map (parts_over ns) t.simplex.forms)) (sym same_point) may)
+      more.begin (terms_known q) (terms_known q) [] (goals_known q) fs (point_at places) (λ u has. has) (λ (g : Goal) has. absurd (has_none g has))
+      (subst (λ (gs : List (List spec.Part)). MayBegin (terms_known q) [] gs (point_at places)) (sym same_forms)
+      (subst (MayBegin (terms_known q) [] (map (parts_over ns) t.simplex.forms)) (sym same_point) may))
 
   stood : search_after ns new ≡ record at_first { forms = fs }
   stood = ap (after_lines at_first) one_line
@@ -94,7 +100,7 @@ module _ (ns : List Node) (q : Task) (t : Theory) (old new : WorkList Note) (non
       record {
         point = point_in t.simplex;
         legal = subst (λ (ls : List (WorkLine noted.Note)). Lead q at_first no_point ls (point_in t.simplex)) (sym one_line)
-            (point_at places, (record { first = refl; may_begin = may_begin }, refl), sym same_point);
+            (no_point, point_at places, ([], refl), (record { first = refl; may_begin = may_begin }, refl), ([], sym same_point));
         at = subst (λ (s : Search). IsAt (forgotten t) ns s.forms (told_literals s) (point_in t.simplex)) (sym stood)
             (record {
               over = over_forgotten t ns over;

@@ -25,7 +25,7 @@ use Rattle.nz_reals.specs.Known.{Known, SideBound, said_by}
 use Rattle.nz_reals.specs.State.{Theory, empty_theory, known_at, told_lits}
 use Rattle.nz_reals.specs.Stored.{AreForms, AreTolds, FindsForms, IsBacked, IsMark, IsStored}
 use Rattle.nz_reals.specs.Sums.{IsFormSum}
-use Rattle.nz_reals.specs.Tells.{AreKnown, Clashes, IsTold, both, held_by, told_now}
+use Rattle.nz_reals.specs.Tells.{AreKnown, AreOnTwoSides, Clashes, IsTold, both, held_by, told_now}
 
 -- ---- Places of lists
 
@@ -304,6 +304,24 @@ clash_handed P Q f (Err e) h = h
 
 pub clash_has : (t : Theory) (l : Lit) (k : Known) (o : Lit) → Clashes t l k o → Contains (told_lits t) o
 clash_has t l k o c = subst (Contains (told_lits t)) c.literal (map_has (λ (x : MarkedLiteral). x.literal) t.told c.told (has_found t.told c.place c.told c.at))
+
+-- the bounds of the two are of different sides
+pub clash_sides : (t : Theory) (l : Lit) (k : Known) (o : Lit) → AreTolds t → known_at t l.atom ≡ Some k → Clashes t l k o → AreOnTwoSides t l o
+clash_sides t l k o tolds knows c =
+    let tightest = c.clash.tightest in
+    let b : Held = asserted k.form (other_side (said_by k l.sign).side) c.clash.value c.place in
+    let has : Contains t.simplex.asserted b = subst (λ (bs : List Held). Contains bs b) (sym tightest.parts) (Contains-append_right tightest.before (b ∷ tightest.after) b (has_first b tightest.after)) in
+    let back = each_of (IsBacked t) t.simplex.asserted tolds.backed b has in
+    let both : Some back.told ≡ Some c.told = sym back.at ∙ c.at in
+    let told : back.told ≡ c.told = cc in
+    let literal : back.told.literal ≡ o = ap (λ (x : MarkedLiteral). x.literal) told ∙ c.literal in
+    record {
+      first = k;
+      knows = knows;
+      second = back.known;
+      knows_other = subst (λ (m : Lit). known_at t m.atom ≡ Some back.known) literal back.knows;
+      sides = subst (λ (m : Lit). (said_by back.known m.sign).side ≡ b.side) literal (sym back.side);
+    }
 
 pub clash_known : (t : Theory) (l : Lit) (k : Known) (o : Lit) → AreTolds t → known_at t l.atom ≡ Some k → Clashes t l k o → AreKnown t (both l o)
 clash_known t l k o tolds knows c =

@@ -1,10 +1,11 @@
 -- What the reasons and multipliers of a clash are.
 use Rattle.std.proofs.Common.{◌≡◌, ℕ, zero, suc, ◌<◌, ◌⊎◌, inl, inr, Bool, true, false, List, [], ◌∷◌, ◌++◌, length, Option, Some, None, refl, sym, ap, ◌∙◌, subst, arith, pos}
 use Rattle.std.specs.Cmp.{first_so}
-use Rattle.std.specs.Prelude.{Contains, flat_map, fold, option_map, unwrap_or, ◌&&◌, if◌then◌else◌}
+use Rattle.std.specs.Prelude.{Contains, flat_map, fold, option_map, unwrap_or, ◌==◌, ◌&&◌, if◌then◌else◌}
 use Rattle.std.specs.List.{AllByRecursion}
 use Rattle.nz_lists.proofs.Elements.{AllByRecursion-append}
 use Rattle.nz_lists.proofs.Members.{has_first, has_more}
+use Rattle.nz_lists.proofs.Numbers.{same-number}
 use Rattle.nz_fractions.specs.Fraction.{Fraction, whole, neg_ℚ}
 use Rattle.nz_fractions.proofs.Laws.{=ℚ_refl}
 use Rattle.nz_fractions.proofs.Signs.{above_told, below_told}
@@ -20,7 +21,7 @@ use Rattle.nz_trail.specs.declared.limits.Side.{Side}
 use Rattle.nz_trail.specs.declared.limits.Side.TheVariants.{Lower, Upper}
 use Rattle.nz_simplex.specs.Checks.{IsRefuted, holding_side, multiplier}
 use Rattle.nz_simplex.specs.Choices.{is_below_zero, size_of}
-use Rattle.nz_simplex.specs.Standing.{Held, bound_in, half, is_bound_of, is_news, reason_in, standing, standing_with}
+use Rattle.nz_simplex.specs.Standing.{Held, bound_in, half, is_bound_of, is_news, is_side, reason_in, standing, standing_with}
 use Rattle.nz_simplex.specs.State.{State, nonbasic_in, position_over}
 
 -- ---- What stands is one of the bounds
@@ -54,19 +55,25 @@ stands_among bs v side b e = by_case (stands_from bs v side None b e)
     by_case (inl f) = absurd cc
     by_case (inr h) = h
 
--- the reason of a bound that stands is that of a bound
-reason_among : (bs : List Held) (v : ℕ) (side : Side) (x : Infinitesimal) → bound_in bs side v ≡ Some x → (b : Held) × Contains bs b × (reason_in bs side v ≡ b.reason)
+-- the reason of a bound that stands is that of a bound of the form
+pub reason_among : (bs : List Held) (v : ℕ) (side : Side) (x : Infinitesimal) → bound_in bs side v ≡ Some x → (b : Held) × Contains bs b × (reason_in bs side v ≡ b.reason) × (b.var ≡ v)
 reason_among bs v side x e = by_case (standing bs v side) refl e
   where
-    by_case : (o : Option Held) → standing bs v side ≡ o → option_map (λ (b : Held). b.value) o ≡ Some x → (b : Held) × Contains bs b × (reason_in bs side v ≡ b.reason)
+    by_case : (o : Option Held) → standing bs v side ≡ o → option_map (λ (b : Held). b.value) o ≡ Some x → (b : Held) × Contains bs b × (reason_in bs side v ≡ b.reason) × (b.var ≡ v)
     by_case None f g = absurd cc
-    by_case (Some b) f g = (b, (stands_among bs v side b f).has, ap (λ (o : Option Held). unwrap_or (option_map (λ (h : Held). h.reason) o) 0) f)
+    by_case (Some b) f g =
+        let among = stands_among bs v side b f in (
+          b,
+          among.has,
+          ap (λ (o : Option Held). unwrap_or (option_map (λ (h : Held). h.reason) o) 0) f,
+          same-number b.var v (first_so (b.var == v) (is_side side b.side) among.of),
+        )
 
-side_bound : (ns : List Node) (s : State) (side : Side) (v : ℕ) → bound_on (half side) (position_over ns s) v ≡ bound_in s.asserted side v
+pub side_bound : (ns : List Node) (s : State) (side : Side) (v : ℕ) → bound_on (half side) (position_over ns s) v ≡ bound_in s.asserted side v
 side_bound ns s Lower v = refl
 side_bound ns s Upper v = refl
 
-half_other : (side : Side) → bland.other_side (half side) ≡ half (other_side side)
+pub half_other : (side : Side) → bland.other_side (half side) ≡ half (other_side side)
 half_other Lower = refl
 half_other Upper = refl
 

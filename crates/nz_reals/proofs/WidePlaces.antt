@@ -1,28 +1,30 @@
 -- Where an operation leaves the numbers, at the places of the definitions.
 use Rattle.std.proofs.Common.{◌≡◌, ℕ, ◌==◌, ◌<◌, inl, Bool, true, false, List, [], ◌∷◌, ◌++◌, map, length, Option, Some, None, Result, Ok, Err, refl, sym, ap, ◌∙◌, subst, pos, append_assoc, append-nil}
-use Rattle.std.specs.Prelude.{Contains, IsSome, fold, is_some, option_map, slice_index_or, if◌then◌else◌}
+use Rattle.std.specs.Prelude.{Contains, IfErr, IsSome, fold, is_some, option_map, slice_index_or, if◌then◌else◌}
 use Rattle.std.specs.List.{AllByRecursion}
 use Rattle.std.proofs.Math.Path.{fun_ext}
 use Rattle.std.proofs.lemmas.List.{length-map}
 use Rattle.std.proofs.lemmas.List.Elements.{All-contains, All-from_recursion, Contains-append_left, Contains-push}
 use Rattle.std.proofs.lemmas.Option.{slice_get-get_or, slice_get_within}
 use Rattle.nz_lists.proofs.Members.{each_of, has_found, map_has}
+use Rattle.nz_lists.proofs.Once.{two_once}
 use Rattle.nz_fractions.specs.Fraction.{Fraction, whole}
 use Rattle.nz_fractions.proofs.Laws.{=ℚ_refl}
-use Rattle.nz_spec.specs.simplex.Basis.{IsRow}
+use Rattle.nz_spec.specs.simplex.Basis.{Coefficients, IsRow}
 use Rattle.nz_spec.specs.simplex.BasisMoves.{exchange}
 use Rattle.nz_spec.specs.simplex.Bland.{Point, Position, is_nonbasic, row_value}
 use Rattle.nz_spec.specs.clauses.Farkas as farkas
 use Rattle.nz_spec.specs.terms.Form.{Part}
 use Rattle.nz_spec.specs.terms.FormOf.{number_in}
 use Rattle.nz_spec.specs.numbers.Infinitesimal.{Infinitesimal}
-use Rattle.nz_spec.specs.clauses.Literal.{Literal}
+use Rattle.nz_spec.specs.clauses.Literal.{Literal, StandOnce, TellsLiterals}
 use Rattle.nz_spec.specs.simplex.LiteralBounds.{FormBound, bound_said, moved_by, position_under}
 use Rattle.nz_spec.specs.search.Notes as notes
+use Rattle.nz_spec.specs.search.Notes.{sum_site}
 use Rattle.nz_spec.specs.search.Places.{IsOfSum, IsOperationIn, IsSizeIn}
-use Rattle.nz_spec.specs.simplex.PositionMoves.{moved_within}
-use Rattle.nz_spec.specs.simplex.Pivots.{Pivot, Lead}
-use Rattle.nz_spec.specs.terms.Table.{Node}
+use Rattle.nz_spec.specs.simplex.PositionMoves.{AreConsistent, moved_within}
+use Rattle.nz_spec.specs.simplex.Pivots.{Pivot, Lead, MayPivot}
+use Rattle.nz_spec.specs.terms.Table.{Node, OneNumber}
 use Rattle.nz_spec.specs.search.Work.{PivotEntry, UnitLine, WorkList, with_line}
 use Rattle.nz_frac.specs.Operations.{operation_of}
 use Rattle.nz_lin.specs.Forms.{parts_over}
@@ -39,22 +41,24 @@ use Rattle.nz_place.specs.declared.place.Site.{Site}
 use Rattle.nz_place.specs.declared.place.Site.TheVariants.{Term, Joining, Exchange, Value, Sum, Limit, Model}
 use Rattle.nz_search.specs.declared.stop.Stop.{Stop}
 use Rattle.nz_search.specs.declared.stop.Stop.TheVariants.{Wide, Spent, Memory}
-use Rattle.nz_place.specs.Places.{IsPlaceIn, IsSiteWithin, site_of}
+use Rattle.nz_place.specs.Places.{IsSiteWithin, site_of}
 use Rattle.nz_search.specs.Places.{OnWide}
-use Rattle.nz_search.specs.Theories.{EndsAt, Leads}
+use Rattle.nz_search.specs.Theories.{EndsAt, IsDueIn, IsPlaceOfStep, Leads}
 use Rattle.nz_simplex.specs.declared.answer.SimplexStop.{SimplexStop}
 use Rattle.nz_simplex.specs.declared.answer.SimplexStop.TheVariants as stops
 use Rattle.nz_simplex.specs.Checks.{Answers, IsPlace, IsRefuted, IsSite, site_operations}
-use Rattle.nz_simplex.specs.State.{IsSound, State, nonbasic_in, point_in, position_over, value_in}
+use Rattle.nz_simplex.specs.State as simplex
+use Rattle.nz_simplex.specs.State.{IsSound, State, point_in, position_over}
 use Rattle.nz_reals.specs.declared.reals.MarkedLiteral.{MarkedLiteral}
 use Rattle.nz_reals.specs.Known.{Known}
 use Rattle.nz_reals.specs.Stands.{IsAt, IsOf, IsOver}
 use Rattle.nz_reals.specs.State.{Theory, known_at, lit_at, literal_over, told_lits}
-use Rattle.nz_reals.specs.Stored.{AreTolds, IsBacked}
-use Rattle.nz_reals.specs.Tells.{AreKnown, AreOf, IsMoved, IsSumPlace, both, literals_of, multiple_at, multiples_over}
+use Rattle.nz_reals.specs.Stored.{AreForms, AreTolds, IsBacked}
+use Rattle.nz_reals.specs.Tells.{AreKnown, AreOf, AreOnTwoSides, IsMoved, IsSumPlace, both, literals_of, multiple_at, multiples_over}
 use Rattle.nz_fractions.proofs.FirstOperations.{first_wide-is}
 use Rattle.nz_reals.proofs.AtomBounds.{literal_is}
-use Rattle.nz_reals.proofs.TheoryPositions.{moved_at, position_is}
+use Rattle.nz_reals.proofs.TheoryPositions.{moved_at, nonbasic_is, position_is}
+use Rattle.nz_reals.proofs.WhyForms.{sides_apart}
 use Rattle.nz_reals.proofs.Whys.{why_each}
 
 -- ---- Notes of steps
@@ -66,34 +70,20 @@ noted_joined w (p ∷ ps) =
     noted_joined (with_line w (UnitLine (PivotEntry p.leaves p.enters))) ps
     ∙ ap (λ ls. record w { lines = ls }) (append_assoc w.lines (UnitLine (PivotEntry p.leaves p.enters) ∷ []) (map (λ (q : Pivot). UnitLine (PivotEntry q.leaves q.enters)) ps))
 
--- ---- Nonbasic forms
-
-pub nonbasic_is : (s : State) → IsSound s → (k : ℕ) → is_nonbasic (point_in s) k ≡ nonbasic_in s k
-nonbasic_is s sound k = by_test (nonbasic_in s k) refl
-  where
-    some : (o : Option Infinitesimal) → IsSome o → is_some o ≡ true
-    some None h = h
-    some (Some x) h = refl
-
-    by_test : (b : Bool) → nonbasic_in s k ≡ b → is_some (if b then value_in s k else None) ≡ b
-    by_test true e = some (value_in s k) (sound.known k e)
-    by_test false e = refl
-
 -- ---- The places of a simplex
 
-module _ (ns : List Node) (s : State) (sound : IsSound s) (place : Place) (is : IsPlace ns s place) where
+module _ (ns : List Node) (s : State) (sound : IsSound s) (over : simplex.IsOver ns s) (place : Place) (is : IsPlace ns s place) where
   count : length (position_over ns s).forms ≡ length s.forms
   count = length-map s.forms (parts_over ns)
 
   found : Contains (site_operations s is.rows place.site) (operation_of place.wide)
   found = (first_wide-is (site_operations s is.rows place.site) (operation_of place.wide) is.first).0
 
-  operation : (ls : List Literal) → IsOperationIn ls (position_over ns s) (site_of ns place.site) (operation_of place.wide)
+  operation : (ls : List Literal) → IsOperationIn (number_in ns) ls (position_over ns s) (site_of ns place.site) (operation_of place.wide)
   operation ls = by_site place.site is.site found
     where
-      by_site : (x : Site) → IsSite ns s x → Contains (site_operations s is.rows x) (operation_of place.wide) → IsOperationIn ls (position_over ns s) (site_of ns x) (operation_of place.wide)
+      by_site : (x : Site) → IsSite ns s x → Contains (site_operations s is.rows x) (operation_of place.wide) → IsOperationIn (number_in ns) ls (position_over ns s) (site_of ns x) (operation_of place.wide)
       by_site (Exchange leaves enters) may has = record {
-        next = may;
         rows = is.rows;
         are_rows = is.are_rows;
         of =
@@ -113,34 +103,54 @@ module _ (ns : List Node) (s : State) (sound : IsSound s) (place : Place) (is : 
       by_site (Limit form side) none has = absurd none
       by_site (Model form) none has = absurd none
 
-  pub place_in : (fs : List (List Part)) (ls : List Literal) (x : Point) → position_under fs x ls ≡ position_over ns s → IsPlaceIn ns fs ls x place
+  pub place_in : (fs : List (List Part)) (ls : List Literal) (x : Point) → position_under fs x ls ≡ position_over ns s → IsPlaceOfStep ns fs ls x place
   place_in fs ls x same = record {
-    at = subst (λ (p : Position). IsOperationIn ls p (site_of ns place.site) (operation_of place.wide)) (sym same) (operation ls);
-    leaves = record { left = is.left; right = is.right; wide = (first_wide-is (site_operations s is.rows place.site) (operation_of place.wide) is.first).1 };
-    within = by_site place.site is.site;
+    leaves = record {
+      at = subst (λ (p : Position). IsOperationIn (number_in ns) ls p (site_of ns place.site) (operation_of place.wide)) (sym same) (operation ls);
+      leaves = record { left = is.left; right = is.right; wide = (first_wide-is (site_operations s is.rows place.site) (operation_of place.wide) is.first).1 };
+      within = within place.site is.site;
+    };
+    due = subst (λ (p : Position). IsDueIn p place.site) (sym same) (due place.site is.site);
   }
     where
-      by_site : (y : Site) → IsSite ns s y → IsSiteWithin ns y
-      by_site (Exchange leaves enters) may = tt
-      by_site (Value form) basic = tt
-      by_site (Term term) none = absurd none
-      by_site Joining none = absurd none
-      by_site (Sum multiples) none = absurd none
-      by_site (Limit form side) none = absurd none
-      by_site (Model form) none = absurd none
+      within : (y : Site) → IsSite ns s y → IsSiteWithin ns y
+      within (Exchange leaves enters) may = tt
+      within (Value form) basic = tt
+      within (Term term) none = absurd none
+      within Joining none = absurd none
+      within (Sum multiples) none = absurd none
+      within (Limit form side) none = absurd none
+      within (Model form) none = absurd none
+
+      due : (y : Site) → IsSite ns s y → IsDueIn (position_over ns s) y
+      due (Exchange leaves enters) may = ((sound.ready ns over).consistent, may)
+      due (Value form) basic = tt
+      due (Term term) none = absurd none
+      due Joining none = absurd none
+      due (Sum multiples) none = absurd none
+      due (Limit form side) none = absurd none
+      due (Model form) none = absurd none
 
 pub stop_answer : (ns : List Node) (s : State) (left : ℕ) (e : SimplexStop) (place : Place) → Answers ns s left (Err e) → e ≡ stops.Wide place → IsPlace ns s place
 stop_answer ns s left e place answer is = subst (λ (x : SimplexStop). Answers ns s left (Err x)) is answer
 
+pub spent_answer : (ns : List Node) (s : State) (left : ℕ) (e : SimplexStop) → Answers ns s left (Err e) → e ≡ stops.Spent → (p : Pivot) × MayPivot (position_over ns s) p
+spent_answer ns s left e answer is = (subst (λ (x : SimplexStop). Answers ns s left (Err x)) is answer).1
+
+-- one more pivot may follow, where a unit was wanted
+abbrev pub Wants : List Node → State → Result Bool Stop → Type 0
+Wants ns s result = IfErr result (λ (e : Stop). e ≡ Spent → (p : Pivot) × MayPivot (position_over ns s) p)
+
 -- the operation at a place, wherever a theory with these bounds stands
 abbrev pub Placed : List Node → State → Place → Type 0
-Placed ns s place = (fs : List (List Part)) (ls : List Literal) (x : Point) → position_under fs x ls ≡ position_over ns s → IsPlaceIn ns fs ls x place
+Placed ns s place = (fs : List (List Part)) (ls : List Literal) (x : Point) → position_under fs x ls ≡ position_over ns s → IsPlaceOfStep ns fs ls x place
 
 -- ---- Where a check ends
 
 pub leads_by : {A : Type 0} (old new : Theory) (before after : WorkList Note) (ns : List Node) (fs : List (List Part)) (ls : List Literal) (x : Point) (result : Result A Stop) → IsMoved old new before after
     → IsAt old ns fs ls x → EndsAt (IsAt new ns fs ls) ns fs ls (point_in new.simplex) result → Leads (IsAt new ns fs ls) ns fs ls x before after result
 leads_by old new before after ns fs ls x result moved at ends = record {
+  consistent = subst AreConsistent (sym (position_is old ns fs ls x at)) (moved.consistent ns at.over);
   adds = moved.adds;
   end = position_over ns new.simplex;
   lead = subst (λ (p : Position). Lead p moved.adds.pivots (position_over ns new.simplex)) (sym (position_is old ns fs ls x at)) (moved.lead ns at.over);
@@ -168,16 +178,60 @@ why_told t ns tolds refuted =
     why_each ns t.simplex refuted (λ (w : ℕ × Fraction). w.0 < length t.told)
     (λ b m has size. let k = each_of (IsBacked t) t.simplex.asserted tolds.backed b has in slice_get_within t.told b.reason k.told k.at) (length-map t.simplex.forms (parts_over ns))
 
+-- a place of a sum is due where it is found
+due_sum : (ns : List Node) (p : Position) (ms : List farkas.Multiple) (y : Site) → site_of ns y ≡ sum_site ms → IsDueIn p y
+due_sum ns p ms (Sum multiples) is = tt
+due_sum ns p ms (Value form) is = tt
+due_sum ns p ms (Exchange leaves enters) is = absurd cc
+due_sum ns p ms (Term term) is = absurd cc
+due_sum ns p ms Joining is = absurd cc
+due_sum ns p ms (Limit form side) is = absurd cc
+due_sum ns p ms (Model form) is = absurd cc
+
+-- multiples of told literals that differ, by the sizes of a row's coefficients
+module _ (ns : List Node) (fs : List (List Part)) (ls : List Literal) (x : Point) (t : Theory) (ms : List LitMultiple) (told : AllByRecursion (λ (m : farkas.Multiple). Contains ls m.literal) (multiples_over ns t ms))
+    (apart : StandOnce (map (λ (m : farkas.Multiple). m.literal) (multiples_over ns t ms))) (form : ℕ) (listed : form < length fs) (row : Coefficients) (is_row : IsRow fs (is_nonbasic x) form row)
+    (sizes : AllByRecursion (λ (m : farkas.Multiple). IsSizeIn (length fs) row m.multiplier) (multiples_over ns t ms)) where
+  place_of_sum : (place : Place) → IsSumPlace ns t ms place → IsPlaceOfStep ns fs ls x place
+  place_of_sum place sum =
+      let of : IsOfSum (number_in ns) ls (position_under fs x ls) (multiples_over ns t ms) (operation_of place.wide) = record {
+        multiples = record {
+          told = All-from_recursion (λ (m : farkas.Multiple). Contains ls m.literal) (multiples_over ns t ms) told;
+          apart = apart;
+          multiplied = sum.contradicts.multiples;
+        };
+        form = form;
+        listed = listed;
+        row = row;
+        is_row = is_row;
+        sizes = All-from_recursion (λ (m : farkas.Multiple). IsSizeIn (length fs) row m.multiplier) (multiples_over ns t ms) sizes;
+        contradicts = sum.contradicts.contradiction;
+        first = sum.first;
+      } in
+      record {
+        leaves = record {
+          at = subst (λ (y : notes.Site). IsOperationIn (number_in ns) ls (position_under fs x ls) y (operation_of place.wide)) (sym sum.site) of;
+          leaves = sum.leaves;
+          within = sum.within;
+        };
+        due = due_sum ns (position_under fs x ls) (multiples_over ns t ms) place.site sum.site;
+      }
+
+  pub stop_of_sum : (e : Stop) → OnWide e (IsSumPlace ns t ms) → OnWide e (IsPlaceOfStep ns fs ls x)
+  stop_of_sum (Wide place) h = place_of_sum place h
+  stop_of_sum Spent h = tt
+  stop_of_sum Memory h = tt
+
 module _ (t : Theory) (ns : List Node) (fs : List (List Part)) (ls : List Literal) (x : Point) (at : IsAt t ns fs ls x) (tolds : AreTolds t) (refuted : IsRefuted ns t.simplex) where
   abbrev ws : List (ℕ × Fraction)
   ws = t.simplex.why
 
-  abbrev ms : List farkas.Multiple
-  ms = multiples_over ns t (map (multiple_at t) ws)
+  abbrev ms : List LitMultiple
+  ms = map (multiple_at t) ws
 
-  of_told : AllByRecursion (λ (m : farkas.Multiple). Contains ls m.literal) ms
+  of_told : AllByRecursion (λ (m : farkas.Multiple). Contains ls m.literal) (multiples_over ns t ms)
   of_told =
-      mapped (λ (m : farkas.Multiple). Contains ls m.literal) (λ (m : LitMultiple). record { literal = literal_over ns t m.literal; multiplier = m.multiplier }) (map (multiple_at t) ws)
+      mapped (λ (m : farkas.Multiple). Contains ls m.literal) (λ (m : LitMultiple). record { literal = literal_over ns t m.literal; multiplier = m.multiplier }) ms
       (mapped (λ (m : LitMultiple). Contains ls (literal_over ns t m.literal)) (multiple_at t) ws
       (all ws (why_told t ns tolds refuted)))
     where
@@ -185,34 +239,20 @@ module _ (t : Theory) (ns : List Node) (fs : List (List Part)) (ls : List Litera
       all [] h = tt
       all (v ∷ vs) h = (told_among t ns fs ls x (lit_at t v.0) at (lit_told t v.0 h.0), all vs h.1)
 
-  of_sizes : AllByRecursion (λ (m : farkas.Multiple). IsSizeIn (length (position_over ns t.simplex).forms) refuted.row m.multiplier) ms
+  count_forms : length (position_over ns t.simplex).forms ≡ length t.simplex.forms
+  count_forms = length-map t.simplex.forms (parts_over ns)
+
+  of_sizes : AllByRecursion (λ (m : farkas.Multiple). IsSizeIn (length fs) refuted.row m.multiplier) (multiples_over ns t ms)
   of_sizes =
-      mapped (λ (m : farkas.Multiple). IsSizeIn (length (position_over ns t.simplex).forms) refuted.row m.multiplier) (λ (m : LitMultiple). record { literal = literal_over ns t m.literal; multiplier = m.multiplier }) (map (multiple_at t) ws)
+      subst (λ (gs : List (List Part)). AllByRecursion (λ (m : farkas.Multiple). IsSizeIn (length gs) refuted.row m.multiplier) (multiples_over ns t ms)) (sym at.forms)
+      (mapped (λ (m : farkas.Multiple). IsSizeIn (length (position_over ns t.simplex).forms) refuted.row m.multiplier) (λ (m : LitMultiple). record { literal = literal_over ns t m.literal; multiplier = m.multiplier }) ms
       (mapped (λ (m : LitMultiple). IsSizeIn (length (position_over ns t.simplex).forms) refuted.row m.multiplier) (multiple_at t) ws
-      (why_each ns t.simplex refuted (λ (w : ℕ × Fraction). IsSizeIn (length (position_over ns t.simplex).forms) refuted.row w.1) (λ b m has size. size) (length-map t.simplex.forms (parts_over ns))))
+      (why_each ns t.simplex refuted (λ (w : ℕ × Fraction). IsSizeIn (length (position_over ns t.simplex).forms) refuted.row w.1) (λ b m has size. size) count_forms)))
 
-  one_place : (place : Place) → IsSumPlace ns t (map (multiple_at t) ws) place → IsPlaceIn ns fs ls x place
-  one_place place sum = record {
-    at =
-        subst (λ (y : notes.Site). IsOperationIn ls (position_under fs x ls) y (operation_of place.wide)) (sym sum.site)
-        (subst (λ (p : Position). IsOfSum ls p ms (operation_of place.wide)) (sym (position_is t ns fs ls x at)) (record {
-          told = All-from_recursion (λ (m : farkas.Multiple). Contains ls m.literal) ms of_told;
-          form = refuted.broken;
-          listed = refuted.refutes.listed;
-          row = refuted.row;
-          is_row = refuted.refutes.is_row;
-          sizes = All-from_recursion (λ (m : farkas.Multiple). IsSizeIn (length (position_over ns t.simplex).forms) refuted.row m.multiplier) ms of_sizes;
-          number = number_in ns;
-          of = sum.of;
-        }));
-    leaves = sum.leaves;
-    within = sum.within;
-  }
-
-  pub sum_in_check : (e : Stop) → OnWide e (IsSumPlace ns t (map (multiple_at t) ws)) → OnWide e (IsPlaceIn ns fs ls x)
-  sum_in_check (Wide place) h = one_place place h
-  sum_in_check Spent h = tt
-  sum_in_check Memory h = tt
+  pub sum_in_check : StandOnce (map (λ (m : farkas.Multiple). m.literal) (multiples_over ns t ms)) → (e : Stop) → OnWide e (IsSumPlace ns t ms) → OnWide e (IsPlaceOfStep ns fs ls x)
+  sum_in_check apart =
+      stop_of_sum ns fs ls x t ms of_told apart refuted.broken (subst (λ (gs : List (List Part)). refuted.broken < length gs) (sym at.forms) refuted.refutes.listed) refuted.row
+      (subst (λ (p : Position). IsRow p.forms (is_nonbasic p.point) refuted.broken refuted.row) (sym (position_is t ns fs ls x at)) refuted.refutes.is_row) of_sizes
 
 -- ---- Of two literals
 
@@ -243,46 +283,28 @@ module _ (t : Theory) (ns : List Node) (fs : List (List Part)) (ls : List Litera
   inside : k.form < length fs
   inside = subst (λ (gs : List (List Part)). k.form < length gs) (sym at.forms) (subst (λ (n : ℕ). k.form < n) (sym (length-map t.simplex.forms (parts_over ns))) listed)
 
-  one_sum_place : (place : Place) → IsSumPlace ns t (both l other) place → IsPlaceIn ns fs (ls ++ L ∷ []) (moved_by fs L x) place
-  one_sum_place place sum =
+  row_here : (row : Coefficients) × IsRow fs (is_nonbasic (moved_by fs L x)) k.form row
+  row_here =
       let basis = (sound.ready ns at.over).basis in
       let row = basis.some k.form (subst (λ (n : ℕ). k.form < n) (sym (length-map t.simplex.forms (parts_over ns))) listed) in
       let here : IsRow fs (is_nonbasic x) k.form row.0 =
       subst (λ (p : Position). IsRow p.forms (is_nonbasic p.point) k.form row.0) (sym (position_is t ns fs ls x at)) row.1 in
-      let there : IsRow fs (is_nonbasic (moved_by fs L x)) k.form row.0 = subst (λ (f : ℕ → Bool). IsRow fs f k.form row.0) (sym (fun_ext (moved_nonbasic fs L x))) here in
-      record {
-        at =
-            subst (λ (y : notes.Site). IsOperationIn (ls ++ L ∷ []) P y (operation_of place.wide)) (sym sum.site)
-            (let of : IsOfSum (ls ++ L ∷ []) P (multiples_over ns t (both l other)) (operation_of place.wide) = record {
-              told =
-                  All-from_recursion (λ (m : farkas.Multiple). Contains (ls ++ L ∷ []) m.literal) (multiples_over ns t (both l other))
-                  (Contains-push ls L, (Contains-append_left ls (L ∷ []) (literal_over ns t other) (told_among t ns fs ls x other at has), tt));
-              form = k.form;
-              listed = inside;
-              row = row.0;
-              is_row = there;
-              sizes =
-                  All-from_recursion (λ (m : farkas.Multiple). IsSizeIn (length fs) row.0 m.multiplier) (multiples_over ns t (both l other))
-                  (inl (=ℚ_refl (whole (pos 1))), (inl (=ℚ_refl (whole (pos 1))), tt));
-              number = number_in ns;
-              of = sum.of;
-            } in of);
-        leaves = sum.leaves;
-        within = sum.within;
-      }
+      (row.0, subst (λ (f : ℕ → Bool). IsRow fs f k.form row.0) (sym (fun_ext (moved_nonbasic fs L x))) here)
 
-  pub sum_in_clash : (e : Stop) → OnWide e (IsSumPlace ns t (both l other)) → OnWide e (IsPlaceIn ns fs (ls ++ L ∷ []) (moved_by fs L x))
-  sum_in_clash (Wide place) h = one_sum_place place h
-  sum_in_clash Spent h = tt
-  sum_in_clash Memory h = tt
+  pub sum_in_clash : (literal_over ns t l ≡ literal_over ns t other → ⊥) → (e : Stop) → OnWide e (IsSumPlace ns t (both l other)) → OnWide e (IsPlaceOfStep ns fs (ls ++ L ∷ []) (moved_by fs L x))
+  sum_in_clash apart =
+      stop_of_sum ns fs (ls ++ L ∷ []) (moved_by fs L x) t (both l other)
+      (Contains-push ls L, (Contains-append_left ls (L ∷ []) (literal_over ns t other) (told_among t ns fs ls x other at has), tt))
+      (two_once (literal_over ns t l) (literal_over ns t other) apart) k.form inside row_here.0 row_here.1
+      (inl (=ℚ_refl (whole (pos 1))), (inl (=ℚ_refl (whole (pos 1))), tt))
 
 -- and of the literal of a log
-pub clash_stops : (t : Theory) (atoms : List Atom) (ids : List ℕ) (ns : List Node) (fs : List (List Part)) (ls : List Literal) (x : Point) (l other : Lit) (k : Known) (e : Stop) → IsOf t atoms ids → IsAt t ns fs ls x
-    → IsSound t.simplex → AreTolds t → known_at t l.atom ≡ Some k → Contains (told_lits t) other → OnWide e (IsSumPlace ns t (both l other))
-    → OnWide e (IsPlaceIn ns fs (ls ++ literal_in ns atoms l ∷ []) (moved_by fs (literal_in ns atoms l) x))
-clash_stops t atoms ids ns fs ls x l other k e of at sound tolds knows has place =
-    subst (λ (m : Literal). OnWide e (IsPlaceIn ns fs (ls ++ m ∷ []) (moved_by fs m x))) (literal_is ns t atoms ids l k of knows)
-    (sum_in_clash t ns fs ls x at sound l other k (tolds.listed l.atom k knows) has e place)
+pub clash_stops : (t : Theory) (atoms : List Atom) (ids : List ℕ) (ns : List Node) (fs : List (List Part)) (ls : List Literal) (x : Point) (l other : Lit) (k : Known) (e : Stop) → OneNumber → TellsLiterals → IsOf t atoms ids
+    → IsAt t ns fs ls x → AreForms t.simplex → IsSound t.simplex → AreTolds t → known_at t l.atom ≡ Some k → Contains (told_lits t) other → AreOnTwoSides t l other → OnWide e (IsSumPlace ns t (both l other))
+    → OnWide e (IsPlaceOfStep ns fs (ls ++ literal_in ns atoms l ∷ []) (moved_by fs (literal_in ns atoms l) x))
+clash_stops t atoms ids ns fs ls x l other k e one tells of at forms sound tolds knows has two place =
+    subst (λ (m : Literal). OnWide e (IsPlaceOfStep ns fs (ls ++ m ∷ []) (moved_by fs m x))) (literal_is ns t atoms ids l k of knows)
+    (sum_in_clash t ns fs ls x at sound l other k (tolds.listed l.atom k knows) has (sides_apart t ns atoms ids of at.over forms (one ns at.over.table) tells l other two) e place)
 
 -- ---- What the literals of multiples have
 
@@ -323,7 +345,7 @@ why_of t ls (w ∷ ws) told h = (subst (λ (ks : List Lit). Contains ks (lit_at 
 
 -- ---- The exits of a check
 
-pub on_wide_at : (ns : List Node) (s : State) (fs : List (List Part)) (ls : List Literal) (x : Point) (e : Stop) → position_under fs x ls ≡ position_over ns s → OnWide e (Placed ns s) → OnWide e (IsPlaceIn ns fs ls x)
+pub on_wide_at : (ns : List Node) (s : State) (fs : List (List Part)) (ls : List Literal) (x : Point) (e : Stop) → position_under fs x ls ≡ position_over ns s → OnWide e (Placed ns s) → OnWide e (IsPlaceOfStep ns fs ls x)
 on_wide_at ns s fs ls x (Wide place) same h = h fs ls x same
 on_wide_at ns s fs ls x Spent same h = tt
 on_wide_at ns s fs ls x Memory same h = tt
@@ -335,9 +357,29 @@ module _ (old new : Theory) (before after : WorkList Note) (ns : List Node) (fs 
   pub leads_on : {A : Type 0} (answer : A) → Leads (IsAt new ns fs ls) ns fs ls x before after (Ok answer)
   leads_on {A} answer = leads_by {A = A} old new before after ns fs ls x (Ok answer) moved at there
 
-  pub leads_to_stop : {A : Type 0} (e : Stop) (result : Result A Stop) → result ≡ Err e → OnWide e (IsPlaceIn ns fs ls (point_in new.simplex)) → Leads (IsAt new ns fs ls) ns fs ls x before after result
-  leads_to_stop {A} e result is place =
-      subst (λ (r : Result A Stop). Leads (IsAt new ns fs ls) ns fs ls x before after r) (sym is) (leads_by {A = A} old new before after ns fs ls x (Err e) moved at place)
+  pub leads_to_stop : {A : Type 0} (e : Stop) (result : Result A Stop) → result ≡ Err e → EndsAt {A = A} (IsAt new ns fs ls) ns fs ls (point_in new.simplex) (Err e) → Leads (IsAt new ns fs ls) ns fs ls x before after result
+  leads_to_stop {A} e result is ends =
+      subst (λ (r : Result A Stop). Leads (IsAt new ns fs ls) ns fs ls x before after r) (sym is) (leads_by {A = A} old new before after ns fs ls x (Err e) moved at ends)
 
-  pub leads_to_place : {A : Type 0} (e : Stop) (result : Result A Stop) → result ≡ Err e → (IsOver new ns → OnWide e (Placed ns new.simplex)) → Leads (IsAt new ns fs ls) ns fs ls x before after result
-  leads_to_place {A} e result is place = leads_to_stop {A = A} e result is (on_wide_at ns new.simplex fs ls (point_in new.simplex) e (position_is new ns fs ls (point_in new.simplex) there) (place there.over))
+  -- at a place, where no unit is wanted
+  pub leads_to_sum : {A : Type 0} (e : Stop) (result : Result A Stop) → result ≡ Err e → (e ≡ Spent → ⊥) → OnWide e (IsPlaceOfStep ns fs ls (point_in new.simplex)) → Leads (IsAt new ns fs ls) ns fs ls x before after result
+  leads_to_sum {A} e result is unspent place = leads_to_stop {A = A} e result is (ends e unspent place)
+    where
+      ends : (y : Stop) → (y ≡ Spent → ⊥) → OnWide y (IsPlaceOfStep ns fs ls (point_in new.simplex)) → EndsAt {A = A} (IsAt new ns fs ls) ns fs ls (point_in new.simplex) (Err y)
+      ends (Wide p) other h = h
+      ends Spent other h = absurd (other refl)
+      ends Memory other h = tt
+
+  pub leads_to_place : {A : Type 0} (e : Stop) (result : Result A Stop) → result ≡ Err e → (IsOver new ns → OnWide e (Placed ns new.simplex)) → (IsOver new ns → e ≡ Spent → (p : Pivot) × MayPivot (position_over ns new.simplex) p)
+      → Leads (IsAt new ns fs ls) ns fs ls x before after result
+  leads_to_place {A} e result is place wanted =
+      leads_to_stop {A = A} e result is (ends e (on_wide_at ns new.simplex fs ls (point_in new.simplex) e same (place there.over)) (wanted there.over))
+    where
+      same : position_under fs (point_in new.simplex) ls ≡ position_over ns new.simplex
+      same = position_is new ns fs ls (point_in new.simplex) there
+
+      ends : (y : Stop) → OnWide y (IsPlaceOfStep ns fs ls (point_in new.simplex)) → (y ≡ Spent → (p : Pivot) × MayPivot (position_over ns new.simplex) p)
+          → EndsAt {A = A} (IsAt new ns fs ls) ns fs ls (point_in new.simplex) (Err y)
+      ends (Wide p) h may = h
+      ends Spent h may = let m = may refl in (m.0, subst (λ (p : Position). MayPivot p m.0) (sym same) m.1)
+      ends Memory h may = tt

@@ -1,11 +1,12 @@
 -- Where a list of work leads when a form has joined.
-use Rattle.std.proofs.Common.{◌≡◌, ℕ, suc, ◌<◌, Bool, true, false, List, [], ◌∷◌, ◌++◌, map, take, length, Some, Result, Ok, Err, refl, sym, ap, ◌∙◌, subst, true≢false, arith, pos}
+use Rattle.std.proofs.Common.{◌≡◌, ℕ, suc, ◌<◌, ◌≤◌, inl, Bool, true, false, List, [], ◌∷◌, ◌++◌, map, take, length, Some, Result, Ok, Err, refl, sym, ap, ◌∙◌, subst, true≢false, arith, pos}
 use Rattle.std.specs.Cmp.{first_so}
-use Rattle.std.specs.Prelude.{◌==◌, ◌&&◌, ◌||◌, IfErr, OnOk, fold, is_some, option_map, slice_get, if◌then◌else◌}
+use Rattle.std.specs.Prelude.{◌==◌, ◌&&◌, ◌||◌, Contains, IfErr, OnOk, fold, is_some, option_map, slice_get, if◌then◌else◌}
 use Rattle.std.specs.List.{AllByRecursion, list_any}
-use Rattle.std.proofs.lemmas.List.{map-append}
+use Rattle.std.proofs.lemmas.List.{length-append, length-map, map-append}
+use Rattle.std.proofs.lemmas.Option.{get_or_from_slice_get}
 use Rattle.std.proofs.lemmas.List.Sums.{fold_push}
-use Rattle.nz_reals.proofs.JoinedForms.{some_suc}
+use Rattle.nz_reals.proofs.JoinedForms.{number_has, some_suc, unit_shape}
 use Rattle.nz_lists.proofs.Elements.{AllByRecursion-append}
 use Rattle.nz_lists.proofs.Tests.{same_tests}
 use Rattle.nz_lists.proofs.Numbers.{equal-number, same-number, other-number}
@@ -13,10 +14,14 @@ use Rattle.nz_fractions.specs.Fraction.{whole}
 use Rattle.nz_spec.specs.simplex.Bland.{Point, Position}
 use Rattle.nz_spec.specs.terms.Form as spec
 use Rattle.nz_spec.specs.terms.Form.{unit_form}
-use Rattle.nz_spec.specs.search.Legal.{AreLegal, Lead, LegalWorkGoesOn, Search, Task, after_line, after_lines, at_first, no_point, position_of, sum_of_atom, told_literals}
+use Rattle.nz_spec.specs.clauses.LinearLiteral.{parts_of}
+use Rattle.nz_spec.specs.laws.LegalWork.{LegalWorkGoesOn}
+use Rattle.nz_spec.specs.search.Beginnings.{MayJoin, sum_of_atom}
+use Rattle.nz_spec.specs.search.Legal.{Lead, after_line, after_lines}
+use Rattle.nz_spec.specs.search.Search.{Search, Task, at_first, never, no_point, position_of, told_literals}
 use Rattle.nz_spec.specs.clauses.Literal.{Literal, TellsLiterals, are_same_literal, term_literal}
 use Rattle.nz_spec.specs.simplex.LiteralBounds as bounds
-use Rattle.nz_spec.specs.simplex.LiteralBounds.{is_unit_alone, joined, with_new_unit}
+use Rattle.nz_spec.specs.simplex.LiteralBounds.{bounded_from, is_unit_alone, joined, turned, with_new_unit}
 use Rattle.nz_spec.specs.search.Notes.{form_note}
 use Rattle.nz_spec.specs.simplex.PositionMoves.{with_form, with_unit}
 use Rattle.nz_spec.specs.terms.Same.{are_same_fraction, are_same_term}
@@ -34,16 +39,19 @@ use Rattle.nz_place.specs.declared.place.Place.{Place}
 use Rattle.nz_search.specs.declared.stop.Stop.{Stop}
 use Rattle.nz_search.specs.declared.stop.Stop.TheVariants.{Wide, Spent, Memory}
 use Rattle.nz_place.specs.Places.{IsPlaceIn}
-use Rattle.nz_search.specs.Standing.{Ends, IsStoppedAt, Standing, Stands, search_after}
+use Rattle.nz_search.specs.Standing.{Standing, Stands, search_after}
 use Rattle.nz_simplex.specs.Joins.{JoinsStopAtRows}
 use Rattle.nz_simplex.specs.Moves.{joined_over, unit_terms, with_all_units}
 use Rattle.nz_simplex.specs.Standing.{Held, bound_in}
 use Rattle.nz_simplex.specs.State as simplex_state
 use Rattle.nz_simplex.specs.State.{IsSound, State, point_in, position_over}
 use Rattle.nz_reals.specs.declared.reals.MarkedLiteral.{MarkedLiteral}
-use Rattle.nz_reals.specs.Joins.{AddsForm, IsNamedSum, StopsJoining}
+use Rattle.nz_reals.specs.Joins.{AddsForm, EndsJoining, IsNamedSum, IsStoppedJoining, StopsJoining}
 use Rattle.nz_reals.specs.Stands.{AreBounds, HasTold, IsAt, IsOver}
 use Rattle.nz_reals.specs.State.{Theory, literal_over, told_lits}
+use Rattle.nz_reals.specs.Stored.{AreForms}
+use Rattle.nz_reals.specs.Sums.{IsFormSum}
+use Rattle.nz_reals.proofs.LiteralForms.{not_found}
 use Rattle.nz_reals.proofs.WideJoinRows.{joining_place}
 use Rattle.nz_reals.proofs.TheoryPositions.{position_is}
 
@@ -176,6 +184,10 @@ joined_forms f p q same = by_test (bounds.is_unit_form f)
 
 -- ---- A list with one more note
 
+no_told : (ts : List MarkedLiteral) → map (λ (y : MarkedLiteral). y.literal) ts ≡ [] → (r : ℕ) (y : MarkedLiteral) → slice_get ts r ≡ Some y → ⊥
+no_told [] e r y at = cc
+no_told (t ∷ ts) e r y at = cc
+
 module _ (ns : List Node) (q : Task) (work : WorkList Note) (number : ℕ) where
   abbrev later : WorkList Note
   later = with_line work (NoteLine (Form number))
@@ -186,7 +198,8 @@ module _ (ns : List Node) (q : Task) (work : WorkList Note) (number : ℕ) where
   search_then : search_after ns later ≡ after_line (search_after ns work) (NoteLine (form_note number))
   search_then = ap (after_lines at_first) lines_then ∙ fold_push after_line at_first (noted_list ns work).lines (NoteLine (form_note number))
 
-  module _ (goes_on : LegalWorkGoesOn) (one : OneNumber) (tells : TellsLiterals) (old : Theory) (f : List Part) (untold : HasTold old []) (units : AreUnits ns f) (named : IsNamedSum ns f number work) (stands : Stands (IsAt old ns) ns q work) where
+  module _ (goes_on : LegalWorkGoesOn) (one : OneNumber) (tells : TellsLiterals) (old : Theory) (f : List Part) (untold : HasTold old []) (units : AreUnits ns f) (named : IsNamedSum ns f number work) (stands : Stands (IsAt old ns) ns q work)
+      (forms : AreForms old.simplex) (sum : IsFormSum f) (fresh : Contains old.simplex.forms f → ⊥) where
     abbrev S : Search
     S = search_after ns work
 
@@ -203,10 +216,24 @@ module _ (ns : List Node) (q : Task) (work : WorkList Note) (number : ℕ) where
     position : position_of S x ≡ position_over ns old.simplex
     position = position_is old ns S.forms (told_literals S) x stands.at
 
+    sum_is : sum_of_atom S number ≡ parts_over ns f
+    sum_is = ap (λ (l : Literal). turned (parts_of l)) (get_or_from_slice_get S.atoms number named.bound never named.named) ∙ named.sum
+
+    may_join : MayJoin S number
+    may_join = record {
+      bound = named.bound;
+      named = named.named;
+      linear = named.linear;
+      new =
+          ap (bounded_from 0 S.forms) named.sum
+          ∙ ap (λ (fs : List (List spec.Part)). bounded_from 0 fs (parts_over ns f)) stands.at.forms
+          ∙ not_found ns (one ns stands.at.over.table) tells 0 old.simplex.forms f stands.at.over.units forms.sums units sum fresh;
+    }
+
     then_position : joined (position_of S x) (sum_of_atom S number) ≡ P
     then_position =
         ap (λ (p : Position). joined p (sum_of_atom S number)) position
-        ∙ ap (joined (position_over ns old.simplex)) named.sum
+        ∙ ap (joined (position_over ns old.simplex)) sum_is
         ∙ joined_is ns (one ns stands.at.over.table) tells old f stands.at.over units
 
     then_forms : (search_after ns later).forms ≡ P.forms
@@ -221,7 +248,7 @@ module _ (ns : List Node) (q : Task) (work : WorkList Note) (number : ℕ) where
     pub legal_then : Lead q at_first no_point (noted_list ns later).lines P.point
     legal_then =
         subst (λ ls. Lead q at_first no_point ls P.point) (sym lines_then)
-        (goes_on q at_first no_point x P.point (noted_list ns work).lines (NoteLine (form_note number)) stands.legal (named.may, ap (λ (p : Position). p.point) (sym then_position)))
+        (goes_on.line q at_first no_point x P.point (noted_list ns work).lines (NoteLine (form_note number)) stands.legal (may_join, ap (λ (p : Position). p.point) (sym then_position)))
 
     pub stands_then : (new : Theory) → AddsForm old new f → position_over ns new.simplex ≡ P → Stands (IsAt new ns) ns q later
     stands_then new adds is = record {
@@ -246,16 +273,14 @@ module _ (ns : List Node) (q : Task) (work : WorkList Note) (number : ℕ) where
         empty : AreBounds S.forms [] old.simplex.asserted
         empty = subst (λ (ls : List Literal). AreBounds S.forms ls old.simplex.asserted) nothing_told stands.at.bounds
 
-        no_told : (ts : List MarkedLiteral) → map (λ (y : MarkedLiteral). y.literal) ts ≡ [] → (r : ℕ) (y : MarkedLiteral) → slice_get ts r ≡ Some y → ⊥
-        no_told [] e r y at = cc
-        no_told (t ∷ ts) e r y at = cc
-
     module _ (law : JoinsStopAtRows) (sound : IsSound old.simplex) where
-      stops_there : (place : Place) → StopsJoining old f (Wide place) → IsStoppedAt ns q later place
+      stops_there : (place : Place) → StopsJoining old f (Wide place) → IsStoppedJoining ns q later place
       stops_there place stops = record {
         point = P.point;
         legal = legal_then;
-        leaves =
+        joining = stops.0;
+        last = ((noted_list ns work).lines, inl (number, lines_then));
+        at =
             subst (λ (fs : List (List spec.Part)). IsPlaceIn ns fs (told_literals (search_after ns later)) P.point place) (sym then_forms)
             (subst (λ (ls : List Literal). IsPlaceIn ns P.forms ls P.point place) (sym then_told)
             (subst (IsPlaceIn ns P.forms [] P.point) (λ i. record { wide = place.wide; site = sym stops.0 i })
@@ -264,23 +289,96 @@ module _ (ns : List Node) (q : Task) (work : WorkList Note) (number : ℕ) where
 
       -- where a form joins, or doesn't
       pub form_ends : (new : Theory) (r : Result ℕ Stop) → AddsForm old new f → OnOk r ((ms : List Node) → IsOver old ms → AreUnits ms f → position_over ms new.simplex ≡ joined_over ms old.simplex f)
-          → IfErr r (StopsJoining old f) → Ends (IsAt new ns) ns q later r
+          → IfErr r (StopsJoining old f) → EndsJoining (IsAt new ns) ns q later r
       form_ends new (Ok v) adds is stops = stands_then new adds (is ns stands.at.over units)
       form_ends new (Err (Wide place)) adds is stops = stops_there place stops
       form_ends new (Err Spent) adds is stops = absurd stops
       form_ends new (Err Memory) adds is stops = (P.point, legal_then)
 
+-- ---- A unit alone
+
+-- whether the unit was there is told by how many forms there are then
+module _ (ns : List Node) (old new : State) (f : List Part) (p : Part) (is : f ≡ p ∷ []) (alone : is_unit_form f ≡ true) (position : position_over ns new ≡ joined_over ns old f) where
+  unit_joined : position_over ns new ≡ (if is_some (unit_number old.forms p.unit) then position_over ns old else with_unit (position_over ns old) (term_in ns p.unit))
+  unit_joined =
+      position
+      ∙ ap (λ (b : Bool). let units = with_all_units (position_over ns old) (unit_terms ns (new_units old.forms f)) in if b then units else with_form units (parts_over ns f)) alone
+      ∙ ap (λ (ps : List Part). with_all_units (position_over ns old) (unit_terms ns (new_units old.forms ps))) is
+      ∙ by_test (is_some (unit_number old.forms p.unit))
+    where
+      by_test : (b : Bool) → with_all_units (position_over ns old) (unit_terms ns (if b then [] else unit_of p ∷ [])) ≡ (if b then position_over ns old else with_unit (position_over ns old) (term_in ns p.unit))
+      by_test true = refl
+      by_test false = refl
+
+  count : (s : State) → length (position_over ns s).forms ≡ length s.forms
+  count s = length-map s.forms (parts_over ns)
+
+  there : (b : Bool) → position_over ns new ≡ (if b then position_over ns old else with_unit (position_over ns old) (term_in ns p.unit)) → length new.forms ≤ length old.forms → position_over ns new ≡ position_over ns old
+  there true e h = e
+  there false e h =
+      let more : length (position_over ns new).forms ≡ length ((position_over ns old).forms ++ (unit_form (term_in ns p.unit)).parts ∷ []) = ap (λ (q : Position). length q.forms) e in
+      let long = length-append (position_over ns old).forms ((unit_form (term_in ns p.unit)).parts ∷ []) in
+      absurd (omega (arith, h, more, long, count new, count old))
+
+  new_there : (b : Bool) → position_over ns new ≡ (if b then position_over ns old else with_unit (position_over ns old) (term_in ns p.unit)) → length old.forms < length new.forms → b ≡ false
+  new_there false e h = refl
+  new_there true e h =
+      let same : length (position_over ns new).forms ≡ length (position_over ns old).forms = ap (λ (q : Position). length q.forms) e in
+      absurd (omega (arith, h, same, count new, count old))
+
+  pub unit_was_there : length new.forms ≤ length old.forms → position_over ns new ≡ position_over ns old
+  unit_was_there = there (is_some (unit_number old.forms p.unit)) unit_joined
+
+  pub unit_is_new : length old.forms < length new.forms → Contains old.forms f → ⊥
+  unit_is_new more has =
+      let own : is_form_of p.unit f ≡ true = subst (λ (g : List Part). is_form_of p.unit g ≡ true) (sym is) (ap (λ (b : Bool). b && is_one p.coefficient) (equal-number p.unit p.unit refl) ∙ sym (ap is_unit_form is) ∙ alone) in
+      true≢false (sym (number_has old.forms p.unit f has own) ∙ new_there (is_some (unit_number old.forms p.unit)) unit_joined more)
+
 -- ---- Other results
 
 -- an error says the same of any result
-pub ends_err : (A B : Type 0) (IsThere : Standing) (ns : List Node) (q : Task) (work : WorkList Note) (e : Stop) → Ends {A = A} IsThere ns q work (Err e) → Ends {A = B} IsThere ns q work (Err e)
+pub ends_err : (A B : Type 0) (IsThere : Standing) (ns : List Node) (q : Task) (work : WorkList Note) (e : Stop) → EndsJoining {A = A} IsThere ns q work (Err e) → EndsJoining {A = B} IsThere ns q work (Err e)
 ends_err A B IsThere ns q work (Wide place) h = h
 ends_err A B IsThere ns q work Spent h = h
 ends_err A B IsThere ns q work Memory h = h
 
--- the lines of a list at which a theory stands are legal
-pub stands_legal : (IsThere : Standing) (ns : List Node) (q : Task) (work : WorkList Note) → Stands IsThere ns q work → AreLegal q (noted_list ns work).lines
+-- the lines of a list at which a theory stands lead there
+pub stands_legal : (IsThere : Standing) (ns : List Node) (q : Task) (work : WorkList Note) → Stands IsThere ns q work → (point : Point) × Lead q at_first no_point (noted_list ns work).lines point
 stands_legal IsThere ns q work stands = (stands.point, stands.legal)
+
+-- a unit alone has no row, so only memory is wanted
+pub alone_stops : (IsThere : Standing) (ns : List Node) (q : Task) (work : WorkList Note) (old : Theory) (f : List Part) → is_unit_form f ≡ true → (e : Stop) → StopsJoining old f e
+    → (point : Point) × Lead q at_first no_point (noted_list ns work).lines point → EndsJoining {A = ℕ} IsThere ns q work (Err e)
+alone_stops IsThere ns q work old f alone (Wide place) stops legal = absurd (true≢false (sym alone ∙ stops.1))
+alone_stops IsThere ns q work old f alone Spent stops legal = stops
+alone_stops IsThere ns q work old f alone Memory stops legal = legal
+
+-- where nothing joined, and nothing was told, a theory stands where it stood
+pub stands_same : (old new : Theory) (f : List Part) (ns : List Node) (q : Task) (work : WorkList Note) → HasTold old [] → AreUnits ns f → AddsForm old new f → position_over ns new.simplex ≡ position_over ns old.simplex
+    → Stands (IsAt old ns) ns q work → Stands (IsAt new ns) ns q work
+stands_same old new f ns q work untold units adds is stands = record {
+  point = stands.point;
+  legal = stands.legal;
+  at = record {
+    over = adds.over ns units stands.at.over;
+    forms = stands.at.forms ∙ ap (λ (p : Position). p.forms) (sym is);
+    literals = stands.at.literals ∙ ap (map (literal_over ns old)) untold ∙ ap (map (literal_over ns new)) (sym none);
+    point = stands.at.point ∙ ap (λ (p : Position). p.point) (sym is);
+    bounds = subst (λ (bs : List Held). AreBounds (search_after ns work).forms (told_literals (search_after ns work)) bs) (sym adds.asserted) stands.at.bounds;
+    marks = λ r y at. absurd (no_told new.told none r y at);
+  };
+}
+  where
+    none : told_lits new ≡ []
+    none = ap (map (λ (y : MarkedLiteral). y.literal)) adds.told ∙ untold
+
+-- where a unit alone joined, or was there
+pub unit_ends : (ns : List Node) (q : Task) (work after : WorkList Note) (old new : Theory) (f : List Part) → HasTold old [] → AreUnits ns f → AddsForm old new f → is_unit_form f ≡ true
+    → position_over ns new.simplex ≡ joined_over ns old.simplex f → length new.simplex.forms ≤ length old.simplex.forms → after ≡ work → Stands (IsAt old ns) ns q work → Stands (IsAt new ns) ns q after
+unit_ends ns q work after old new f untold units adds alone position fewer same stands =
+    let p = unit_shape f alone in
+    subst (λ (w : WorkList Note). Stands (IsAt new ns) ns q w) (sym same)
+    (stands_same old new f ns q work untold units adds (unit_was_there ns old.simplex new.simplex f p.0 p.1 alone position fewer) stands)
 
 -- a theory that knows more, and was told nothing, stands where it stood
 pub known_more_at : (old new : Theory) (ns : List Node) (fs : List (List spec.Part)) (ls : List Literal) (x : Point) → new.simplex ≡ old.simplex → new.told ≡ old.told → HasTold old [] → IsAt old ns fs ls x → IsAt new ns fs ls x

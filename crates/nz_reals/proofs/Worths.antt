@@ -36,7 +36,8 @@ use Rattle.nz_log.specs.declared.lits.Lit.{Lit}
 use Rattle.nz_log.specs.Atoms.{literal_in, with_sign}
 use Rattle.nz_simplex.specs.Checks as checks
 use Rattle.nz_simplex.specs.State.{IsSound, position_over}
-use Rattle.nz_reals.specs.Chosen.{AddsValues, HasWorths, IsConstant}
+use Rattle.nz_reals.specs.Chosen.{AddsValues, HasWorths}
+use Rattle.nz_reals.specs.Constants.{IsConstant, IsRealConstant, is_marked}
 use Rattle.nz_reals.specs.Stands.{IsAt, IsFeasible, IsKnown, IsOf, IsOver}
 use Rattle.nz_reals.specs.State.{Theory, literal_over, sum_at, told_lits}
 use Rattle.nz_reals.specs.Stored.{AreForms}
@@ -79,7 +80,7 @@ listed_some (p ∷ ps) i v c e = by_test (p.0 == i) refl e (listed_some ps i v)
 -- ---- A feasible theory
 
 module _ (met : ToldBoundsAreMet) (keep : ChosenFractionsKeepBounds) (numbers : TermHasItsNumber) (tells : TellsLiterals) (one : OneNumber) (units : UnitsAreForms) (t : Theory) (ns : List Node)
-    (over : IsOver t ns) (forms : AreForms t.simplex) (sound : IsSound t.simplex) (feasible : IsFeasible t) (old new : List (ℕ × Value)) (adds : AddsValues t ns (position_over ns t.simplex) old new) where
+    (over : IsOver t ns) (forms : AreForms t.simplex) (sound : IsSound t.simplex) (feasible : IsFeasible t) (marks : List Bool) (old new : List (ℕ × Value)) (adds : AddsValues t ns marks (position_over ns t.simplex) old new) where
   abbrev here : Position
   here = position_over ns t.simplex
 
@@ -234,7 +235,7 @@ module _ (met : ToldBoundsAreMet) (keep : ChosenFractionsKeepBounds) (numbers : 
 
   -- ---- Constants
 
-  module _ (i : ℕ) (c : Constant) (node : Node) (there : slice_get ns i ≡ Some node) (head : node.head ≡ constant c) (real : c.sort ≡ real_sort) where
+  module _ (i : ℕ) (c : Constant) (node : Node) (marked : is_marked marks i ≡ true) (there : slice_get ns i ≡ Some node) (head : node.head ≡ constant c) (real : c.sort ≡ real_sort) where
     inside : i < length ns
     inside = slice_get_within ns i node there
 
@@ -246,16 +247,16 @@ module _ (met : ToldBoundsAreMet) (keep : ChosenFractionsKeepBounds) (numbers : 
         let own = at_of (AreUnits ns) fs over.units k (sum_at t k) (slice_get-get_or fs k [] low) in
         (low, units.told ns i (sum_at t k) over.table inside own (sym (get_or-map (parts_over ns) fs k [] [] low) ∙ found.1))
 
-    is_constant : (k : ℕ) → unit_number fs i ≡ Some k → IsConstant t ns i k
-    is_constant k is = let f = found_form k is in record { listed = f.0; alone = f.1; name = c; node = node; at = there; head = head; real = real }
+    is_constant : (k : ℕ) → unit_number fs i ≡ Some k → IsConstant t ns marks i k
+    is_constant k is = let f = found_form k is in record { listed = f.0; alone = f.1; of = record { name = c; node = node; at = there; head = head; real = real }; marked = marked }
 
     -- a unit that is a form alone has a number
-    unlisted : (k : ℕ) → IsConstant t ns i k → unit_number fs i ≡ None → ⊥
+    unlisted : (k : ℕ) → IsConstant t ns marks i k → unit_number fs i ≡ None → ⊥
     unlisted k h is =
         units.missing ns fs i over.table over.units inside is
         (subst (Contains here.forms) (units.form ns i (sum_at t k) h.alone) (map_has (parts_over ns) fs (sum_at t k) (has_found fs k (sum_at t k) (slice_get-get_or fs k [] h.listed))))
 
-    one_place : (k m : ℕ) → IsConstant t ns i k → unit_number fs i ≡ Some m → m ≡ k
+    one_place : (k m : ℕ) → IsConstant t ns marks i k → unit_number fs i ≡ Some m → m ≡ k
     one_place k m h is = let f = found_form m is in one_form t ns over forms units m k i f.0 h.listed f.1 h.alone
 
     -- the value that is listed with it is what it is worth; without one, it is worth the default
@@ -290,7 +291,7 @@ module _ (met : ToldBoundsAreMet) (keep : ChosenFractionsKeepBounds) (numbers : 
   number_value : (x : ℕ × Value) → Contains adds.added x → IsValueOf ns x
   number_value x has =
       let r = adds.right.right x.0 x.1 has in
-      let k : IsConstant t ns x.0 r.0 = r.1 in
+      let k : IsRealConstant ns x.0 = r.1.of in
       let own : k.node ≡ record { head = constant k.name; kids = k.node.kids } = ap (λ (h : Head). let n : Node = record { head = h; kids = k.node.kids } in n) k.head in
       record {
         of = k.name;
@@ -300,12 +301,12 @@ module _ (met : ToldBoundsAreMet) (keep : ChosenFractionsKeepBounds) (numbers : 
         fits = subst ValueFits (sym r.2.1) r.2.3;
       }
 
-  pub has_worths : HasWorths t ns old new
+  pub has_worths : HasWorths t ns marks old new
   has_worths = record {
     added = adds.added;
     joined = adds.joined;
     values = by_each (IsValueOf ns) adds.added number_value;
     worths = worth_of;
     met = told_met;
-    constants = λ i node c there head real. constant_worth i c node there head real;
+    constants = λ i node c marked there head real. constant_worth i c node marked there head real;
   }

@@ -1,17 +1,20 @@
 -- Units and sums that join before a search, where no form is there yet.
-use Rattle.std.specs.Prelude.{◌≡◌, ◌⊎◌, ℕ, Bool, true, List, [], All, Contains, Some, map, slice_get}
+use Rattle.std.specs.Prelude.{◌≡◌, ◌⊎◌, ◌≤◌, ℕ, suc, Bool, true, List, [], ◌∷◌, All, Contains, Some, map, slice_get, if◌then◌else◌}
 use Rattle.std.specs.List.{AllByRecursion}
 use Rattle.nz_fractions.specs.Fraction.{Fraction}
 use Rattle.nz_spec.specs.simplex.Bland.{zero_infinitesimal}
 use Rattle.nz_spec.specs.terms.Form as spec
+use Rattle.nz_spec.specs.terms.Form.{Numbering}
 use Rattle.nz_spec.specs.numbers.Infinitesimal.{Infinitesimal}
-use Rattle.nz_spec.specs.search.Legal.{IsSumOf, IsTabled}
+use Rattle.nz_spec.specs.clauses.LinearLiteral.{parts_of}
+use Rattle.nz_spec.specs.search.Atoms.{IsTabled}
+use Rattle.nz_spec.specs.search.Beginnings.{IsSumOf}
 use Rattle.nz_spec.specs.terms.Table.{IsTable, Node}
 use Rattle.nz_spec.specs.terms.Term.{Term}
 use Rattle.nz_lin.specs.declared.bound.Bound.{Bound}
 use Rattle.nz_lin.specs.declared.form.Part.{Part}
 use Rattle.nz_lin.specs.Forms.{AreUnits, parts_over}
-use Rattle.nz_tab.specs.Units.{unit_of}
+use Rattle.nz_tab.specs.Units.{is_unit_form, unit_of}
 use Rattle.nz_log.specs.declared.atoms.Atom.{Atom}
 use Rattle.nz_log.specs.declared.atoms.Atom.TheVariants.{AtMost}
 use Rattle.nz_log.specs.Atoms.{IsLitIn, literal_in}
@@ -37,7 +40,7 @@ pub record MayArrange (all : List Atom) (ids : List ℕ) : Type 0 where
 
 -- an atom that is a bound is one of the tables of these terms
 abbrev pub IsTabledAtom : List Node → List Term → List Atom → ℕ → Type 0
-IsTabledAtom ns ts all id = (b : Bound) → slice_get all id ≡ Some (AtMost b) → IsTabled ts (literal_in ns all (record { atom = id; sign = true }))
+IsTabledAtom ns ts all id = (b : Bound) → slice_get all id ≡ Some (AtMost b) → (number : Numbering) × IsTabled number ts (literal_in ns all (record { atom = id; sign = true }))
 
 -- the bound is that of one of these atoms
 pub record IsBoundAmong (all : List Atom) (ids : List ℕ) (b : Bound) : Type 0 where
@@ -55,7 +58,7 @@ IsFormOfBound b f = (f ≡ turned_sum b.sides.parts) ⊎ ((p : Part) × Contains
 pub record IsSumAmong (ns : List Node) (all : List Atom) (ids : List ℕ) (f : List spec.Part) : Type 0 where
   pub bound : Bound
   pub among : IsBoundAmong all ids bound
-  pub is : IsSumOf (literal_in ns all (record { atom = among.id; sign = true })) f
+  pub is : IsSumOf (parts_of (literal_in ns all (record { atom = among.id; sign = true }))) f
 
 -- ---- Where forms stand
 
@@ -118,3 +121,19 @@ MayHaveExchanged old new = (new ≡ old) ⊎ HasTurned old new IsAtZero
 -- a form stands at this value, or all is as before
 abbrev pub MayHaveStood : Theory → Theory → ℕ → Infinitesimal → Type 0
 MayHaveStood old new k v = (new ≡ old) ⊎ HasTurned old new (λ j w. (j ≡ k) × (w ≡ v))
+
+-- ---- How many exchanges
+
+-- how many of these forms are no unit alone
+abbrev pub sum_count : List (List Part) → ℕ
+sum_count [] = 0
+sum_count (f ∷ fs) = if is_unit_form f then sum_count fs else suc (sum_count fs)
+
+-- each form stays
+abbrev pub KeepsForms : Theory → Theory → Type 0
+KeepsForms old new = (k : ℕ) (f : List Part) → slice_get old.simplex.forms k ≡ Some f → slice_get new.simplex.forms k ≡ Some f
+
+-- The forms stay. Where two were exchanged, a sum has joined.
+pub record MayExchangeOne (old new : Theory) (exchanged : Bool) : Type 0 where
+  pub kept : KeepsForms old new
+  pub joined : exchanged ≡ true → suc (sum_count old.simplex.forms) ≤ sum_count new.simplex.forms

@@ -1,5 +1,5 @@
 -- Bounds of one form that exclude each other, and the clauses that say so.
-use Rattle.std.specs.Prelude.{◌≡◌, ◌≢◌, ℕ, ◌<◌, ◌-◌, ◌⊎◌, Bool, List, [], ◌∷◌, length, map, All, Contains, Some, IsSome, slice_get, true}
+use Rattle.std.specs.Prelude.{◌≡◌, ◌≢◌, ℕ, ◌<◌, ◌-◌, ◌⊎◌, Bool, List, [], ◌∷◌, length, map, All, Contains, Some, IsSome, slice_get, true, false}
 use Rattle.std.specs.List.{AllAdjacentBelow}
 use Rattle.std.specs.declared.cmp.Ordering.TheVariants.{Greater}
 use Rattle.nz_spec.specs.numbers.Infinitesimal.{infinitesimal_cmp, ◌≤δ◌}
@@ -52,6 +52,17 @@ pub record IsExclusion (log : LogState) (ids : List ℕ) (id : ℕ) : Type 0 whe
   pub first_on : Contains ids first.atom
   pub second_on : Contains ids second.atom
   pub clash : IsClash log (first ∷ second ∷ []) id
+
+-- none of the clauses that are held has just the negations of two literals
+abbrev pub HasNone : LogState → List ℕ → Lit → Lit → Type 0
+HasNone log held l m = (id : ℕ) → Contains held id → (literals_at log id ≡ negated_lit l ∷ negated_lit m ∷ []) ⊎ (literals_at log id ≡ negated_lit m ∷ negated_lit l ∷ []) → ⊥
+
+-- The clause says that two literals aren't both true, and none of those that were held says it of the two.
+pub record IsFresh (old new : LogState) (held : List ℕ) (id : ℕ) : Type 0 where
+  pub first : Lit
+  pub second : Lit
+  pub clash : IsClash new (first ∷ second ∷ []) id
+  pub none : HasNone old held first second
 
 -- The log keeps each of its clauses, its atoms and what was told.
 pub record Keeps (old new : LogState) : Type 0 where
@@ -149,6 +160,31 @@ pub record IsPair (xs : List code.Lower) (i : ℕ) (negated weaker : Lit) : Type
 abbrev pub Joins : List code.Lower → ℕ → List Lit → Type 0
 Joins xs i c = (l m : Lit) × IsPair xs i l m × ((c ≡ l ∷ m ∷ []) ⊎ (c ≡ m ∷ l ∷ []))
 
+-- one of the clauses joins the bound of a place with the one before
+abbrev pub HasJoint : LogState → List ℕ → List code.Lower → ℕ → Type 0
+HasJoint log held xs i = (id : ℕ) × Contains held id × IsLive log id × Joins xs i (literals_at log id)
+
+abbrev pub HasNoJoint : LogState → List ℕ → List code.Lower → ℕ → Type 0
+HasNoJoint log held xs i = 0 < i → (id : ℕ) → Contains held id → Joins xs i (literals_at log id) → ⊥
+
 -- where a place is marked, one of the clauses joins its bound with the one before
 abbrev pub AreJoined : LogState → List ℕ → List code.Lower → List Bool → Type 0
-AreJoined log held xs marks = (i : ℕ) → slice_get marks i ≡ Some true → (id : ℕ) × Contains held id × IsLive log id × Joins xs i (literals_at log id)
+AreJoined log held xs marks = (i : ℕ) → slice_get marks i ≡ Some true → HasJoint log held xs i
+
+-- where it isn't, none does
+abbrev pub AreOpen : LogState → List ℕ → List code.Lower → List Bool → Type 0
+AreOpen log held xs marks = (i : ℕ) → slice_get marks i ≡ Some false → HasNoJoint log held xs i
+
+-- the bound of a place is the one that is noted for its atom
+abbrev pub IsNoted : List code.Lower → List ℕ → ℕ → Type 0
+IsNoted xs places i = (x : code.Lower) → slice_get xs i ≡ Some x → slice_get places x.literal.atom ≡ Some i
+
+-- what is noted and has its clause is marked
+abbrev pub AreMarked : LogState → List ℕ → List code.Lower → List ℕ → List Bool → Type 0
+AreMarked log held xs places marks = (i : ℕ) → 0 < i → IsNoted xs places i → (id : ℕ) → Contains held id → Joins xs i (literals_at log id) → slice_get marks i ≡ Some true
+
+-- Marks stay, and each that is new is that of a bound that the clause joins with the one before.
+pub record Marks (xs : List code.Lower) (c : List Lit) (old new : List Bool) : Type 0 where
+  pub long : length new ≡ length old
+  pub stay : (i : ℕ) → slice_get old i ≡ Some true → slice_get new i ≡ Some true
+  pub right : (i : ℕ) → slice_get new i ≡ Some true → Joins xs i c ⊎ (slice_get old i ≡ Some true)

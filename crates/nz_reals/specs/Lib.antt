@@ -1,5 +1,6 @@
 pub mod Arranging
 pub mod Chosen
+pub mod Constants
 pub mod Exclusions
 pub mod Joins
 pub mod Knowing

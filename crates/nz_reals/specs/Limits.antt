@@ -1,17 +1,24 @@
 -- A fraction for the infinitesimal: what the values of forms and their bounds allow, and where an operation leaves the numbers there.
-use Rattle.std.specs.Prelude.{◌≡◌, ℕ, zero, suc, ◌<◌, ◌⊎◌, List, [], ◌∷◌, ◌++◌, length, Contains, Option, Some, None, IsSome, option_map, unwrap_or}
-use Rattle.nz_fractions.specs.Fraction.{Fraction, IsNumber, Operation, Product, Sum, outcome}
-use Rattle.nz_spec.specs.simplex.Bland.{zero_infinitesimal}
-use Rattle.nz_spec.specs.numbers.Infinitesimal.{Infinitesimal, Pair, ◌≤δ◌, limit_operations}
-use Rattle.nz_spec.specs.search.Places.{LeavesNumbers, in_order}
+use Rattle.std.specs.Prelude.{◌≡◌, ℕ, zero, suc, ◌<◌, ◌⊎◌, Bool, true, List, [], ◌∷◌, ◌++◌, length, Option, Some, None, IsSome, option_map, unwrap_or}
+use Rattle.nz_fractions.specs.Fraction.{Fraction, IsNumber, first_wide}
+use Rattle.nz_spec.specs.simplex.Bland.{Point, zero_infinitesimal}
+use Rattle.nz_spec.specs.numbers.Infinitesimal.{Infinitesimal, Pair, ◌≤δ◌, is_limiting, limit_operations}
+use Rattle.nz_spec.specs.terms.Form.{Part}
+use Rattle.nz_spec.specs.terms.Table.{Node}
+use Rattle.nz_spec.specs.terms.Term.{Term}
+use Rattle.nz_spec.specs.clauses.Literal.{Literal}
+use Rattle.nz_spec.specs.simplex.LiteralBounds.{position_under}
+use Rattle.nz_spec.specs.search.Places.{IsOfModel, LeavesNumbers, in_order, value_operations}
 use Rattle.nz_frac.specs.Operations.{operation_of}
 use Rattle.nz_trail.specs.declared.limits.Side.{Side}
 use Rattle.nz_trail.specs.declared.limits.Side.TheVariants.{Lower, Upper}
 use Rattle.nz_place.specs.declared.place.Place.{Place}
 use Rattle.nz_place.specs.declared.place.Site.TheVariants.{Limit, Model}
+use Rattle.nz_place.specs.Places.{IsPlaceIn}
 use Rattle.nz_simplex.specs.Standing.{bound_in, half}
 use Rattle.nz_simplex.specs.State.{value_in}
-use Rattle.nz_reals.specs.State.{Theory}
+use Rattle.nz_reals.specs.Constants.{IsAlone}
+use Rattle.nz_reals.specs.State.{Theory, sum_at}
 
 -- ---- Values and bounds
 
@@ -42,7 +49,7 @@ pub record HasValues (t : Theory) : Type 0 where
 
 -- ---- Places
 
--- An operation on the limit that a form's value and its bound of a side set leaves the numbers.
+-- An operation of the limit that a form's value and its bound of a side set, where they set one, leaves the numbers.
 pub record IsLimitPlace (t : Theory) (place : Place) : Type 0 where
   pub form : ℕ
   pub side : Side
@@ -51,19 +58,36 @@ pub record IsLimitPlace (t : Theory) (place : Place) : Type 0 where
   pub pair : Pair
   pub is : pair_on t form side ≡ Some pair
   pub numbers : IsNumber (value_of t form).standard × IsNumber (value_of t form).coefficient
-  pub of : Contains (limit_operations pair) (operation_of place.wide)
+  pub limits : is_limiting pair ≡ true
+  pub first : first_wide (limit_operations pair) ≡ Some (operation_of place.wide)
   pub leaves : LeavesNumbers (operation_of place.wide)
 
--- an operation on a number where a fraction stands for the infinitesimal
-abbrev pub IsOfValueAt : Infinitesimal → Fraction → Operation → Type 0
-IsOfValueAt x e op =
-    (op ≡ record { operator = Product; left = x.coefficient; right = e })
-    ⊎ (op ≡ record { operator = Sum; left = x.standard; right = outcome Product x.coefficient e })
-
--- One on the value of a form leaves the numbers.
-pub record IsModelPlace (t : Theory) (e : Fraction) (place : Place) : Type 0 where
+-- One of the value of a form, which is a marked constant alone, leaves the numbers.
+pub record IsModelPlace (t : Theory) (ns : List Node) (marks : List Bool) (e : Fraction) (place : Place) : Type 0 where
   pub form : ℕ
   pub site : place.site ≡ Model form
   pub inside : form < length t.simplex.forms
-  pub of : IsOfValueAt (value_of t form) e (operation_of place.wide)
+  pub unit : ℕ
+  pub alone : IsAlone ns marks (sum_at t form) unit
+  pub first : first_wide (value_operations (value_of t form) e) ≡ Some (operation_of place.wide)
   pub leaves : LeavesNumbers (operation_of place.wide)
+
+-- ---- Places of the definitions
+
+-- The place is that of a limit.
+pub record IsLimitPlaceIn (ns : List Node) (fs : List (List Part)) (ls : List Literal) (x : Point) (place : Place) : Type 0 where
+  pub form : ℕ
+  pub side : Side
+  pub site : place.site ≡ Limit form side
+  pub leaves : IsPlaceIn ns fs ls x place
+
+-- The place is that of the value of a form, which is a constant among these terms alone.
+pub record IsModelPlaceIn (listed : List Term) (fs : List (List Part)) (ls : List Literal) (x : Point) (place : Place) : Type 0 where
+  pub form : ℕ
+  pub site : place.site ≡ Model form
+  pub at : IsOfModel listed (position_under fs x ls) form (operation_of place.wide)
+  pub leaves : LeavesNumbers (operation_of place.wide)
+
+-- the one or the other
+abbrev pub IsPlaceOfValues : List Node → List Term → List (List Part) → List Literal → Point → Place → Type 0
+IsPlaceOfValues ns listed fs ls x place = IsLimitPlaceIn ns fs ls x place ⊎ IsModelPlaceIn listed fs ls x place

@@ -1,8 +1,12 @@
 -- How a theory begins anew, over the forms that are there.
-use Rattle.std.specs.Prelude.{◌≡◌, ◌++◌, ℕ, Contains, List, None, map, slice_index_or}
+use Rattle.std.specs.Prelude.{◌≡◌, ◌⊎◌, ◌++◌, ℕ, All, Contains, List, [], None, map, slice_index_or}
 use Rattle.std.specs.declared.vec.Vec.{Vec}
 use Rattle.std.specs.declared.alloc.Global.{Global}
-use Rattle.nz_spec.specs.search.Legal.{MayBegin, Task, terms_known}
+use Rattle.nz_spec.specs.laws.LegalWork.{IsOnTerm}
+use Rattle.nz_spec.specs.search.Atoms.{IsTabled, IsTruth}
+use Rattle.nz_spec.specs.search.Beginnings.{MayBegin}
+use Rattle.nz_spec.specs.search.Search.{Task, terms_known}
+use Rattle.nz_spec.specs.clauses.Literal.{Literal}
 use Rattle.nz_spec.specs.terms.Table.{IsTable, Node}
 use Rattle.nz_spec.specs.terms.Term.{Term}
 use Rattle.nz_spec.specs.search.Work.{NoteLine, WorkList, with_line}
@@ -12,14 +16,14 @@ use Rattle.nz_search.specs.declared.note.Note.{Note}
 use Rattle.nz_search.specs.declared.note.Note.TheVariants as notes
 use Rattle.nz_search.specs.declared.note.StartNote.{StartNote}
 use Rattle.nz_search.specs.Notes.{AreFormsWithin, places_of}
-use Rattle.nz_search.specs.Standing.{Stands}
+use Rattle.nz_search.specs.Standing.{Stands, search_after}
 use Rattle.nz_simplex.specs.State.{State, point_in}
 use Rattle.nz_reals.specs.Stands.{IsAt, IsOver}
 use Rattle.nz_reals.specs.State.{Theory, empty_theory}
 
 -- Over a table, a search that knows these terms may begin with the forms of the theory, where they stand.
 abbrev pub MayRestart : Theory → List Node → List Term → Type 0
-MayRestart t ns ts = MayBegin ts (map (parts_over ns) t.simplex.forms) (point_in t.simplex)
+MayRestart t ns ts = MayBegin ts [] (map (parts_over ns) t.simplex.forms) (point_in t.simplex)
 
 -- These are the forms of a simplex, and the places at which the nonbasic ones stand.
 pub record IsStart (s : State) (start : StartNote) : Type 0 where
@@ -39,8 +43,9 @@ pub record NotesStart (t : Theory) (old new : WorkList Note) : Type 0 where
 pub record TheoriesRestart : Type 0 where
   -- over no sum
   pub empty : (ns : List Node) (ts : List Term) → MayRestart empty_theory ns ts
-  -- where a legal work list led to it
-  pub after : (t : Theory) (ns : List Node) (q : Task) (work : WorkList Note) → Stands (IsAt t ns) ns q work → MayRestart t ns (terms_known q)
+  -- where a legal work list led to it, on which no goal was asked of, what was assumed is on terms, and all atoms are of the tables
+  pub after : (t : Theory) (ns : List Node) (q : Task) (work : WorkList Note) → Stands (IsAt t ns) ns q work → q.goals ≡ [] → q.earlier_goals ≡ [] → All IsOnTerm q.assumed
+      → All (λ (l : Literal). IsTruth q.listed l ⊎ IsTabled q.numbering q.listed l) (search_after ns work).atoms → MayRestart t ns (terms_known q)
   -- after searches that were asked of more terms
   pub more : (t : Theory) (ns : List Node) (ts us : List Term) → ((u : Term) → Contains ts u → Contains us u) → MayRestart t ns ts → MayRestart t ns us
   -- over a table that has grown, of which its forms are too

@@ -1,7 +1,7 @@
 -- What the calls inside tell: a literal that is told, and literals that aren't true together.
 use Rattle.std.specs.Prelude.{◌≡◌, ℕ, ◌⊎◌, List, [], ◌∷◌, ◌++◌, Contains, length, map, Some, IsSome, pos, slice_get}
 use Rattle.std.specs.List.{AllByRecursion}
-use Rattle.nz_fractions.specs.Fraction.{Fraction, whole}
+use Rattle.nz_fractions.specs.Fraction.{Fraction, first_wide, whole}
 use Rattle.nz_spec.specs.clauses.Farkas as farkas
 use Rattle.nz_spec.specs.clauses.Farkas.{sum_of_multiples}
 use Rattle.nz_spec.specs.terms.FormOf.{number_in}
@@ -10,7 +10,7 @@ use Rattle.nz_spec.specs.search.Notes.{sum_site}
 use Rattle.nz_spec.specs.search.Places.{LeavesNumbers}
 use Rattle.nz_spec.specs.terms.Table.{Node}
 use Rattle.nz_frac.specs.Operations.{operation_of}
-use Rattle.nz_trail.specs.Bounds.{ClashesWith, IsImplied, asserted}
+use Rattle.nz_trail.specs.Bounds.{ClashesWith, IsImplied, asserted, other_side}
 use Rattle.nz_lin.specs.declared.bound.BoundMultiple as lin
 use Rattle.nz_lin.specs.Bounds as lin_bounds
 use Rattle.nz_lin.specs.Bounds.{HasUnits}
@@ -20,6 +20,7 @@ use Rattle.nz_log.specs.declared.lits.Lit.{Lit}
 use Rattle.nz_log.specs.declared.multiples.LitMultiple.{LitMultiple}
 use Rattle.nz_place.specs.declared.place.Place.{Place}
 use Rattle.nz_place.specs.Places.{IsSiteWithin, site_of}
+use Rattle.nz_spec.specs.simplex.PositionMoves.{AreConsistent}
 use Rattle.nz_spec.specs.simplex.Pivots.{Lead}
 use Rattle.nz_spec.specs.search.Work.{WorkList}
 use Rattle.nz_search.specs.declared.note.Note.{Note}
@@ -61,6 +62,14 @@ pub record Clashes (t : Theory) (l : Lit) (k : Known) (other : Lit) : Type 0 whe
   pub literal : told.literal ≡ other
   pub clash : ClashesWith infinitesimal_cmp t.simplex.asserted (held_by k l (length t.told)) place
 
+-- Of both literals something is known, and they say bounds of different sides.
+pub record AreOnTwoSides (t : Theory) (l other : Lit) : Type 0 where
+  pub first : Known
+  pub knows : known_at t l.atom ≡ Some first
+  pub second : Known
+  pub knows_other : known_at t other.atom ≡ Some second
+  pub sides : (said_by second other.sign).side ≡ other_side (said_by first l.sign).side
+
 -- ---- Literals that aren't true together
 
 -- multiples of literals over a table
@@ -83,10 +92,11 @@ AreOf ls ms = AllByRecursion (λ (m : LitMultiple). Contains ls m.literal) ms
 abbrev pub multiple_at : Theory → ℕ × Fraction → LitMultiple
 multiple_at t w = record { literal = lit_at t w.0; multiplier = w.1 }
 
--- An operation of the sum of these multiples leaves the numbers.
+-- The sum of these multiples is a contradiction, and this is the first of its operations that leaves the numbers.
 pub record IsSumPlace (ns : List Node) (t : Theory) (ms : List LitMultiple) (place : Place) : Type 0 where
   pub site : site_of ns place.site ≡ sum_site (multiples_over ns t ms)
-  pub of : Contains (sum_of_multiples (number_in ns) (multiples_over ns t ms)).operations (operation_of place.wide)
+  pub contradicts : Contradicts (number_in ns) (multiples_over ns t ms)
+  pub first : first_wide (sum_of_multiples (number_in ns) (multiples_over ns t ms)).operations ≡ Some (operation_of place.wide)
   pub leaves : LeavesNumbers (operation_of place.wide)
   pub within : IsSiteWithin ns place.site
 
@@ -104,11 +114,12 @@ pub record AreBoundsOf (ns : List Node) (atoms : List Atom) (ms : List LitMultip
 
 -- ---- A check
 
--- Pivots are noted, which lead from the one position to the other; all but the point stays.
+-- Pivots are noted, which lead from the one position to the other, under bounds that leave each form a value; all but the point stays.
 pub record IsMoved (old new : Theory) (before after : WorkList Note) : Type 0 where
   pub known : new.known ≡ old.known
   pub told : new.told ≡ old.told
   pub forms : new.simplex.forms ≡ old.simplex.forms
   pub asserted : new.simplex.asserted ≡ old.simplex.asserted
+  pub consistent : (ns : List Node) → IsOver old ns → AreConsistent (position_over ns old.simplex)
   pub adds : AddsPivots before after
   pub lead : (ns : List Node) → IsOver old ns → Lead (position_over ns old.simplex) adds.pivots (position_over ns new.simplex)

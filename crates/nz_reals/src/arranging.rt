@@ -1,17 +1,18 @@
 //! On which basis, and where on it, a theory begins its first search.
-ghost use Rattle.std.specs.Prelude.{◌≡◌, ◌<◌, List, [], All, Contains, IfOk, IfSome, Some, true, length, slice_get};
+ghost use Rattle.std.specs.Prelude.{◌≡◌, ◌<◌, ◌≤◌, List, [], All, Contains, IfOk, IfSome, Some, false, true, length, slice_get, suc, if◌then◌else◌};
 ghost use Rattle.nz_delta.specs.DeltaSpace.{infinitesimal_of};
 ghost use Rattle.nz_simplex.specs.Moves.{KnowsNonbasicAlone};
 ghost use Rattle.nz_spec.specs.terms.Table.{Node};
 ghost use Rattle.nz_spec.specs.terms.Term.{Term};
-ghost use Rattle.nz_tab.specs.Units.{unit_of};
-ghost use Rattle.nz_reals.specs.Arranging.{AreAtomsIn, IsArranged, IsBoundAmong, IsTabledAtom, MayArrange, MayHaveExchanged, MayHaveJoined, MayHaveStood};
+ghost use Rattle.nz_tab.specs.Units.{is_unit_form, unit_of};
+ghost use Rattle.nz_lin.specs.declared.form.Part.{Part};
+ghost use Rattle.nz_reals.specs.Arranging.{AreAtomsIn, IsArranged, IsBoundAmong, IsTabledAtom, KeepsForms, MayArrange, MayExchangeOne, MayHaveExchanged, MayHaveJoined, MayHaveStood, sum_count};
 ghost use Rattle.nz_reals.specs.Joins.{MayAddSum};
 ghost use Rattle.nz_reals.specs.Stands.{IsOver};
 ghost use Rattle.nz_reals.specs.Starts.{MayRestart};
 ghost use Rattle.nz_reals.specs.Sums.{turned_sum, zero_bound};
 
-use crate::forms::zeroed;
+use crate::forms::{is_unit, zeroed};
 use crate::planning::{Exchanged, Plan, UnitAt, plan_start, said_at};
 use crate::reals::{Reals, stored};
 use nz_base::Memory;
@@ -27,7 +28,7 @@ use nz_trail::Var;
 impl Reals {
     /// Puts a theory without forms where its first check finds no bound broken, or a few, of those that are true from the start: lets sums of these atoms
     /// join, exchanges them with units, and puts forms at bounds. Truths are by the numbers of atoms in the log. Nothing is noted, since a theory that begins
-    /// anew notes its forms and where they stand.
+    /// anew notes its forms and where they stand. Answers how many exchanges were made: at most one for each sum that joined.
     ///
     /// # Errors
     ///
@@ -37,8 +38,11 @@ impl Reals {
         log: &Log,
         atoms: &[AtomId],
         truths: &[Option<bool>],
-    ) -> Result<(), Memory>
+    ) -> Result<usize, Memory>
         requires may { MayArrange log.now.atoms atoms.now }
+        // A theory that has a form is left as it is.
+        ensures fresh { 0 < length self.old.simplex.forms → self.new ≡ self.old }
+        ensures exchanges { IfOk result (λ n. n ≤ sum_count self.new.simplex.forms) }
         ensures over { (ns : List Node) → AreAtomsIn ns log.now.atoms atoms.now → IsOver self.old ns → IsOver self.new ns }
         // Where each bound is one of the tables of these terms, a search that might begin with the theory may do so still.
         ensures restarts { (ns : List Node) (ts : List Term) → AreAtomsIn ns log.now.atoms atoms.now → All (IsTabledAtom ns ts log.now.atoms) atoms.now → IsOver self.old ns → MayRestart self.old ns ts → MayRestart self.new ns ts }
@@ -48,7 +52,7 @@ impl Reals {
         tells_literals();
         log.atom_count();
         if !self.is_fresh() {
-            return Ok(());
+            return Ok(0);
         }
         let plan = plan_start(self.alloc, log, atoms, truths)?;
         let followed = self.follow(log, atoms, truths, &plan);
@@ -63,61 +67,70 @@ impl Reals {
         self.simplex.len() == 0 && self.simplex.mark() == 0
     }
 
-    /// Lets what is planned join and exchanges it, and puts forms at their bounds.
+    /// Lets what is planned join and exchanges it, and puts forms at their bounds. Answers how many exchanges were made.
     fn follow(
         &mut self,
         log: &Log,
         atoms: &[AtomId],
         truths: &[Option<bool>],
         plan: &Plan,
-    ) -> Result<(), Memory>
+    ) -> Result<usize, Memory>
         requires may { MayArrange log.now.atoms atoms.now }
         requires arranged { IsArranged log.now.atoms atoms.now self.old }
         ensures arranged { IsArranged log.now.atoms atoms.now self.new }
+        ensures exchanges { IfOk result (λ n. n ≤ sum_count self.new.simplex.forms) }
     {
+        let mut exchanges: usize = 0;
         for exchanged in &plan.exchanges {
-            self.exchange_joined(log, atoms, exchanged)?;
+            let is_exchanged = self.exchange_joined(log, atoms, exchanged)?;
+            exchanges = counted(exchanges, is_exchanged);
         }
         for place in &plan.stands {
             self.stand_at(log, atoms, truths, *place)?;
         }
-        Ok(())
+        Ok(exchanges)
     }
 
-    /// Lets a sum and a unit join, and exchanges them.
+    /// Lets a sum and a unit join, and exchanges them, where the sum wasn't there. Answers whether they were exchanged.
     fn exchange_joined(
         &mut self,
         log: &Log,
         atoms: &[AtomId],
         exchanged: &Exchanged,
-    ) -> Result<(), Memory>
+    ) -> Result<bool, Memory>
         requires may { MayArrange log.now.atoms atoms.now }
         requires arranged { IsArranged log.now.atoms atoms.now self.old }
         ensures arranged { IsArranged log.now.atoms atoms.now self.new }
+        ensures one { IfOk result (MayExchangeOne self.old self.new) }
     {
+        let count = self.form_count();
         let Some(sum) = self.join_sum(log, atoms, exchanged.sum)? else {
-            return Ok(());
+            return Ok(false);
         };
-        if let Some(unit) = self.join_unit(log, atoms, exchanged.unit)? {
-            self.exchange(sum, unit);
+        let Some(unit) = self.join_unit(log, atoms, exchanged.unit)? else {
+            return Ok(false);
+        };
+        if sum < count {
+            return Ok(false);
         }
-        Ok(())
+        Ok(self.exchange(sum, unit))
     }
 
-    /// Exchanges two forms, where one is basic and the other isn't, unless a number would leave the fractions.
-    fn exchange(&mut self, leaves: Var, enters: Var)
+    /// Exchanges a sum with a unit, where the sum is basic and the unit isn't, unless a number would leave the fractions. Answers whether it did.
+    fn exchange(&mut self, leaves: Var, enters: Var) -> bool
         requires unbounded { self.old.simplex.asserted ≡ [] }
         requires unknown { KnowsNonbasicAlone self.old.simplex }
         ensures exchanged { MayHaveExchanged self.old self.new }
+        ensures sum { result ≡ true → (f : List Part) × (slice_get self.old.simplex.forms leaves ≡ Some f) × (is_unit_form f ≡ false) }
     {
         let count = self.simplex.len();
-        if leaves < count
-            && enters < count
-            && self.simplex.is_basic(leaves)
-            && !self.simplex.is_basic(enters)
-        {
-            let _ = self.simplex.exchange(leaves, enters);
+        if leaves >= count || enters >= count || is_unit(self.simplex.form(leaves)) {
+            return false;
         }
+        if !self.simplex.is_basic(leaves) || self.simplex.is_basic(enters) {
+            return false;
+        }
+        matches!(self.simplex.exchange(leaves, enters), Ok(true))
     }
 
     /// Puts a form at the bound that the atom of a place says of it, where it is nonbasic.
@@ -131,6 +144,7 @@ impl Reals {
         requires may { MayArrange log.now.atoms atoms.now }
         requires arranged { IsArranged log.now.atoms atoms.now self.old }
         ensures arranged { IsArranged log.now.atoms atoms.now self.new }
+        ensures kept { KeepsForms self.old self.new }
     {
         let Some((bound, said)) = said_at(log, atoms, truths, place) else {
             return Ok(());
@@ -158,6 +172,7 @@ impl Reals {
         requires may { MayArrange log.now.atoms atoms.now }
         requires arranged { IsArranged log.now.atoms atoms.now self.old }
         ensures arranged { IsArranged log.now.atoms atoms.now self.new }
+        ensures kept { KeepsForms self.old self.new }
     {
         let Some(bound) = bound_at(log, atoms, at.place) else {
             return Ok(None);
@@ -173,6 +188,7 @@ impl Reals {
         requires may { MayArrange log.now.atoms atoms.now }
         requires arranged { IsArranged log.now.atoms atoms.now self.old }
         ensures arranged { IsArranged log.now.atoms atoms.now self.new }
+        ensures kept { KeepsForms self.old self.new }
     {
         match bound_at(log, atoms, place) {
             Some(bound) => self.add_bound(log, atoms, bound),
@@ -191,6 +207,7 @@ impl Reals {
         requires among { IsBoundAmong log.now.atoms atoms.now bound.now }
         requires arranged { IsArranged log.now.atoms atoms.now self.old }
         ensures arranged { IsArranged log.now.atoms atoms.now self.new }
+        ensures kept { KeepsForms self.old self.new }
         ensures form { IfOk result (λ r. IfSome r (λ v. slice_get self.new.simplex.forms v ≡ Some (turned_sum bound.now.sides.parts))) }
     {
         let sum = zeroed(self.alloc, bound)?;
@@ -226,6 +243,17 @@ impl Reals {
             Err(Stop::Wide(_)) => Ok(None),
             Err(_) => Err(Memory),
         }
+    }
+}
+
+/// A count, with one more where something is counted.
+fn counted(count: usize, is_counted: bool) -> usize
+    ensures counted { result ≤ (if is_counted then suc count else count) }
+{
+    if is_counted {
+        count.saturating_add(1)
+    } else {
+        count
     }
 }
 

@@ -3,6 +3,7 @@ ghost use Rattle.std.specs.Prelude.{◌≡◌, Bool, IfOk, IfSome, List, None, t
 ghost use Rattle.nz_fractions.specs.Fraction.{whole};
 ghost use Rattle.nz_spec.specs.terms.Table.{IsTable, Node};
 ghost use Rattle.nz_lin.specs.Bounds.{HasUnits};
+ghost use Rattle.nz_tab.specs.Units.{is_one, is_unit_form};
 ghost use Rattle.nz_trail.specs.declared.limits.Side.TheVariants.{Lower};
 ghost use Rattle.nz_reals.specs.Exclusions.{IsAbove};
 ghost use Rattle.nz_reals.specs.Known.{IsSaidOf, known_of, said_by, said_of};
@@ -133,4 +134,24 @@ pub(crate) fn zeroed(alloc: Global, bound: &Bound) -> Result<Bound, Memory>
         return Ok(bound.not(alloc)?.with_limit(Frac::whole(0)));
     }
     Ok(bound.copied(alloc)?.with_limit(Frac::whole(0)))
+}
+
+/// Whether a number is 1.
+pub(crate) fn is_one(number: Frac) -> bool
+    ensures one { result ≡ is_one number }
+{
+    let one = Frac::whole(1);
+    number.num();
+    one.num();
+    number == one
+}
+
+/// Whether a sum is a unit alone.
+pub(crate) fn is_unit(parts: &[Part]) -> bool
+    ensures unit { result ≡ is_unit_form parts.now }
+{
+    match parts {
+        [part] => is_one(part.coefficient),
+        _ => false,
+    }
 }

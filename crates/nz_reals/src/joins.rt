@@ -1,21 +1,22 @@
 //! Atoms that the theory learns of, and the forms that join for them.
-ghost use Rattle.std.specs.Prelude.{◌≡◌, ◌==◌, ◌<◌, ◌++◌, ℕ, List, [], ◌∷◌, IfErr, IfOk, IfSome, None, Ok, OnErr, OnOk, Some, length, slice_get, slice_index_or, true, if◌then◌else◌};
-ghost use Rattle.nz_spec.specs.search.Legal.{Task};
+ghost use Rattle.std.specs.Prelude.{◌≡◌, ◌==◌, ◌<◌, ◌≤◌, ◌++◌, ℕ, List, [], ◌∷◌, IfErr, IfOk, IfSome, None, Ok, OnErr, OnOk, Some, length, slice_get, slice_index_or, false, true, if◌then◌else◌};
+ghost use Rattle.nz_spec.specs.search.Search.{Task};
 ghost use Rattle.nz_spec.specs.terms.Table.{Node};
 ghost use Rattle.nz_lin.specs.Forms.{AreUnits};
 ghost use Rattle.nz_search.specs.declared.stop.Stop.TheVariants as stop;
 ghost use Rattle.nz_log.specs.Atoms.{IsLitIn};
-ghost use Rattle.nz_search.specs.Standing.{Ends, Stands};
+ghost use Rattle.nz_search.specs.Standing.{Stands};
 ghost use Rattle.nz_simplex.specs.Moves.{joined_over};
 ghost use Rattle.nz_simplex.specs.State.{position_over};
 ghost use Rattle.nz_reals.specs.Arranging.{HasMoved, IsAtZero};
-ghost use Rattle.nz_reals.specs.Joins.{AddsForm, IsAtomFor, IsFree, IsNamedSum, IsNumberIn, MayAddSum, NotesForm, StopsJoining};
+ghost use Rattle.nz_reals.specs.Joins.{AddsForm, EndsJoining, IsAtomFor, IsFree, IsNamedSum, IsNumberIn, MayAddSum, NotesForm, StopsJoining};
 ghost use Rattle.nz_reals.specs.Known.{known_of};
 ghost use Rattle.nz_reals.specs.Stands.{HasTold, IsAt, IsOf, IsOver};
 ghost use Rattle.nz_reals.specs.State.{known_at};
 ghost use Rattle.nz_reals.specs.Sums.{zero_bound};
+ghost use Rattle.nz_tab.specs.Units.{is_unit_form};
 
-use crate::forms::{Bounded, zeroed};
+use crate::forms::{Bounded, is_unit, zeroed};
 use crate::reals::{Reals, stored};
 use crate::refute::stopped;
 use nz_base::{Memory, Work};
@@ -52,7 +53,7 @@ impl Reals {
         ensures lines { NotesForm number work.old work.new }
         ensures unspent { IfErr result (λ e. e ≡ stop.Spent → ⊥) }
         // Over a table, where the theory stands where the list leads, it does so again.
-        ensures ends { (ns : List Node) (q : Task) → IsLitIn ns log.now.atoms (record { atom = id; sign = true }) → IsNumberIn ns log.now.atoms id number work.old → Stands (IsAt self.old ns) ns q work.old → Ends (IsAt self.new ns) ns q work.new result }
+        ensures ends { (ns : List Node) (q : Task) → IsLitIn ns log.now.atoms (record { atom = id; sign = true }) → IsNumberIn ns log.now.atoms id number work.old → Stands (IsAt self.old ns) ns q work.old → EndsJoining (IsAt self.new ns) ns q work.new result }
     {
         log.atom_count();
         let Atom::AtMost(bound) = log.atom(id) else {
@@ -73,7 +74,7 @@ impl Reals {
         ensures adds { AddsForm self.old self.new sum.sides.parts }
         ensures lines { NotesForm number work.old work.new }
         ensures unspent { IfErr result (λ e. e ≡ stop.Spent → ⊥) }
-        ensures ends { (ns : List Node) (q : Task) → AreUnits ns sum.sides.parts → IsNamedSum ns sum.sides.parts number work.old → Stands (IsAt self.old ns) ns q work.old → Ends (IsAt self.new ns) ns q work.new result }
+        ensures ends { (ns : List Node) (q : Task) → AreUnits ns sum.sides.parts → IsNamedSum ns sum.sides.parts number work.old → Stands (IsAt self.old ns) ns q work.old → EndsJoining (IsAt self.new ns) ns q work.new result }
     {
         joins_stop_at_rows();
         tells_literals();
@@ -83,8 +84,51 @@ impl Reals {
         if let Some(var) = self.find(&sum)? {
             return Ok(var);
         }
+        if is_unit(sum.parts()) {
+            return self.unit_for(sum, number, work);
+        }
         work.note(Note::Form { atom: number })?;
         self.join(sum)
+    }
+
+    /// The number of a unit alone, which may be a form. Where it is none, it joins, which is noted; it has no row, so no operation leaves the numbers.
+    fn unit_for(&mut self, sum: Bound, number: usize, work: &mut Work<Note>) -> Result<Var, Stop>
+        requires zero { sum ≡ zero_bound sum.sides.parts }
+        requires alone { is_unit_form sum.sides.parts ≡ true }
+        requires may { MayAddSum self.old sum.sides.parts }
+        requires untold { HasTold self.old [] }
+        ensures form { IfOk result (λ v. slice_get self.new.simplex.forms v ≡ Some sum.sides.parts) }
+        ensures adds { AddsForm self.old self.new sum.sides.parts }
+        ensures lines { NotesForm number work.old work.new }
+        ensures unspent { IfErr result (λ e. e ≡ stop.Spent → ⊥) }
+        ensures ends { (ns : List Node) (q : Task) → AreUnits ns sum.sides.parts → IsNamedSum ns sum.sides.parts number work.old → Stands (IsAt self.old ns) ns q work.old → EndsJoining (IsAt self.new ns) ns q work.new result }
+    {
+        tells_literals();
+        one_number();
+        legal_work_goes_on();
+        stored(self);
+        let count = self.form_count();
+        let var = self.join(sum)?;
+        if !self.has_more(count) {
+            return Ok(var);
+        }
+        work.note(Note::Form { atom: number })?;
+        Ok(var)
+    }
+
+    /// How many forms there are.
+    pub(crate) fn form_count(&self) -> usize
+        ensures count { result ≡ length self.now.simplex.forms }
+    {
+        self.simplex.len()
+    }
+
+    /// Whether there are more forms than so many.
+    fn has_more(&self, count: usize) -> bool
+        ensures more { result ≡ true → count < length self.now.simplex.forms }
+        ensures none { result ≡ false → length self.now.simplex.forms ≤ count }
+    {
+        self.simplex.len() > count
     }
 
     /// The number of a sum among the forms. A unit alone may be missing.

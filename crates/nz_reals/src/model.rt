@@ -1,28 +1,31 @@
 //! Values of the units, once the simplex is feasible.
 ghost use Rattle.std.specs.Prelude.{◌≡◌, ◌<◌, ℕ, List, ◌++◌, IfErr, IfOk, IfSome, None, OnOk, false, length, option_map, true, if◌then◌else◌};
-ghost use Rattle.nz_fractions.specs.Fraction.{IsNumber, fraction_lt, is_wide, ◌=ℚ◌};
+ghost use Rattle.nz_fractions.specs.Fraction.{IsNumber, first_wide, fraction_lt, ◌=ℚ◌};
 ghost use Rattle.nz_spec.specs.simplex.Bland.{Point};
 ghost use Rattle.nz_spec.specs.terms.Form as spec;
 ghost use Rattle.nz_spec.specs.numbers.Infinitesimal as infinitesimal;
 ghost use Rattle.nz_spec.specs.numbers.Infinitesimal.{IsLeastLimit, Pair};
 ghost use Rattle.nz_spec.specs.clauses.Literal.{Literal};
 ghost use Rattle.nz_spec.specs.search.Places as places;
+ghost use Rattle.nz_spec.specs.search.Places.{value_operations};
+ghost use Rattle.nz_spec.specs.terms.Term.{Term};
 ghost use Rattle.nz_spec.specs.laws.ToldBounds.{AreNumbers};
-ghost use Rattle.nz_frac.specs.Operations.{operation_of};
+ghost use Rattle.nz_delta.specs.Refused.{refused};
 ghost use Rattle.nz_delta.specs.DeltaSpace.{infinitesimal_of};
 ghost use Rattle.nz_delta.specs.Pairs.{pair_of};
 ghost use Rattle.nz_lin.specs.Forms.{AreUnits};
 ghost use Rattle.nz_search.specs.declared.stop.Stop.TheVariants as stop;
-ghost use Rattle.nz_place.specs.Places.{IsPlaceIn};
 ghost use Rattle.nz_search.specs.Places.{OnWide};
 ghost use Rattle.nz_simplex.specs.Standing.{bound_in, half};
 ghost use Rattle.nz_simplex.specs.State.{position_over};
-ghost use Rattle.nz_tab.specs.Units.{is_one};
-ghost use Rattle.nz_reals.specs.Chosen.{AddsValues, HasWorths, IsAlone, IsRealConstant, Puts};
-ghost use Rattle.nz_reals.specs.Limits.{HasValues, IsLimitPlace, IsModelPlace, IsOfValueAt, listed, pair_on, pairs_below, pairs_of, value_of};
+ghost use Rattle.nz_reals.specs.Chosen.{AddsValues, HasWorths, Puts};
+ghost use Rattle.nz_reals.specs.Constants.{AreMarkedAmong, IsAlone, IsRealConstant, is_marked};
+ghost use Rattle.nz_reals.specs.Limits.{HasValues, IsLimitPlace, IsModelPlace, IsPlaceOfValues, listed, pair_on, pairs_below, pairs_of, value_of};
 ghost use Rattle.nz_reals.specs.Stands.{IsAt, IsFeasible, IsOver};
 
+use crate::forms::is_one;
 use crate::reals::{Reals, stored};
+use crate::refute::stopped;
 use nz_delta::{Delta, choose_delta};
 use nz_frac::{Frac, Wide};
 use nz_lin::Part;
@@ -33,24 +36,31 @@ use nz_spec::deciding::{chosen_fractions_keep_bounds, told_bounds_are_met};
 use nz_spec::derivation::tells_literals;
 use nz_spec::form::term_has_its_number;
 use nz_spec::infinitesimal::infinitesimals_are_ordered;
-use nz_spec::table::one_number;
+use nz_spec::table::{one_number, term_of_node};
 use nz_tab::laws::units_are_forms;
 use nz_term::{Assign, Head, Sort, TermId, Terms, Value};
 use nz_trail::{Limit, Side, Var};
 
 impl Reals {
-    /// Puts a value for each constant of sort `Real` among the units behind those of an assignment: the value at the point, where a fraction stands for the
-    /// infinitesimal that keeps all values within their bounds. Under these values each bound that was told holds.
+    /// Puts a value for each listed constant of sort `Real` among the units behind those of an assignment: the value at the point, where a fraction stands for
+    /// the infinitesimal that keeps all values within their bounds. Under these values each bound that was told holds. What is listed is told by the
+    /// numbers of terms; a term past the end isn't.
     ///
     /// # Errors
     ///
     /// `Wide` where an operation leaves the numbers; `Memory`.
-    pub fn add_values(&self, terms: &Terms, values: &mut Assign) -> Result<(), Stop>
+    pub fn add_values(
+        &self,
+        terms: &Terms,
+        is_listed: &[bool],
+        values: &mut Assign,
+    ) -> Result<(), Stop>
         requires over { IsOver self.now terms.now }
         requires feasible { IsFeasible self.now }
-        ensures values { OnOk result (AddsValues self.now terms.now (position_over terms.now self.now.simplex) values.old values.new) }
-        ensures worths { OnOk result (HasWorths self.now terms.now values.old values.new) }
-        ensures place { IfErr result (λ e. OnWide e (λ p. (fs : List (List spec.Part)) (ls : List Literal) (x : Point) → IsAt self.now terms.now fs ls x → IsPlaceIn terms.now fs ls x p)) }
+        ensures values { OnOk result (AddsValues self.now terms.now is_listed.now (position_over terms.now self.now.simplex) values.old values.new) }
+        ensures worths { OnOk result (HasWorths self.now terms.now is_listed.now values.old values.new) }
+        // It is the limit of a value and its bound, or the value of a constant among these terms.
+        ensures place { (ts : List Term) → AreMarkedAmong terms.now is_listed.now ts → IfErr result (λ e. OnWide e (λ p. (fs : List (List spec.Part)) (ls : List Literal) (x : Point) → IsAt self.now terms.now fs ls x → IsPlaceOfValues terms.now ts fs ls x p)) }
         ensures unspent { IfErr result (λ e. e ≡ stop.Spent → ⊥) }
     {
         positions_have_values();
@@ -61,33 +71,35 @@ impl Reals {
         told_bounds_are_met();
         chosen_fractions_keep_bounds();
         units_are_forms();
+        term_of_node();
         stored(self);
         let delta = match self.delta() {
             Ok(delta) => delta,
             Err(place) => return Err(Stop::Wide(place)),
         };
         for var in 0..self.simplex.len() {
-            self.add_value(var, delta, terms, values)?;
+            self.add_value(var, delta, terms, is_listed, values)?;
         }
         Ok(())
     }
 
-    /// Puts the value of a form behind others, if the form is a constant of sort `Real` alone.
+    /// Puts the value of a form behind others, if the form is a listed constant of sort `Real` alone.
     fn add_value(
         &self,
         var: Var,
         delta: Frac,
         terms: &Terms,
+        is_listed: &[bool],
         values: &mut Assign,
     ) -> Result<(), Stop>
         requires inside { var < length self.now.simplex.forms }
         requires over { IsOver self.now terms.now }
         requires values { HasValues self.now }
-        ensures puts { OnOk result (Puts self.now terms.now delta var values.old values.new) }
-        ensures place { IfErr result (λ e. OnWide e (IsModelPlace self.now delta)) }
+        ensures puts { OnOk result (Puts self.now terms.now is_listed.now delta var values.old values.new) }
+        ensures place { IfErr result (λ e. OnWide e (IsModelPlace self.now terms.now is_listed.now delta)) }
         ensures unspent { IfErr result (λ e. e ≡ stop.Spent → ⊥) }
     {
-        let Some(unit) = constant_alone(terms, self.simplex.form(var)) else {
+        let Some(unit) = constant_alone(terms, is_listed, self.simplex.form(var)) else {
             return Ok(());
         };
         match self.value_at(var, delta) {
@@ -95,7 +107,7 @@ impl Reals {
                 values.push(unit, Value::Number(value))?;
                 Ok(())
             }
-            Err(place) => Err(Stop::Wide(place)),
+            Err(wide) => Err(stopped(wide, Site::Model { form: var })),
         }
     }
 
@@ -144,19 +156,19 @@ impl Reals {
     }
 
     /// The value of a form where a fraction stands for the infinitesimal.
-    fn value_at(&self, var: Var, delta: Frac) -> Result<Frac, Place>
+    fn value_at(&self, var: Var, delta: Frac) -> Result<Frac, Wide>
         requires inside { var < length self.now.simplex.forms }
         requires values { HasValues self.now }
         ensures value { IfOk result (λ q. q =ℚ infinitesimal.at (value_of self.now var) delta) }
         ensures number { IfOk result IsNumber }
-        ensures place { IfErr result (IsModelPlace self.now delta) }
+        ensures stops { refused result ≡ first_wide (value_operations (value_of self.now var) delta) }
     {
         match at(self.value(var), delta) {
             Ok(number) => {
                 number.num();
                 Ok(number)
             }
-            Err(wide) => Err(Place::new(wide, Site::Model { form: var })),
+            Err(wide) => Err(wide),
         }
     }
 
@@ -217,36 +229,38 @@ fn lesser(a: Frac, b: Frac) -> Frac
 /// A number with a fraction for the infinitesimal.
 fn at(value: Delta, delta: Frac) -> Result<Frac, Wide>
     ensures value { IfOk result (λ q. q =ℚ infinitesimal.at (infinitesimal_of value) delta) }
-    ensures of { IfErr result (λ w. IsOfValueAt (infinitesimal_of value) delta (operation_of w)) }
-    ensures wide { IfErr result (λ w. is_wide (operation_of w).operator w.a w.b ≡ true) }
+    ensures stops { refused result ≡ first_wide (value_operations (infinitesimal_of value) delta) }
 {
     let product = value.k.mul(delta)?;
     value.c.add(product)
 }
 
-/// The constant of sort `Real` that a form is, if it is one alone.
-fn constant_alone(terms: &Terms, parts: &[Part]) -> Option<TermId>
+/// The constant of sort `Real` that a form is, if it is one alone, which is listed.
+fn constant_alone(terms: &Terms, is_listed: &[bool], parts: &[Part]) -> Option<TermId>
     requires units { AreUnits terms.now parts.now }
-    ensures alone { IfSome result (IsAlone terms.now parts.now) }
-    ensures none { result ≡ None → (u : ℕ) → IsAlone terms.now parts.now u → ⊥ }
+    ensures alone { IfSome result (IsAlone terms.now is_listed.now parts.now) }
+    ensures none { result ≡ None → (u : ℕ) → IsAlone terms.now is_listed.now parts.now u → ⊥ }
 {
     let [part] = parts else {
         return None;
     };
-    if is_one(part.coefficient) && is_real_constant(terms, part.unit) {
+    if is_one(part.coefficient)
+        && is_marked(is_listed, part.unit)
+        && is_real_constant(terms, part.unit)
+    {
         return Some(part.unit);
     }
     None
 }
 
-/// Whether a number is 1.
-fn is_one(number: Frac) -> bool
-    ensures one { result ≡ is_one number }
+/// Whether a term is marked, by its number.
+fn is_marked(marks: &[bool], term: TermId) -> bool
+    ensures marked { result ≡ is_marked marks.now term }
 {
-    let one = Frac::whole(1);
-    number.num();
-    one.num();
-    number == one
+    match marks.get(term) {
+        Some(mark) => *mark,
+        None => false,
+    }
 }
 
 /// Whether a term is a constant of sort `Real`.

@@ -1,10 +1,10 @@
 //! Clauses by which neighbouring bounds of one form know each other: one that is true makes the weaker ones true, and those against it false.
-ghost use Rattle.std.specs.Prelude.{◌≡◌, ◌<◌, ◌++◌, ℕ, List, [], ◌∷◌, All, Contains, IfOk, IfSome, IsSome, None, OnOk, length, option_map, true, false};
+ghost use Rattle.std.specs.Prelude.{◌≡◌, ◌<◌, ◌++◌, ℕ, List, [], ◌∷◌, All, Contains, IfOk, IfSome, IsSome, None, OnOk, Some, length, option_map, slice_get, true, false};
 ghost use Rattle.nz_log.specs.declared.atoms.Atom.{Atom};
 ghost use Rattle.nz_log.specs.declared.lits.Lit.{Lit};
-ghost use Rattle.nz_log.specs.Logs.{IsLive};
+ghost use Rattle.nz_log.specs.Logs.{IsLive, LogState};
 ghost use Rattle.nz_search.specs.Theories.{IsClash};
-ghost use Rattle.nz_reals.specs.Exclusions.{AddsOn, AreExcluded, AreJoined, AreLowers, AreOpposed, HasNeighbours, HasNoSum, IsExclusion, IsKnownOn, IsLower, IsPair, IsSaidLower, Joins, lits_of};
+ghost use Rattle.nz_reals.specs.Exclusions.{AddsOn, AreExcluded, AreJoined, AreLowers, AreMarked, AreOpen, AreOpposed, HasJoint, HasNeighbours, HasNoJoint, HasNoSum, HasNone, IsExclusion, IsFresh, IsKnownOn, IsLower, IsNoted, IsPair, IsSaidLower, Joins, Marks, lits_of};
 ghost use Rattle.nz_reals.specs.Known.{known_of};
 ghost use Rattle.nz_reals.specs.Stands.{IsOf};
 ghost use Rattle.nz_reals.specs.State.{known_at};
@@ -49,6 +49,7 @@ impl Reals {
         ensures clauses { IfOk result (λ cs. All (IsExclusion log.new atoms.now) cs.items) }
         ensures adds { AddsOn atoms.now log.old log.new }
         ensures neighbours { IfOk result (λ cs. HasNeighbours self.now log.new atoms.now (held.now ++ cs.items)) }
+        ensures fresh { IfOk result (λ cs. All (IsFresh log.old log.new held.now) cs.items) }
     {
         let lowers = self.lowers(atoms)?;
         let joined = joined(self.alloc, log, held, &lowers)?;
@@ -116,6 +117,7 @@ impl Reals {
         requires known { AreKnown self.now (both literal other) }
         ensures clauses { (ids : List ℕ) → Contains ids literal.atom → Contains ids other.atom → All (IsExclusion log.old ids) clauses.old.items → OnOk result (All (IsExclusion log.new ids) clauses.new.items) }
         ensures adds { (ids : List ℕ) → Contains ids literal.atom → Contains ids other.atom → AddsOn ids log.old log.new }
+        ensures fresh { (start : LogState) (held : List ℕ) → HasNone start held literal other → All (IsFresh start log.old held) clauses.old.items → OnOk result (All (IsFresh start log.new held) clauses.new.items) }
         ensures kept { (id : ℕ) → Contains clauses.old.items id → Contains clauses.new.items id }
         ensures excluded { OnOk result (AreExcluded self.now log.new clauses.new.items literal other) }
     {
@@ -173,19 +175,18 @@ fn joined(
     requires live { All (IsLive log.now) held.now }
     ensures long { IfOk result (λ v. length v.items ≡ length lowers.now) }
     ensures joined { IfOk result (λ v. AreJoined log.now held.now lowers.now v.items) }
+    ensures others { IfOk result (λ v. AreOpen log.now held.now lowers.now v.items) }
 {
     let places = places_of(alloc, log, lowers)?;
+    let marks = marked(alloc, log, held, lowers, &places)?;
     let mut joined = Vec::new(alloc);
-    joined.resize(lowers.len(), false)?;
-    for id in held {
-        if let Some(place) = place_of(lowers, &places, log.clause(*id)) {
-            joined[place] = true;
-        }
+    for place in 0..lowers.len() {
+        joined.push(is_joined(log, held, lowers, &places, &marks, place))?;
     }
     Ok(joined)
 }
 
-/// By the numbers of atoms, where the bounds stand that they say.
+/// By the numbers of atoms, where the bounds stand that they say; of an atom that says two, the last one.
 fn places_of(alloc: Global, log: &Log, lowers: &[Lower]) -> Result<Vec<usize>, Memory> {
     let mut places = Vec::new(alloc);
     if lowers.len() > 1 {
@@ -199,30 +200,142 @@ fn places_of(alloc: Global, log: &Log, lowers: &[Lower]) -> Result<Vec<usize>, M
     Ok(places)
 }
 
-/// Of which of these bounds a clause says that it and the negation of the one before it aren't both true.
-fn place_of(lowers: &[Lower], places: &[usize], clause: &[Lit]) -> Option<usize>
-    ensures within { IfSome result (λ i. i < length lowers.now) }
-    ensures joins { IfSome result (λ i. Joins lowers.now i clause.now) }
+/// Marks bounds that have their clause among these: each that is noted has its mark then.
+fn marked(
+    alloc: Global,
+    log: &Log,
+    held: &[ClauseId],
+    lowers: &[Lower],
+    places: &[usize],
+) -> Result<Vec<bool>, Memory>
+    requires live { All (IsLive log.now) held.now }
+    ensures joined { IfOk result (λ v. AreJoined log.now held.now lowers.now v.items) }
+    ensures noted { IfOk result (λ v. AreMarked log.now held.now lowers.now places.now v.items) }
+{
+    let mut marks = Vec::new(alloc);
+    marks.resize(lowers.len(), false)?;
+    for id in held {
+        mark(lowers, places, log.clause(*id), &mut marks);
+    }
+    Ok(marks)
+}
+
+/// Marks what a clause joins, where the bound is noted.
+fn mark(lowers: &[Lower], places: &[usize], clause: &[Lit], marks: &mut Vec<bool>)
+    requires long { length marks.old.items ≡ length lowers.now }
+    ensures marks { Marks lowers.now clause.now marks.old.items marks.new.items }
+    ensures noted { (i : ℕ) → 0 < i → IsNoted lowers.now places.now i → Joins lowers.now i clause.now → slice_get marks.new.items i ≡ Some true }
 {
     let [first, second] = clause else {
-        return None;
+        return;
     };
-    match place_by(lowers, places, *first, *second) {
-        Some(place) => Some(place),
-        None => place_by(lowers, places, *second, *first),
+    mark_by(lowers, places, *first, clause, marks);
+    mark_by(lowers, places, *second, clause, marks);
+}
+
+/// Marks the bound that is noted for the atom of a literal, if the clause joins it.
+fn mark_by(lowers: &[Lower], places: &[usize], negated: Lit, clause: &[Lit], marks: &mut Vec<bool>)
+    requires long { length marks.old.items ≡ length lowers.now }
+    ensures marks { Marks lowers.now clause.now marks.old.items marks.new.items }
+    ensures noted { (i : ℕ) → 0 < i → slice_get places.now negated.atom ≡ Some i → Joins lowers.now i clause.now → slice_get marks.new.items i ≡ Some true }
+{
+    let Some(place) = places.get(negated.atom) else {
+        return;
+    };
+    if !joins(lowers, *place, clause) {
+        return;
+    }
+    marks[*place] = true;
+}
+
+/// Whether one of these clauses says that a bound and the negation of the one before it aren't both true.
+fn is_joined(
+    log: &Log,
+    held: &[ClauseId],
+    lowers: &[Lower],
+    places: &[usize],
+    marks: &[bool],
+    place: usize,
+) -> bool
+    requires live { All (IsLive log.now) held.now }
+    requires joined { AreJoined log.now held.now lowers.now marks.now }
+    requires noted { AreMarked log.now held.now lowers.now places.now marks.now }
+    ensures yes { result ≡ true → HasJoint log.now held.now lowers.now place }
+    ensures no { result ≡ false → HasNoJoint log.now held.now lowers.now place }
+{
+    if is_marked(marks, place) {
+        return true;
+    }
+    if is_noted(lowers, places, place) {
+        return false;
+    }
+    has_joint(log, held, lowers, place)
+}
+
+/// Whether a place is marked.
+fn is_marked(marks: &[bool], place: usize) -> bool
+    ensures marked { result ≡ true → slice_get marks.now place ≡ Some true }
+    ensures unmarked { result ≡ false → slice_get marks.now place ≡ Some true → ⊥ }
+{
+    match marks.get(place) {
+        Some(mark) => *mark,
+        None => false,
     }
 }
 
-/// The place of a bound, where the one literal is its negation, and the other one says the bound before it.
-fn place_by(lowers: &[Lower], places: &[usize], negated: Lit, weaker: Lit) -> Option<usize>
-    ensures within { IfSome result (λ i. i < length lowers.now) }
-    ensures pair { IfSome result (λ i. IsPair lowers.now i negated weaker) }
+/// Whether a bound is the one that is noted for its atom.
+fn is_noted(lowers: &[Lower], places: &[usize], place: usize) -> bool
+    ensures noted { result ≡ true → IsNoted lowers.now places.now place }
 {
-    let place = *places.get(negated.atom)?;
-    let stronger = lowers.get(place)?;
-    let before = lowers.get(place.checked_sub(1)?)?;
-    let is_pair = negated == stronger.literal.not()
-        && weaker == before.literal
-        && weaker != negated;
-    if is_pair { Some(place) } else { None }
+    let Some(lower) = lowers.get(place) else {
+        return false;
+    };
+    match places.get(lower.literal.atom) {
+        Some(at) => *at == place,
+        None => false,
+    }
+}
+
+/// Whether one of these clauses joins a bound with the one before it. Asked only of an atom that says two bounds.
+fn has_joint(log: &Log, held: &[ClauseId], lowers: &[Lower], place: usize) -> bool
+    requires live { All (IsLive log.now) held.now }
+    ensures yes { result ≡ true → HasJoint log.now held.now lowers.now place }
+    ensures no { result ≡ false → HasNoJoint log.now held.now lowers.now place }
+{
+    for id in held {
+        if joins(lowers, place, log.clause(*id)) {
+            return true;
+        }
+    }
+    false
+}
+
+/// Whether a clause says that a bound and the negation of the one before it aren't both true.
+fn joins(lowers: &[Lower], place: usize, clause: &[Lit]) -> bool
+    ensures within { result ≡ true → place < length lowers.now }
+    ensures yes { result ≡ true → Joins lowers.now place clause.now }
+    ensures no { result ≡ false → 0 < place → Joins lowers.now place clause.now → ⊥ }
+{
+    let [first, second] = clause else {
+        return false;
+    };
+    is_pair(lowers, place, *first, *second) || is_pair(lowers, place, *second, *first)
+}
+
+/// Whether the one literal is the negation of the bound of a place, and the other one says the bound before it.
+fn is_pair(lowers: &[Lower], place: usize, negated: Lit, weaker: Lit) -> bool
+    ensures within { result ≡ true → place < length lowers.now }
+    ensures yes { result ≡ true → IsPair lowers.now place negated weaker }
+    ensures no { result ≡ false → 0 < place → IsPair lowers.now place negated weaker → ⊥ }
+{
+    let Some(last) = place.checked_sub(1) else {
+        return false;
+    };
+    let Some(stronger) = lowers.get(place) else {
+        return false;
+    };
+    let Some(before) = lowers.get(last) else {
+        return false;
+    };
+    negated == stronger.literal.not() && weaker == before.literal && weaker != negated
 }

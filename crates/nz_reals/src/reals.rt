@@ -6,7 +6,7 @@ ghost use Rattle.nz_reals.specs.Known.{known_of, said_by, said_of};
 ghost use Rattle.nz_reals.specs.Stands.{IsOf};
 ghost use Rattle.nz_reals.specs.State.{empty_theory, known_at, told_lits};
 ghost use Rattle.nz_reals.specs.Stored.{AreForms, AreTolds};
-ghost use Rattle.nz_reals.specs.Tells.{AreKnown, Clashes, IsTold, Refutes, both, multiple_at};
+ghost use Rattle.nz_reals.specs.Tells.{AreKnown, AreOnTwoSides, Clashes, IsTold, Refutes, both, multiple_at};
 
 use crate::forms::{Bounded, SideBound};
 use indexmap::IndexMap;
@@ -98,6 +98,7 @@ impl Reals {
         requires known { IsSome (known_at self.old literal.atom) }
         ensures told { result ≡ Ok None → IsTold self.old self.new literal }
         ensures among { IfOk result (λ r. IfSome r (λ other. Contains (told_lits self.old) other)) }
+        ensures sides { IfOk result (λ r. IfSome r (AreOnTwoSides self.old literal)) }
         ensures refutes { (atoms : List Atom) (ids : List ℕ) → IsOf self.old atoms ids → IfOk result (λ r. IfSome r (λ other. AreKnown self.old (both literal other) × Refutes self.old (both literal other))) }
         ensures unchanged { (result ≡ Ok None → ⊥) → self.new ≡ self.old }
     {

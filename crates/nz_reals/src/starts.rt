@@ -2,7 +2,7 @@
 ghost use Rattle.std.specs.Prelude.{◌≡◌, ◌<◌, ℕ, List, [], IfOk, None, OnErr, OnOk, length, map, option_map, slice_index_or};
 ghost use Rattle.std.specs.declared.vec.Vec.{Vec};
 ghost use Rattle.std.specs.declared.alloc.Global.{Global};
-ghost use Rattle.nz_spec.specs.search.Legal.{Task, terms_known};
+ghost use Rattle.nz_spec.specs.search.Search.{Task, terms_known};
 ghost use Rattle.nz_spec.specs.terms.Table.{Node};
 ghost use Rattle.nz_delta.specs.DeltaSpace.{infinitesimal_of};
 ghost use Rattle.nz_lin.specs.declared.form.Part.{Part};
@@ -19,6 +19,7 @@ use nz_base::{Memory, Work};
 use nz_delta::Delta;
 use nz_lin::Part;
 use nz_search::{Note, StartNote};
+use nz_spec::work::more_terms_may_begin;
 use nz_trail::Var;
 
 impl Reals {
@@ -38,6 +39,7 @@ impl Reals {
         ensures stands { OnOk result ((ns : List Node) (q : Task) → IsOver self.old ns → MayRestart self.old ns (terms_known q) → Stands (IsAt self.new ns) ns q work.new) }
         ensures unchanged { OnErr result (work.new ≡ work.old) }
     {
+        more_terms_may_begin();
         let start = self.start()?;
         work.note(Note::Start(start))?;
         self.forget();

@@ -7,8 +7,9 @@ ghost use Rattle.nz_spec.specs.clauses.Literal.{Literal};
 ghost use Rattle.nz_spec.specs.simplex.LiteralBounds.{position_under};
 ghost use Rattle.nz_spec.specs.terms.Table.{Node};
 ghost use Rattle.nz_spec.specs.search.Work.{IsSpent};
-ghost use Rattle.nz_place.specs.Places.{IsPlaceIn};
+ghost use Rattle.nz_spec.specs.simplex.Pivots.{MayPivot, Pivot};
 ghost use Rattle.nz_search.specs.Places.{OnWide};
+ghost use Rattle.nz_search.specs.Theories.{IsPlaceOfStep};
 ghost use Rattle.nz_simplex.specs.Checks.{IsRefuted};
 ghost use Rattle.nz_simplex.specs.State.{position_over};
 ghost use Rattle.nz_reals.specs.Stands.{IsFeasible, IsOver};
@@ -64,6 +65,7 @@ impl Theory for Reals {
         sums_stay();
         term_has_its_number();
         tells_literals();
+        one_number();
         if self.seek(work)? {
             return Ok(None);
         }
@@ -92,7 +94,8 @@ impl Reals {
         ensures moved { IsMoved self.old self.new work.old work.new }
         ensures feasible { result ≡ Ok true → IsFeasible self.new }
         ensures clash { result ≡ Ok false → (ns : List Node) → IsOver self.new ns → IsRefuted ns self.new.simplex }
-        ensures place { (ns : List Node) → IsOver self.new ns → IfErr result (λ e. OnWide e (λ place. (fs : List (List Part)) (ls : List Literal) (x : Point) → position_under fs x ls ≡ position_over ns self.new.simplex → IsPlaceIn ns fs ls x place)) }
+        ensures place { (ns : List Node) → IsOver self.new ns → IfErr result (λ e. OnWide e (λ place. (fs : List (List Part)) (ls : List Literal) (x : Point) → position_under fs x ls ≡ position_over ns self.new.simplex → IsPlaceOfStep ns fs ls x place)) }
+        ensures wanted { (ns : List Node) → IsOver self.new ns → IfErr result (λ e. e ≡ stop.Spent → (p : Pivot) × MayPivot (position_over ns self.new.simplex) p) }
         ensures spent { IfErr result (λ e. e ≡ stop.Spent → IsSpent work.new) }
     {
         stored(self);

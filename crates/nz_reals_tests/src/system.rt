@@ -184,6 +184,7 @@ impl System {
         let mut work = Work::new(self.alloc)?;
         work.reserve(UNITS)?;
         let clause = settle(
+            self.alloc,
             &self.terms,
             &self.atoms,
             &mut self.log,
@@ -357,8 +358,9 @@ fn tell(
     Ok(clause)
 }
 
-/// Looks for values that meet what a theory was told, and adds them to others.
+/// Looks for values that meet what a theory was told, and adds those of all constants to others.
 fn settle(
+    alloc: Global,
     terms: &Terms,
     atoms: &[AtomId],
     log: &mut Log,
@@ -373,7 +375,9 @@ fn settle(
     atoms.len();
     let clause = reals.check(log, work)?;
     if clause.is_none() {
-        reals.add_values(terms, values)?;
+        let mut is_listed = Vec::new(alloc);
+        is_listed.resize(terms.len(), true)?;
+        reals.add_values(terms, &is_listed, values)?;
     }
     Ok(clause)
 }

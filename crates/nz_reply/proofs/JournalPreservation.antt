@@ -7,8 +7,9 @@ use Rattle.std.specs.declared.vec.Vec.{Vec}
 use Rattle.std.specs.declared.alloc.Global.{Global}
 use Rattle.nz_spec.specs.clauses.Farkas as farkas
 use Rattle.nz_spec.specs.clauses.Gates.{holds}
+use Rattle.nz_spec.specs.clauses.Literal.{term_literal}
 use Rattle.nz_spec.specs.search.Notes as notes
-use Rattle.nz_spec.specs.search.Notes.{start_note, atom_note, term_site, sum_site}
+use Rattle.nz_spec.specs.search.Notes.{start_note, atom_note, under_note, term_site, sum_site}
 use Rattle.nz_spec.specs.terms.Table.{Node, TermStays}
 use Rattle.nz_spec.specs.terms.Term.{sort_of}
 use Rattle.nz_spec.specs.search.Work.{WorkLine, UnitLine, NoteLine, WorkList}
@@ -21,6 +22,8 @@ use Rattle.nz_lin.specs.declared.form.Part.{Part}
 use Rattle.nz_lin.specs.Bounds.{bounded, literal_over, multiples_over, HasUnits}
 use Rattle.nz_lin.specs.Forms.{AreUnits, NamesUnit, parts_over}
 use Rattle.nz_sexpr.specs.Packed.{packed_heard_view}
+use Rattle.nz_term.specs.declared.term_lits.TermLit.{TermLit}
+use Rattle.nz_term.specs.TermLits.{AreOfTerms, literal_of}
 use Rattle.nz_search.specs.declared.note.Note.{Note}
 use Rattle.nz_search.specs.declared.note.Note.TheVariants as note
 use Rattle.nz_place.specs.declared.place.Place.{Place}
@@ -77,11 +80,20 @@ module _ (stays : TermStays) (ns more : List Node) where
   forms_stay [] h = refl
   forms_stay (f ∷ fs) h = λ i. parts_stay f.items h.0.names i ∷ forms_stay fs h.1 i
 
+  literals_wider : (ls : List TermLit) → AreOfTerms ns ls → AreOfTerms (ns ++ more) ls
+  literals_wider [] h = tt
+  literals_wider (l ∷ ls) h = (wider l.term h.0, literals_wider ls h.1)
+
+  literals_stay : (ls : List TermLit) → AreOfTerms ns ls → map (literal_of (ns ++ more)) ls ≡ map (literal_of ns) ls
+  literals_stay [] h = refl
+  literals_stay (l ∷ ls) h = λ i. term_literal (stays ns more l.term h.0 i) l.sign ∷ literals_stay ls h.1 i
+
   note_within : (n : Note) → IsNoteWithin ns n → IsNoteWithin (ns ++ more) n
   note_within (note.Start start) h = forms_wider start.forms.items h
   note_within (note.Atom t) h = wider t h
   note_within (note.Bound b) h = bound_wider b h
   note_within (note.Form atom) h = tt
+  note_within (note.Under literals) h = literals_wider literals.items h
   note_within (note.Told atom sign) h = tt
 
   note_stays : (n : Note) → IsNoteWithin ns n → note_of (ns ++ more) n ≡ note_of ns n
@@ -89,6 +101,7 @@ module _ (stays : TermStays) (ns more : List Node) where
   note_stays (note.Atom t) h = ap (λ u. atom_note (holds u)) (stays ns more t h)
   note_stays (note.Bound b) h = ap atom_note (bound_stays b h)
   note_stays (note.Form atom) h = refl
+  note_stays (note.Under literals) h = ap under_note (literals_stay literals.items h)
   note_stays (note.Told atom sign) h = refl
 
   notes_within : (lines : List (WorkLine Note)) → AreNotedWithin ns lines → AreNotedWithin (ns ++ more) lines

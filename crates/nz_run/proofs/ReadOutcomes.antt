@@ -1,5 +1,7 @@
 -- What one read leads to.
-use Rattle.std.proofs.Common.{◌≡◌, inl, inr, true≢false, ℕ, suc, ◌+◌, ◌*◌, ◌^◌, ◌<◌, ◌≤◌, Bool, true, false, List, [], ◌∷◌, ◌++◌, length, take, Option, refl, sym, ap, ◌∙◌, subst, append_assoc, append-nil, arith}
+use Rattle.std.proofs.Common.{◌≡◌, inl, inr, true≢false, ℕ, suc, nat_eq, nat_lt, ◌&&◌, ◌||◌, ◌+◌, ◌*◌, ◌^◌, ◌<◌, ◌≤◌, Bool, true, false, List, [], ◌∷◌, ◌++◌, length, take, Option, refl, sym, ap, ◌∙◌, subst, append_assoc, append-nil, arith}
+use Rattle.std.proofs.Math.Bool.{or-false}
+use Rattle.std.proofs.lemmas.Bool.Decides.{nat_tests}
 use Rattle.std.proofs.lemmas.List.{length-append}
 use Rattle.std.proofs.lemmas.Grind.{flat_map-append}
 use Rattle.std.specs.Io.KnownBytes.{Appends, Consumes, IsAtEnd, Keeps}
@@ -14,10 +16,10 @@ use Rattle.nz_script.specs.replies.Right.{after}
 use Rattle.nz_spec.specs.terms.Table.{Node}
 use Rattle.nz_spec.specs.terms.Term.{Term}
 use Rattle.nz_script.specs.run.Transcript.{Kept, GoesOn, EndsByExit, things_of, texts_of}
-use Rattle.nz_script.specs.run.Run.{buffer_size, IsAnswered, IsBrokenOff, IsCutShort, IsInterrupted, TookMany}
+use Rattle.nz_script.specs.run.Run.{buffer_size, ExitsInTime, IsAnswered, IsBrokenOff, IsCutShort, IsInterrupted, TookMany}
 use Rattle.nz_session.specs.declared.session.Session.{Session}
 use Rattle.nz_session.specs.Serve.{BreaksOff, HasEnded, HasExited, IsCut, IsShort, Serves, Writes, WritesCut, kept_by}
-use Rattle.nz_run.specs.Reading.{IsReading}
+use Rattle.nz_run.specs.Reading.{IsInTime, IsReading}
 
 -- ---- What was written
 
@@ -65,6 +67,32 @@ incomplete read old new more told goes kept ends heard alike complete =
     let none : length more ≡ 0 = omega (arith, all, before, now) in
     exits_or_goes start old goes (subst (EndsByExit start) (kept ∙ none_more old more none) ends)
 
+-- ---- The end of the input
+
+-- a read that brought no byte though there was room for one
+pub zero_ends : (n : ℕ) (buffer : List ℕ) → n ≡ 0 → 0 < length buffer → (nat_eq n 0 && nat_lt 0 (length buffer)) ≡ true
+zero_ends n buffer e room =
+    let none : nat_eq n 0 ≡ true = grind (arith, nat_tests, e) in
+    let some : nat_lt 0 (length buffer) ≡ true = grind (arith, nat_tests, room) in
+    ap (λ b. b && nat_lt 0 (length buffer)) none ∙ some
+
+-- one that brought a byte, of an input that hadn't ended
+goes_on : (before now found : Bool) → now ≡ (before || found) → found ≡ false → before ≡ false → now ≡ false
+goes_on before now found is none e = is ∙ ap (λ b. b || found) e ∙ none
+
+-- a read before the end isn't late
+pub in_time_still : (late now ended : Bool) → now ≡ (late || ended) → ended ≡ false → now ≡ late
+in_time_still late now ended is e = is ∙ ap (λ b. late || b) e ∙ or-false late
+
+pub read_on : (ended late first now_ended now_late found : Bool) → now_ended ≡ (ended || found) → now_late ≡ (late || ended) → found ≡ false → IsInTime ended late first → IsInTime now_ended now_late first
+read_on ended late first now_ended now_late found ends lates none h =
+    record { unended = goes_on ended now_ended found ends none h.unended; as_first = in_time_still late now_late ended lates h.unended ∙ h.as_first }
+
+pub some_read : (n : ℕ) (buffer : List ℕ) → (n ≡ 0 → ⊥) → (nat_eq n 0 && nat_lt 0 (length buffer)) ≡ false
+some_read n buffer some =
+    let more : nat_eq n 0 ≡ false = grind (arith, nat_tests, some) in
+    ap (λ b. b && nat_lt 0 (length buffer)) more
+
 -- ---- The run
 
 module _ {E : Type 0} (levels : E → List (List ℕ)) (table : E → List Node) (begins : E → List Term → Type 0) (limit : ℕ) (session : Session E) (first left held now : Option (List ℕ)) (count : ℕ)
@@ -100,6 +128,18 @@ module _ {E : Type 0} (levels : E → List (List ℕ)) (table : E → List Node)
     short_now : IsShort reading.read
     short_now = is_short (omega (arith, few))
 
+    -- an exit that ends what is kept by now isn't complete in what was read before
+    exits_in_time : (bytes last : List ℕ) → bytes ≡ reading.read ++ last → length last ≤ buffer_size → Writes (kept_by session) new now later → EndsByExit start new → ExitsInTime bytes new
+    exits_in_time bytes last split small w ends =
+        let has_read = reading.serves.read short_now in
+        record {
+          earlier = reading.read;
+          last = last;
+          split = split;
+          short = small;
+          incomplete = incomplete reading.read (kept_by session) new w.more has_read.complete reading.serves.going.goes_on w.kept ends;
+        }
+
     pub ended_run : Consumes left after [] → IsAtEnd after → Writes (kept_by session) new now later → HasEnded limit reading.read new → IsAnswered limit first after held later new
     ended_run d at_end w e =
         record {
@@ -107,6 +147,7 @@ module _ {E : Type 0} (levels : E → List (List ℕ)) (table : E → List Node)
           taken = consumes_none d;
           transcript = e.transcript short_now;
           whole = inl at_end;
+          in_time = exits_in_time reading.read [] (sym (append-nil reading.read)) (omega arith) w;
           written = written_more (kept_by session) new held now later reading.written w;
         }
 
@@ -151,21 +192,12 @@ module _ {E : Type 0} (levels : E → List (List ℕ)) (table : E → List Node)
 
       pub fed_run : Writes (kept_by session) new now later → HasExited limit (reading.read ++ piece) new → IsAnswered limit first after held later new
       fed_run w e =
-          let has_read = reading.serves.read short_now in
           record {
             read = reading.read ++ piece;
             taken = consumes_more;
             transcript = e.transcript (is_short_more few piece small);
-            whole =
-                inr
-                (record {
-                  exits = e.ends;
-                  earlier = reading.read;
-                  last = piece;
-                  split = refl;
-                  short = small;
-                  incomplete = incomplete reading.read (kept_by session) new w.more has_read.complete reading.serves.going.goes_on w.kept e.ends;
-                });
+            whole = inr e.ends;
+            in_time = exits_in_time (reading.read ++ piece) piece refl small w;
             written = written_more (kept_by session) new held now later reading.written w;
           }
 

@@ -1,5 +1,5 @@
 -- How far a run has come.
-use Rattle.std.specs.Prelude.{ℕ, ◌≤◌, ◌*◌, List, length, Option}
+use Rattle.std.specs.Prelude.{◌≡◌, ℕ, ◌≤◌, ◌*◌, Bool, false, List, length, Option}
 use Rattle.std.specs.Io.KnownBytes.{Appends, Consumes}
 use Rattle.nz_spec.specs.terms.Table.{Node}
 use Rattle.nz_spec.specs.terms.Term.{Term}
@@ -17,3 +17,8 @@ pub record IsReading {E : Type 0} (levels : E → List (List ℕ)) (table : E �
   pub short : length read ≤ buffer_size * count
   pub serves : Serves levels table begins limit session read
   pub written : Appends held now (texts_of (kept_by session))
+
+-- The source hasn't ended, and whether it was read late is as it was first.
+pub record IsInTime (ended late first : Bool) : Type 0 where
+  pub unended : ended ≡ false
+  pub as_first : late ≡ first

@@ -7,4 +7,4 @@ mod words;
 
 pub use command_line::words_of;
 pub use program::{DONE, ERROR, Ended, MEMORY, READ_FAULT, READS, USAGE, WRITE_FAULT, run};
-pub use words::USAGE_LINE;
+pub use words::{USAGE_LINE, worked_words};

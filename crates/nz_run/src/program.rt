@@ -1,5 +1,5 @@
 //! The top call: all that the program does, from the words of its command line and its input to its output.
-ghost use Rattle.std.specs.Prelude.{◌≡◌, ◌==◌, ◌<◌, ◌+◌, ◌^◌, ◌⊎◌, ℕ, true, false, List, [], map, IfSome, IfNone, Option, string_bytes};
+ghost use Rattle.std.specs.Prelude.{◌≡◌, ◌==◌, ◌<◌, ◌+◌, ◌^◌, ◌⊎◌, ◌||◌, ℕ, Bool, true, false, List, [], map, IfSome, IfNone, Option, string_bytes};
 ghost use Rattle.std.specs.List.{list_any};
 ghost use Rattle.nz_spec.specs.outside.Outside.{counted};
 ghost use Rattle.nz_spec.specs.terms.Table.{Node};
@@ -8,7 +8,7 @@ ghost use Rattle.nz_reply.specs.Journals.{journal_of};
 ghost use Rattle.nz_reply.specs.Replies.{all_kept, kept_of};
 ghost use Rattle.nz_session.specs.Serve.{kept_by};
 ghost use Rattle.nz_run.specs.Ending.{Ends, EndsAs, ends_by_read, ends_by_write, is_cut, reads_fail, status_by, writes_fail};
-ghost use Rattle.nz_run.specs.Reading.{IsReading};
+ghost use Rattle.nz_run.specs.Reading.{IsInTime, IsReading};
 ghost use Rattle.nz_run.specs.Words.{AreTaken, AreUnits};
 
 use crate::words::{Refused, units_of};
@@ -82,6 +82,8 @@ fn read_once<E: Decide, S: Source, K: Sink>(
     ensures going { IfNone result ((limit : ℕ) (first : Option (List ℕ)) (held : Option (List ℕ)) (count : ℕ) → count < 2 ^ 32 → IsReading E.levels E.table E.begins limit session.old first (S.left input.old) held (K.held out.old) count → IsReading E.levels E.table E.begins limit session.new first (S.left input.new) held (K.held out.new) (count + 1)) }
     ensures ended { IfSome result (λ end. (limit : ℕ) (first : Option (List ℕ)) (held : Option (List ℕ)) (count : ℕ) → count < 2 ^ 32 → IsReading E.levels E.table E.begins limit session.old first (S.left input.old) held (K.held out.old) count → EndsAs end limit first (S.left input.new) held (K.held out.new) (kept_by session.new)) }
     ensures in_time { IfSome result (λ end. end ≡ End.Reads → ⊥) }
+    ensures late { S.read_late input.new ≡ (S.read_late input.old || S.has_ended input.old) }
+    ensures still { IfNone result ((first : Bool) → IsInTime (S.has_ended input.old) (S.read_late input.old) first → IsInTime (S.has_ended input.new) (S.read_late input.new) first) }
     ensures input_faults { S.faults input.new ≡ counted S.last (reads_fail result) (S.faults input.old) }
     ensures output_faults { K.faults out.new ≡ counted K.last (writes_fail result) (K.faults out.old) }
     ensures handed { writes_fail result ≡ false → K.handed out.old ≡ K.held out.old → K.handed out.new ≡ K.held out.new }
@@ -111,6 +113,8 @@ fn serve<E: Decide, S: Source, K: Sink>(session: &mut Session<E>, input: &mut S,
     requires start { (limit : ℕ) × IsReading E.levels E.table E.begins limit session.old (S.left input.old) (S.left input.old) (K.held out.old) (K.held out.old) 0 }
     ensures ended { (limit : ℕ) → IsReading E.levels E.table E.begins limit session.old (S.left input.old) (S.left input.old) (K.held out.old) (K.held out.old) 0 → EndsAs result limit (S.left input.old) (S.left input.new) (K.held out.old) (K.held out.new) (kept_by session.new) }
     ensures reads { result ≡ End.Reads → TookMany (S.left input.old) (S.left input.new) (2 ^ 32) }
+    ensures not_late { S.has_ended input.old ≡ false → S.read_late input.new ≡ S.read_late input.old }
+    ensures unended { result ≡ End.Reads → S.has_ended input.old ≡ false → S.has_ended input.new ≡ false }
     ensures input_faults { S.faults input.new ≡ counted S.last (ends_by_read result) (S.faults input.old) }
     ensures output_faults { K.faults out.new ≡ counted K.last (ends_by_write result) (K.faults out.old) }
     ensures handed { ends_by_write result ≡ false → K.handed out.old ≡ K.held out.old → K.handed out.new ≡ K.held out.new }
@@ -229,6 +233,10 @@ pub fn run<S: Source, K: Sink>(alloc: Global, words: &[String], input: &mut S, o
     ensures usage { result.status ≡ USAGE → AreTaken (map string_bytes words.now) → ⊥ }
     ensures taken { (result.status ≡ MEMORY → ⊥) → (result.status ≡ USAGE → ⊥) → AreTaken (map string_bytes words.now) }
     ensures reads { result.status ≡ READS → TookMany (S.left input.old) (S.left input.new) (2 ^ 32) }
+
+    // The input is never read after its end, which status 6 says that no read found.
+    ensures not_late { S.has_ended input.old ≡ false → S.read_late input.new ≡ S.read_late input.old }
+    ensures unended { result.status ≡ READS → S.has_ended input.old ≡ false → S.has_ended input.new ≡ false }
 
     // Words that aren't taken run nothing, whatever the status.
     ensures refused_words { (AreTaken (map string_bytes words.now) → ⊥) → HasNotBegun (S.left input.old) (S.left input.new) (K.held out.old) (K.held out.new) result.cut (journal_of result.terms result.journal) }

@@ -2,6 +2,7 @@
 ghost use Rattle.std.specs.Prelude.{◌≡◌, IfOk, OnOk, IsErrOf, map, string_bytes};
 ghost use Rattle.clap.specs.Words.{app_of, subcommand_rows_of};
 ghost use Rattle.nz_run.specs.Words.{AreTaken, AreUnits, AreUnitsBy, nuz_command, work_of};
+ghost use Rattle.nz_run.specs.WorkedWords.{HaveMeanings};
 
 use clap::error::ErrorKind;
 use clap::{Arg, ArgMatches, Command, value_parser};
@@ -61,3 +62,8 @@ fn units_in(matches: &ArgMatches<'_>) -> u32
         None => DEFAULT_UNITS,
     }
 }
+
+/// What short command lines mean, by the definitions alone.
+pub fn worked_words()
+    ensures meanings { HaveMeanings }
+{}

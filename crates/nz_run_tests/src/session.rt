@@ -10,7 +10,7 @@ use nz_log::{ClauseId, Step};
 use nz_reply::{Journal, Reply};
 use nz_search::{Decide, Note, Stop, Verdict};
 use nz_session::{Fed, Session};
-use nz_spec::work::more_terms_may_begin;
+use nz_spec::work::{more_terms_may_begin, plain_work_is_legal};
 use nz_term::{TermId, TermLit, Terms};
 use std::alloc::{AllocError, Global};
 use std::process::Abort;
@@ -60,6 +60,7 @@ impl Decide for OnceOnly {
     ) -> Result<Verdict, Stop> {
         if self.has_checked {
             more_terms_may_begin();
+            plain_work_is_legal();
             return Err(Stop::Memory);
         }
         self.has_checked = true;

@@ -9,7 +9,7 @@ use Rattle.nz_lists.proofs.Members.{has_found}
 use Rattle.nz_spec.specs.search.Work.{WorkLine, UnitLine, NoteLine}
 use Rattle.nz_log.specs.declared.atoms.Atom as log
 use Rattle.nz_search.specs.declared.note.Note.{Note}
-use Rattle.nz_search.specs.declared.note.Note.TheVariants.{Start, Atom, Bound, Form, Told}
+use Rattle.nz_search.specs.declared.note.Note.TheVariants.{Start, Atom, Bound, Form, Under, Told}
 use Rattle.nz_sat.specs.Numbers.{IsNumbered, noted_atoms, number_of, number_or}
 use Rattle.nz_sat.specs.Theories.{IsOfSearch}
 
@@ -98,6 +98,7 @@ none_named (NoteLine (Start start) ∷ lines) h = absurd h.0
 none_named (NoteLine (Atom t) ∷ lines) h = absurd h.0
 none_named (NoteLine (Bound b) ∷ lines) h = absurd h.0
 none_named (NoteLine (Form atom) ∷ lines) h = absurd h.0
+none_named (NoteLine (Under literals) ∷ lines) h = absurd h.0
 none_named (NoteLine (Told atom sign) ∷ lines) h = none_named lines h.1
 
 pub noted-append : (xs ys : List (WorkLine Note)) → noted_atoms (xs ++ ys) ≡ noted_atoms xs ++ noted_atoms ys
@@ -107,6 +108,7 @@ noted-append (NoteLine (Start start) ∷ xs) ys = noted-append xs ys
 noted-append (NoteLine (Atom t) ∷ xs) ys = ap (λ (us : List log.Atom). log.TheVariants.Term t ∷ us) (noted-append xs ys)
 noted-append (NoteLine (Bound b) ∷ xs) ys = ap (λ (us : List log.Atom). log.TheVariants.AtMost b ∷ us) (noted-append xs ys)
 noted-append (NoteLine (Form atom) ∷ xs) ys = noted-append xs ys
+noted-append (NoteLine (Under literals) ∷ xs) ys = noted-append xs ys
 noted-append (NoteLine (Told atom sign) ∷ xs) ys = noted-append xs ys
 
 -- an atom is found under its number

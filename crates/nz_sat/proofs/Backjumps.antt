@@ -9,7 +9,9 @@ use Rattle.std.proofs.lemmas.List.{append-nil, length-take, length_push, map-app
 use Rattle.std.proofs.lemmas.List.Elements.{All-contains, All-filter, All-push, All-weaker, Contains-append_left, Contains-push, filter-append}
 use Rattle.std.proofs.lemmas.List.Sums.{length-filter, sum_by_push}
 use Rattle.nz_lists.proofs.Members.{has_found}
-use Rattle.nz_spec.specs.search.Legal.{Search, ToldLiteral, after_line}
+use Rattle.nz_spec.specs.laws.LegalWork.{LegalWorkGoesOn}
+use Rattle.nz_spec.specs.search.Legal.{after_line}
+use Rattle.nz_spec.specs.search.Search.{Search, ToldLiteral}
 use Rattle.nz_spec.specs.clauses.Literal as spec
 use Rattle.nz_spec.specs.clauses.Literal.{NegationIsOther}
 use Rattle.nz_spec.specs.terms.Table.{Node}
@@ -28,20 +30,20 @@ use Rattle.nz_sat.specs.declared.trail.Assigned.{Assigned}
 use Rattle.nz_sat.specs.Clauses.{Adds, HasReasonOf, IsAssumed, IsImplied, IsListed, IsOpen, IsReasonOneOf, IsWithin, Waits, by_true, by_two}
 use Rattle.nz_sat.specs.Conflicts.{AreUnmarked, is_marked}
 use Rattle.nz_sat.specs.Numbers.{numbered}
-use Rattle.nz_sat.specs.Sats.{AreHeld, held_of}
-use Rattle.nz_sat.specs.Searching.{AreOpen, AreWaiting, Carries, IsSearch, KeepsFirst, Learns, WereOpen, after_learned, ids, learned_line}
+use Rattle.nz_sat.specs.Sats.{AreHeld, HoldsLearned, held_of, ids}
+use Rattle.nz_sat.specs.Searching.{AreOpen, AreWaiting, Carries, IsSearch, KeepsFirst, Learns, WereOpen, after_learned, learned_line}
 use Rattle.nz_sat.specs.Theories.{AreLast, EndsLegally, IsTrailOn, TellsTrail, TheoryState, bounds_on, is_bound_at, told_literal, told_lits, told_on}
 use Rattle.nz_sat.specs.Trails.{EachBehind, IsFalseOn, IsFreeOn, IsFrontOf, IsNext, IsTrail, IsTrueOn, TrailState, assigned, below, depth, implied, is_decision, literals_on}
 use Rattle.nz_sat.proofs.SearchSteps.{StaysAt, cut_stands, told_taken}
 use Rattle.nz_sat.proofs.Clausal.{free_missing, open_grows, truth_found, truth_missing}
-use Rattle.nz_sat.proofs.TrailGrowth.{held_live}
+use Rattle.nz_sat.proofs.TrailGrowth.{held_live, learned_grown}
 use Rattle.nz_sat.proofs.LearnedClauses.{all_from}
 use Rattle.nz_sat.proofs.Levels.{above_level, below_decided, below_depth, below_false, below_free, below_front, below_join, below_twice}
 use Rattle.nz_sat.proofs.SearchLines.{search_more}
 use Rattle.nz_sat.proofs.LearnedLines as learned_lines
-use Rattle.nz_sat.proofs.LearnedLines.{IsTaught, all, decisions_on, front_depth, learned_named, learned_within, line_legal, was_learned, was_told}
+use Rattle.nz_sat.proofs.LearnedLines.{IsTaught, all, decisions_on, front_depth, learned_named, line_learned, line_legal, was_learned, was_told}
 use Rattle.nz_sat.proofs.LogGrowth.{literals_stay, names_stay}
-use Rattle.nz_sat.proofs.ToldTrails.{entry_from, stands_so, told_among}
+use Rattle.nz_sat.proofs.ToldTrails.{entries_there, entry_from, stands_so, told_among, told_stay}
 use Rattle.nz_sat.proofs.AtomTrails.{cut_short, cut_told, last_push, literals_kept, names_some, reason_kept, trail_cut, trail_grown}
 use Rattle.nz_sat.proofs.TrailEntries.{assigned_one, each_front, each_push, each_weaker}
 
@@ -260,6 +262,10 @@ module _ (log log' : LogState) (held : List Held) (s : state.Search) (work : Wor
       let f : Assigned → ℕ × Bool = λ (e : Assigned). numbered s.atoms e.literal in
       let told = was_told log log' held s work falsified l h in
       let low : ToldLiteral → Bool = λ t. nat_le t.depth l.level in
+      let T : Assigned → Type 0 = λ e. IsSome (slice_get log.atoms e.literal.atom) in
+      let there : All T (bounds_on s.bounds.marks.items front) =
+      All-filter (λ (e : Assigned). is_marked s.bounds.marks.items e.literal.atom) T front
+      (All-filter (λ (e : Assigned). nat_le e.level l.level) T es (entries_there log s.atoms h.search.on.there es h.search.on.on_trail)) in
       record {
         named = λ ns.
             ap (λ (x : Search). x.atoms) (goes ns) ∙ told.named ns
@@ -267,21 +273,10 @@ module _ (log log' : LogState) (held : List Held) (s : state.Search) (work : Wor
         decided = λ ns.
             ap (λ (x : Search). x.decided) (goes ns) ∙ ap (take l.level) (told.decided ns) ∙ take-map f l.level (filter is_decision whole) ∙ ap (map f) (kept_decided ∙ sym after_decided);
         told = λ ns.
-            ap (λ (x : Search). x.told) (goes ns) ∙ ap (filter low) (told.told ns) ∙ filters_map (told_literal s.atoms) low (told_on h.noted.before.bounds whole)
-            ∙ ap (map (told_literal s.atoms)) (list_told ∙ sym (after_told b is));
+            ap (λ (x : Search). x.told) (goes ns) ∙ ap (filter low) (told.told ns) ∙ filters_map (told_literal ns log.atoms) low (told_on h.noted.before.bounds whole)
+            ∙ ap (map (told_literal ns log.atoms)) list_told ∙ sym (told_stay log.atoms log'.atoms h.grows.atoms ns (bounds_on s.bounds.marks.items front) there)
+            ∙ ap (map (told_literal ns log'.atoms)) (sym (after_told b is));
       }
-
-  after_clauses : (ns : List Node) → All (λ (c : List (ℕ × Bool)). (i : ℕ) × Contains (ids held') i × (map (numbered s.atoms) (literals_at log' i) ≡ c)) (search_after ns work').learned
-  after_clauses ns =
-      let c = map (numbered s.atoms) lits in
-      let Old : List (ℕ × Bool) → Type 0 = λ d. (i : ℕ) × Contains (ids held) i × (map (numbered s.atoms) (literals_at log i) ≡ d) in
-      let New : List (ℕ × Bool) → Type 0 = λ d. (i : ℕ) × Contains (ids held') i × (map (numbered s.atoms) (literals_at log' i) ≡ d) in
-      let more : (i : ℕ) → Contains (ids held ++ l.clause ∷ []) i → Contains (ids held') i = λ i has. subst (λ (is : List ℕ). Contains is i) (sym ids_more) has in
-      subst (All New) (sym (ap (λ (x : Search). x.learned) (goes ns)))
-      (All-push New (at ns).learned c
-      (All-weaker Old New
-      (λ d w. (w.0, more w.0 (Contains-append_left (ids held) (l.clause ∷ []) w.0 w.1), ap (map (numbered s.atoms)) (old_literals w.0 w.1) ∙ w.2)) (at ns).learned
-      (was_learned log log' held s work falsified l h ns)) (l.clause, more l.clause (Contains-push (ids held) l.clause), refl))
 
   one_unit : unit_count work'.lines ≡ suc (unit_count work.lines)
   one_unit =
@@ -371,9 +366,9 @@ module _ (log log' : LogState) (held : List Held) (s : state.Search) (work : Wor
           noted = record {
             trail = subst (λ (us : List ℕ). TellsTrail log' us s'.bounds s'.trail.entries work') (sym atoms)
                 (subst (λ (xs : List Assigned). TellsTrail log' s.atoms s'.bounds xs work') (sym entries) (after_tells s'.bounds bounds));
-            learned = λ ns.
-                subst (λ (us : List ℕ). All (λ (c : List (ℕ × Bool)). (i : ℕ) × Contains (ids held') i × (map (numbered us) (literals_at log' i) ≡ c)) (search_after ns work').learned)
-                (sym atoms) (after_clauses ns);
+            learned = subst (λ (us : List ℕ). HoldsLearned log' us held' work') (sym atoms)
+                (line_learned log log' held s work falsified l h held' refl
+                (learned_grown log log' s.atoms held h.grows h.search.are_held work (was_learned log log' held s work falsified l h)));
           };
           carries = after_carries;
           unit = one_unit;
@@ -381,9 +376,9 @@ module _ (log log' : LogState) (held : List Held) (s : state.Search) (work : Wor
         }
 
     -- the theory stands where the list leads
-    pub learned_ends : (m m' : TheoryState) → TellsLits → ClausesAreTrue → NegationIsOther → StaysAt m m' (told_lits s.bounds es) (told_lits s'.bounds s'.trail.entries) → (place : ℕ)
+    pub learned_ends : (m m' : TheoryState) → TellsLits → ClausesAreTrue → NegationIsOther → LegalWorkGoesOn → StaysAt m m' (told_lits s.bounds es) (told_lits s'.bounds s'.trail.entries) → (place : ℕ)
         → EndsLegally m m' log s.atoms (told_lits s.bounds es) es work work' (Ok place)
-    learned_ends m m' tells clauses other stays place ns levels assumed q known only asked st =
+    learned_ends m m' tells clauses other goes_on stays place ns levels assumed q known only asked st =
         let told' = told_lits s'.bounds s'.trail.entries in
         let b : Bounds = record s.bounds { told = min s.bounds.told (length front) } in
         let f = below_front s.trail.size es h.search.on.order l.level in
@@ -394,7 +389,6 @@ module _ (log log' : LogState) (held : List Held) (s : state.Search) (work : Wor
         let first : take (length told') (told_lits s.bounds es) ≡ told' =
         subst (λ (ls : List Lit). take (length ls) (told_lits s.bounds es) ≡ ls) (sym same) (told_taken s.bounds b es front f refl) in
         let cut = cut_stands m m' ns q log work (told_lits s.bounds es) told' stays first st in
-        let within = learned_within log log' held s work falsified l h tells clauses other ns levels assumed q only asked in
         let on : All (λ (e : Assigned). Contains s.atoms e.literal.atom) s'.trail.entries =
         subst (λ (us : List ℕ). All (λ (e : Assigned). Contains us e.literal.atom) s'.trail.entries) atoms after_search.on.on_trail in
         let there : All (λ (k : Lit). IsSome (slice_get log.atoms k.atom)) told' =
@@ -406,10 +400,10 @@ module _ (log log' : LogState) (held : List Held) (s : state.Search) (work : Wor
         let says : clause_in ns log.atoms told' ≡ clause_in ns log'.atoms told' = sym (literals_stay log.atoms log'.atoms h.grows.atoms ns told' there) in
         let tells' : TellsTrail log' s.atoms s'.bounds s'.trail.entries work' =
         subst (λ (xs : List Assigned). TellsTrail log' s.atoms s'.bounds xs work') (sym entries) (after_tells s'.bounds bounds) in
-        stands_so ns log' s.atoms s'.bounds s'.trail.entries work' tells' within on (m'.at ns) q
+        stands_so ns log' s.atoms s'.bounds s'.trail.entries work' tells' (m'.at ns) q
         (record {
           point = cut.point;
-          legal = line_legal log log' held s work falsified l h tells clauses other ns levels assumed q only asked cut.point cut.legal;
+          legal = line_legal log log' held s work falsified l h tells clauses other ns levels assumed q only asked goes_on cut.point cut.legal;
           at = subst (λ (r : Search). m'.at ns r.forms (clause_in ns log'.atoms told') cut.point) (sym (goes ns))
               (subst (λ (ls : List spec.Literal). m'.at ns (search_after ns work).forms ls cut.point) says cut.at);
         })

@@ -12,22 +12,24 @@ use Rattle.nz_lists.proofs.Elements.{AllByRecursion-map}
 use Rattle.nz_lists.proofs.Tests.{no_contradiction}
 use Rattle.nz_lists.proofs.Members.{has_first, has_found, has_more, has_cases, map_has}
 use Rattle.nz_spec.specs.search.Decide.{asserted_numbers, asserted_terms}
-use Rattle.nz_spec.specs.clauses.Gates.{holds}
-use Rattle.nz_spec.specs.search.Legal.{Task, literal_by, literals_by, signed_literal, AreNamed}
+use Rattle.nz_spec.specs.search.Search.{Task, literal_by, literals_by, never, signed_literal, AreNamed}
+use Rattle.nz_spec.specs.search.Work.{WorkList}
 use Rattle.nz_spec.specs.clauses.Literal.{Literal, AreTrueLiterals, IsClauseTrue, NegationIsOther, is_literal_true, AreSameSet, StandOnce}
 use Rattle.nz_spec.specs.terms.Model.{IsAssignment, IsModel}
 use Rattle.nz_spec.specs.terms.Table.{Node, IsTable, term_in}
-use Rattle.nz_spec.specs.terms.Term.{Assignment, IsTrueUnder, apply, falsum, no_terms}
+use Rattle.nz_spec.specs.terms.Term.{Assignment, IsTrueUnder}
 use Rattle.nz_log.specs.declared.lits.Lit.{Lit}
 use Rattle.nz_log.specs.declared.atoms.Atom.{Atom}
 use Rattle.nz_log.specs.Atoms.{TellsLits, clause_in, literal_in}
 use Rattle.nz_log.specs.Lits.{are_same_lit, negated_lit}
 use Rattle.nz_log.specs.Logs.{Entry, LogState, IsLive, entry_at, literals_at}
 use Rattle.nz_log.specs.Sound.{ClausesAreTrue, IsLog, live_terms}
+use Rattle.nz_search.specs.declared.note.Note.{Note}
+use Rattle.nz_search.specs.Standing.{search_after}
 use Rattle.nz_sat.specs.declared.consult.Bounds.{Bounds}
 use Rattle.nz_sat.specs.declared.trail.Assigned.{Assigned}
 use Rattle.nz_sat.specs.Clauses.{IsAssumed, IsFalsified, IsImplied, IsReason, IsReasonOf, IsOpen, by_true, by_two}
-use Rattle.nz_sat.specs.Numbers.{IsAtomAt, atom_literal, number_of, numbered}
+use Rattle.nz_sat.specs.Numbers.{atom_literal, number_of, numbered}
 use Rattle.nz_sat.specs.Sats.{IsAsked}
 use Rattle.nz_sat.specs.Theories.{IsTrailOn}
 use Rattle.nz_sat.specs.Trails.{EachBehind, IsFalseOn, TrailState, is_decision, IsFreeOn, IsNext, below, level_on, truth_on}
@@ -52,23 +54,22 @@ number_at atoms t has =
       | Some n ↦ λ at. number_place atoms t n at
     ] refl
 
-pub literal_numbered : (ns : List Node) (all : List Atom) (atoms : List ℕ) (l : Lit) → Contains atoms l.atom → IsAtomAt ns all l.atom
+pub literal_numbered : (ns : List Node) (all : List Atom) (atoms : List ℕ) (l : Lit) → Contains atoms l.atom
     → literal_by (map (atom_literal ns all) atoms) (numbered atoms l) ≡ literal_in ns all l
-literal_numbered ns all atoms l has t =
+literal_numbered ns all atoms l has =
     let n = unwrap_or (number_of atoms l.atom) 0 in
     let at = number_at atoms l.atom has in
     let inside : n < length atoms = slice_get_within atoms n l.atom at in
     ap (λ (x : Literal). signed_literal x l.sign)
-    (get_or-map (atom_literal ns all) atoms n l.atom (holds (apply falsum no_terms)) inside ∙ ap (atom_literal ns all) (get_or_from_slice_get atoms n l.atom l.atom at))
-    ∙ sym (says ns all l t)
+    (get_or-map (atom_literal ns all) atoms n l.atom never inside ∙ ap (atom_literal ns all) (get_or_from_slice_get atoms n l.atom l.atom at))
+    ∙ sym (says ns all l)
 
-pub literals_numbered : (ns : List Node) (all : List Atom) (atoms : List ℕ) → All (IsAtomAt ns all) atoms → (c : List Lit) → ((l : Lit) → Contains c l → Contains atoms l.atom)
+pub literals_numbered : (ns : List Node) (all : List Atom) (atoms : List ℕ) (c : List Lit) → ((l : Lit) → Contains c l → Contains atoms l.atom)
     → literals_by (map (atom_literal ns all) atoms) (map (numbered atoms) c) ≡ clause_in ns all c
-literals_numbered ns all atoms within [] named = refl
-literals_numbered ns all atoms within (l ∷ c) named =
-    let there = named l (has_first l c) in
-    let first = literal_numbered ns all atoms l there (All-contains (IsAtomAt ns all) atoms l.atom within there) in
-    let rest = literals_numbered ns all atoms within c (λ m has. named m (has_more l m c has)) in
+literals_numbered ns all atoms [] named = refl
+literals_numbered ns all atoms (l ∷ c) named =
+    let first = literal_numbered ns all atoms l (named l (has_first l c)) in
+    let rest = literals_numbered ns all atoms c (λ m has. named m (has_more l m c has)) in
     λ i. first i ∷ rest i
 
 -- ---- Lists
@@ -127,37 +128,32 @@ module _ (clauses : ClausesAreTrue) (other : NegationIsOther) (ns : List Node) (
       ] refl live
 
   -- a literal and its negation aren't both
-  both_hold : (l : Lit) → IsAtomAt ns log.atoms l.atom → Holds l → Holds (negated_lit l) → ⊥
-  both_hold l t h k =
+  both_hold : (l : Lit) → Holds l → Holds (negated_lit l) → ⊥
+  both_hold l h k =
       let P : Literal → Type 0 = λ m. IsTrue (is_literal_true a m) in
-      signs_clash other a (atom_literal ns log.atoms l.atom) l.sign (subst P (says ns log.atoms l t) h) (subst P (says ns log.atoms (negated_lit l) t) k)
+      signs_clash other a (atom_literal ns log.atoms l.atom) l.sign (subst P (says ns log.atoms l) h) (subst P (says ns log.atoms (negated_lit l)) k)
 
   -- what is false on a trail on which each literal holds doesn't hold
-  false_fails : (es : List Assigned) → ((e : Assigned) → Contains es e → IsAtomAt ns log.atoms e.literal.atom × Holds e.literal) → (l : Lit) → IsFalseOn es l → Holds l → ⊥
+  false_fails : (es : List Assigned) → ((e : Assigned) → Contains es e → Holds e.literal) → (l : Lit) → IsFalseOn es l → Holds l → ⊥
   false_fails es each l falsified h =
       let x = false_entry es l falsified in
       let place = assigned_place es l.atom x.0 x.1 in
       let turned : x.0.literal ≡ negated_lit l = lit_is x.0.literal (negated_lit l) place.0 x.2 in
-      let known = each x.0 (has_found es place.1.0 x.0 place.1.1) in
-      both_hold l (subst (IsAtomAt ns log.atoms) place.0 known.0) h (subst Holds turned known.1)
+      both_hold l h (subst Holds turned (each x.0 (has_found es place.1.0 x.0 place.1.1)))
 
   -- ---- The trail
 
-  module _ (tells : TellsLits) (atoms : List ℕ) (within : All (IsAtomAt ns log.atoms) atoms) (assumed : List Lit) (es : List Assigned) (implied : EachBehind (IsImplied log) es)
+  module _ (tells : TellsLits) (atoms : List ℕ) (assumed : List Lit) (es : List Assigned) (implied : EachBehind (IsImplied log) es)
       (on_trail : All (λ (e : Assigned). Contains atoms e.literal.atom) es) (only : All (IsAssumed assumed) es)
       (assumed_hold : AreTrueLiterals a (map (literal_in ns log.atoms) assumed))
       (decided_hold : AreTrueLiterals a (literals_by (map (atom_literal ns log.atoms) atoms) (map (λ (e : Assigned). numbered atoms e.literal) (filter is_decision es)))) where
-    term_at : (e : Assigned) → Contains es e → IsAtomAt ns log.atoms e.literal.atom
-    term_at e has =
-        All-contains (IsAtomAt ns log.atoms) atoms e.literal.atom within (All-contains (λ (x : Assigned). Contains atoms x.literal.atom) es e on_trail has)
-
     decision_holds : (e : Assigned) → Contains es e → is_decision e ≡ true → Holds e.literal
     decision_holds e has decides =
         let P : Literal → Type 0 = λ l. IsTrue (is_literal_true a l) in
         let f : Assigned → ℕ × Bool = λ (x : Assigned). numbered atoms x.literal in
         let each = AllByRecursion-map P (literal_by (map (atom_literal ns log.atoms) atoms)) (map f (filter is_decision es)) decided_hold in
         let one = recursion_has (λ p. P (literal_by (map (atom_literal ns log.atoms) atoms) p)) f (filter is_decision es) e each (filter_has is_decision es e has decides) in
-        subst P (literal_numbered ns log.atoms atoms e.literal (All-contains (λ (x : Assigned). Contains atoms x.literal.atom) es e on_trail has) (term_at e has)) one
+        subst P (literal_numbered ns log.atoms atoms e.literal (All-contains (λ (x : Assigned). Contains atoms x.literal.atom) es e on_trail has)) one
 
     given_holds : (e : Assigned) → Contains es e → e.reason ≡ None → Holds e.literal
     given_holds e has none =
@@ -172,7 +168,7 @@ module _ (clauses : ClausesAreTrue) (other : NegationIsOther) (ns : List Node) (
               decision_holds e has decides
         ] refl
 
-    reason_holds : (before : List Assigned) → ((e : Assigned) → Contains before e → IsAtomAt ns log.atoms e.literal.atom × Holds e.literal) → (l : Lit) (c : ℕ) → IsReason log before l c → Holds l
+    reason_holds : (before : List Assigned) → ((e : Assigned) → Contains before e → Holds e.literal) → (l : Lit) (c : ℕ) → IsReason log before l c → Holds l
     reason_holds before each l c reason =
         let w = some_true (is_literal_true a) (literal_in ns log.atoms) (literals_at log c) (clause_true c reason.live) in
         elim (are_same_lit w.0 l) as (λ b. are_same_lit w.0 l ≡ b → Holds l) [
@@ -180,7 +176,7 @@ module _ (clauses : ClausesAreTrue) (other : NegationIsOther) (ns : List Node) (
           | false ↦ λ differ. absurd (false_fails before each w.0 (reason.others w.0 w.1 (other_lit tells w.0 l differ)) w.2)
         ] refl
 
-    entry_holds : (i : ℕ) (e : Assigned) → slice_get es i ≡ Some e → ((x : Assigned) → Contains (take i es) x → IsAtomAt ns log.atoms x.literal.atom × Holds x.literal) → Holds e.literal
+    entry_holds : (i : ℕ) (e : Assigned) → slice_get es i ≡ Some e → ((x : Assigned) → Contains (take i es) x → Holds x.literal) → Holds e.literal
     entry_holds i e at each =
         elim e.reason as (λ o. e.reason ≡ o → IsReasonOf log (take i es) e.literal o → Holds e.literal) [
           | None ↦ λ none reason. given_holds e (has_found es i e at) none
@@ -192,7 +188,7 @@ module _ (clauses : ClausesAreTrue) (other : NegationIsOther) (ns : List Node) (
     front_holds (suc n) i less e at =
         entry_holds i e at (λ x has.
         let p = front_place es i x has in
-        (term_at x (has_found es p.0 x p.2), front_holds n p.0 (omega (arith, p.1)) x p.2))
+        front_holds n p.0 (omega (arith, p.1)) x p.2)
 
     pub trail_holds : (e : Assigned) → Contains es e → Holds e.literal
     trail_holds e has =
@@ -202,28 +198,29 @@ module _ (clauses : ClausesAreTrue) (other : NegationIsOther) (ns : List Node) (
     pub none_falsified : (i : ℕ) → IsLive log i → IsFalsified es (literals_at log i) → ⊥
     none_falsified i live falsified =
         let w = some_true (is_literal_true a) (literal_in ns log.atoms) (literals_at log i) (clause_true i live) in
-        false_fails es (λ e has. (term_at e has, trail_holds e has)) w.0 (falsified w.0 w.1) w.2
+        false_fails es trail_holds w.0 (falsified w.0 w.1) w.2
 
 -- ---- What follows from a task
 
--- Under an assignment that makes what a task asks true, and the decisions of a trail, its entries are true, and no clause of the log is falsified.
+-- Under an assignment that makes true what a task asks, what is assumed, and the decisions of a trail, its entries are true, and no clause of the log is
+-- falsified.
 module _ (tells : TellsLits) (clauses : ClausesAreTrue) (other : NegationIsOther) (ns : List Node) (levels : List (List ℕ)) (assumed : List Lit) (q : Task) (log : LogState)
-    (atoms : List ℕ) (asked : IsAsked ns levels log atoms assumed q) (b : Bounds) (t : TrailState) (h : IsTrailOn log atoms b t) (only : All (IsAssumed assumed) t.entries)
-    (a : Assignment) (model : IsModel q.asserted [] a) (assumed_hold : AreTrueLiterals a q.assumed)
+    (atoms : List ℕ) (work : WorkList Note) (asked : IsAsked ns levels log atoms assumed work q) (b : Bounds) (t : TrailState) (h : IsTrailOn log atoms b t)
+    (only : All (IsAssumed assumed) t.entries) (a : Assignment) (model : IsModel q.asserted (search_after ns work).under a)
     (decided_hold : AreTrueLiterals a (literals_by (map (atom_literal ns log.atoms) atoms) (map (λ (e : Assigned). numbered atoms e.literal) (filter is_decision t.entries)))) where
   hold : AllByRecursion (IsTrueUnder a) (asserted_terms ns levels)
   hold = subst (AllByRecursion (IsTrueUnder a)) asked.asserted model.asserted_hold
 
   assumed_true : AreTrueLiterals a (map (literal_in ns log.atoms) assumed)
-  assumed_true = subst (AreTrueLiterals a) asked.assumed_literals assumed_hold
+  assumed_true = subst (AreTrueLiterals a) asked.under model.assumed_hold
 
   pub task_entry : (e : Assigned) → Contains t.entries e → IsTrue (is_literal_true a (literal_in ns log.atoms e.literal))
   task_entry =
-      trail_holds clauses other ns asked.table levels log asked.order a model.sorts hold tells atoms asked.within assumed t.entries h.implied h.on_trail only assumed_true decided_hold
+      trail_holds clauses other ns asked.table levels log asked.order a model.sorts hold tells atoms assumed t.entries h.implied h.on_trail only assumed_true decided_hold
 
   pub task_falsified : (i : ℕ) → IsLive log i → IsFalsified t.entries (literals_at log i) → ⊥
   task_falsified =
-      none_falsified clauses other ns asked.table levels log asked.order a model.sorts hold tells atoms asked.within assumed t.entries h.implied h.on_trail only assumed_true decided_hold
+      none_falsified clauses other ns asked.table levels log asked.order a model.sorts hold tells atoms assumed t.entries h.implied h.on_trail only assumed_true decided_hold
 
 -- ---- A learned clause is none that was learned before, and names no atom twice
 

@@ -1,23 +1,25 @@
 -- What a search knows of a learned clause, and that its line may follow.
-use Rattle.std.proofs.Common.{◌≡◌, ℕ, ◌-◌, ◌<◌, ◌≤◌, ◌++◌, Bool, not, List, [], length, map, refl, sym, ap, subst, ◌∙◌, arith, inl, inr, Result, Err}
+use Rattle.std.proofs.Common.{◌≡◌, ℕ, ◌-◌, ◌<◌, ◌≤◌, ◌++◌, ◌∷◌, Bool, not, List, [], length, map, refl, sym, ap, subst, ◌∙◌, arith, inl, inr, Result, Err}
 use Rattle.std.specs.Prelude.{⊤, All, Contains, IsTrue, filter}
 use Rattle.std.specs.List.{AllByRecursion}
-use Rattle.std.proofs.lemmas.List.{length-append, length-map, map-append}
-use Rattle.std.proofs.lemmas.List.Elements.{All-contains, All-weaker, filter-append}
+use Rattle.std.proofs.lemmas.List.{length-append, length-map, map-append, map_push}
+use Rattle.std.proofs.lemmas.List.Elements.{All-contains, All-push, All-weaker, Contains-append_left, Contains-push, filter-append}
 use Rattle.std.proofs.lemmas.List.Sums.{length-filter}
 use Rattle.std.proofs.lemmas.Option.{same_Some}
 use Rattle.nz_lists.proofs.Members.{has_found}
 use Rattle.nz_spec.specs.simplex.Bland.{Point}
-use Rattle.nz_spec.specs.search.Legal.{IsDeadEnd, Lead, MayLearn, Search, Task, at_first, literal_by, literals_by, no_point}
+use Rattle.nz_spec.specs.laws.LegalWork.{LegalWorkGoesOn}
+use Rattle.nz_spec.specs.search.Legal.{IsDeadEnd, Lead, MayLearn}
+use Rattle.nz_spec.specs.search.Search.{Search, Task, at_first, literal_by, literals_by, no_point}
 use Rattle.nz_spec.specs.clauses.Literal.{AreSameSet, AreTrueLiterals, IsClauseTrue, Literal, NegationIsOther, is_literal_true}
 use Rattle.nz_spec.specs.terms.Model.{IsModel}
 use Rattle.nz_spec.specs.terms.Table.{Node}
 use Rattle.nz_spec.specs.terms.Term.{Assignment, IsTrueUnder}
-use Rattle.nz_spec.specs.search.Work.{WorkList, with_line}
+use Rattle.nz_spec.specs.search.Work.{LearnedEntry, WorkList, with_line}
 use Rattle.nz_log.specs.declared.lits.Lit.{Lit}
 use Rattle.nz_search.specs.declared.note.Note.{Note}
 use Rattle.nz_search.specs.declared.stop.Stop.{Stop}
-use Rattle.nz_search.specs.declared.stop.Stop.TheVariants.{Memory}
+use Rattle.nz_search.specs.declared.stop.Stop.TheVariants.{Memory, Spent}
 use Rattle.nz_log.specs.Atoms.{TellsLits}
 use Rattle.nz_log.specs.Logs.{LogState, literals_at}
 use Rattle.nz_search.specs.Notes.{noted_list}
@@ -30,18 +32,19 @@ use Rattle.nz_sat.specs.declared.trail.Assigned.{Assigned}
 use Rattle.nz_sat.specs.Clauses.{IsAssumed, IsFalsified, IsOpen, by_true, by_two}
 use Rattle.nz_log.specs.Growth.{Grows}
 use Rattle.nz_sat.specs.Conflicts.{HasTwoLast, IsLearned, IsLearnable, StaysSound}
-use Rattle.nz_sat.specs.Numbers.{IsAtomAt, atom_literal, numbered}
-use Rattle.nz_sat.specs.Sats.{AreOn, HoldsMore, IsAsked}
-use Rattle.nz_sat.specs.Searching.{Advances, IsConflict, IsSearch, StaysInOrder, WasNoted, WereOpen, ids, learned_line}
+use Rattle.nz_sat.specs.Numbers.{atom_literal, numbered}
+use Rattle.nz_sat.specs.Sats.{AreOn, HoldsLearned, HoldsMore, IsAsked, held_of, ids}
+use Rattle.nz_sat.specs.Searching.{Advances, IsConflict, IsSearch, StaysInOrder, WasNoted, WereOpen, learned_line}
 use Rattle.nz_sat.specs.Theories.{EndsLegally, Keeps, TellsTrail, TheoryState, told_lits}
 use Rattle.nz_sat.specs.Trails.{EachBehind, IsFreeOn, IsFrontOf, IsNext, below, depth, is_decision, level_on}
-use Rattle.nz_sat.proofs.LogGrowth.{atoms_stay, names_stay, on_kept, order_over}
+use Rattle.nz_sat.proofs.LogGrowth.{names_stay, on_kept, order_over}
 use Rattle.nz_sat.proofs.DeadEnds.{clause_true, literals_numbered, numbers_once, numbers_within, open_differs, recursion_left, task_falsified}
 use Rattle.nz_sat.proofs.LearnedClauses.{all_from}
 use Rattle.nz_sat.proofs.Levels.{below_front, below_true, free_high}
-use Rattle.nz_sat.proofs.SearchLines.{adds_line, line_lead}
+use Rattle.nz_sat.proofs.SearchLines.{adds_line, line_lead, search_more}
 use Rattle.nz_sat.proofs.Marks.{false_entry, level_found, not_itself}
 use Rattle.nz_sat.proofs.AtomTrails.{names_some}
+use Rattle.nz_sat.proofs.TrailGrowth.{learned_grown}
 use Rattle.nz_sat.proofs.TrailEntries.{assigned_place, level_within}
 
 -- A clause that is falsified, and was open when the last decision was taken, has two literals of the last level.
@@ -177,10 +180,8 @@ module _ (log log' : LogState) (held : List Held) (s : state.Search) (work : Wor
   pub was_told : TellsTrail log s.atoms h.noted.before.bounds all work
   was_told = subst (λ (us : List ℕ). TellsTrail log us h.noted.before.bounds all work) (sym h.noted.atoms) h.noted.noted.trail
 
-  pub was_learned : (ns : List Node) → All (λ (c : List (ℕ × Bool)). (i : ℕ) × Contains (ids held) i × (map (numbered s.atoms) (literals_at log i) ≡ c)) (search_after ns work).learned
-  was_learned ns =
-      subst (λ (us : List ℕ). All (λ (c : List (ℕ × Bool)). (i : ℕ) × Contains (ids held) i × (map (numbered us) (literals_at log i) ≡ c)) (search_after ns work).learned) (sym h.noted.atoms)
-      (h.noted.noted.learned ns)
+  pub was_learned : HoldsLearned log s.atoms held work
+  was_learned = subst (λ (us : List ℕ). HoldsLearned log us held work) (sym h.noted.atoms) h.noted.noted.learned
 
   -- it isn't the same as a clause that is held
   learned_new : TellsLits → (i : ℕ) → Contains (ids held) i → AreSameSet (map (numbered s.atoms) (literals_at log i)) (map (numbered s.atoms) lits) → ⊥
@@ -193,27 +194,24 @@ module _ (log log' : LogState) (held : List Held) (s : state.Search) (work : Wor
       (literals_at log i) (held_named s.atoms log (ids held) h.search.named i has) opened same
 
   module _ (tells : TellsLits) (clauses : ClausesAreTrue) (other : NegationIsOther) (ns : List Node) (levels : List (List ℕ)) (assumed : List Lit) (q : Task)
-      (only : All (IsAssumed assumed) es) (asked : IsAsked ns levels log s.atoms assumed q) where
+      (only : All (IsAssumed assumed) es) (asked : IsAsked ns levels log s.atoms assumed work q) where
     abbrev at : Search
     at = search_after ns work
 
     abbrev names : List Literal
     names = map (atom_literal ns log.atoms) s.atoms
 
-    pub learned_order : IsLog ns levels log'
+    learned_order : IsLog ns levels log'
     learned_order = stays (λ ns. ⊤) ns levels tt asked.within asked.order
-
-    pub learned_within : All (IsAtomAt ns log'.atoms) s.atoms
-    learned_within = atoms_stay log.atoms log'.atoms h.grows.atoms ns s.atoms asked.within
 
     names_same : names ≡ map (atom_literal ns log'.atoms) s.atoms
     names_same = sym (names_stay log.atoms log'.atoms h.grows.atoms ns s.atoms (names_some log s.atoms h.search.on.there))
 
     dead_end : IsDeadEnd q at
-    dead_end a model assumed_hold decided_hold =
-        let named' = subst (λ (ts : List Literal). AreTrueLiterals a (literals_by ts at.decided)) (was_told.named ns) decided_hold in
+    dead_end a may =
+        let named' = subst (λ (ts : List Literal). AreTrueLiterals a (literals_by ts at.decided)) (was_told.named ns) may.decided in
         let decided' = subst (λ (ps : List (ℕ × Bool)). AreTrueLiterals a (literals_by names ps)) (was_told.decided ns) named' in
-        task_falsified tells clauses other ns levels assumed q log s.atoms asked s.bounds s.trail h.search.on only a model assumed_hold
+        task_falsified tells clauses other ns levels assumed q log s.atoms work asked s.bounds s.trail h.search.on only a may.model
         (front_decided a names (λ (e : Assigned). numbered s.atoms e.literal) es all front decided') falsified h.conflict.live h.conflict.falsified
 
     follows : (a : Assignment) → IsModel q.asserted [] a → IsClauseTrue a (literals_by at.atoms (map (numbered s.atoms) lits))
@@ -222,9 +220,9 @@ module _ (log log' : LogState) (held : List Held) (s : state.Search) (work : Wor
         let holds = clause_true clauses other ns asked.table levels log' learned_order a model.sorts hold l.clause h.learned.live in
         subst (λ (ts : List Literal). IsClauseTrue a (literals_by ts (map (numbered s.atoms) lits))) (sym (was_told.named ns))
         (subst (IsClauseTrue a)
-        (sym (ap (λ (ts : List Literal). literals_by ts (map (numbered s.atoms) lits)) names_same ∙ literals_numbered ns log'.atoms s.atoms learned_within lits learned_named)) holds)
+        (sym (ap (λ (ts : List Literal). literals_by ts (map (numbered s.atoms) lits)) names_same ∙ literals_numbered ns log'.atoms s.atoms lits learned_named)) holds)
 
-    pub may_learn : MayLearn q at l.level (map (numbered s.atoms) lits)
+    may_learn : MayLearn q at l.level (map (numbered s.atoms) lits)
     may_learn =
         let long : length at.decided ≡ depth all =
         ap length (was_told.decided ns) ∙ length-map (filter is_decision all) (λ (e : Assigned). numbered s.atoms e.literal) ∙ length-filter is_decision all in
@@ -244,14 +242,29 @@ module _ (log log' : LogState) (held : List Held) (s : state.Search) (work : Wor
         }
 
     -- the list stays legal with its line, at the same point
-    pub line_legal : (x : Point) → Lead q at_first no_point (noted_list ns work).lines x → Lead q at_first no_point (noted_list ns (with_line work (learned_line s.atoms log' l))).lines x
-    line_legal x lead = line_lead ns q work (learned_line s.atoms log' l) x x lead (may_learn, refl)
+    pub line_legal : LegalWorkGoesOn → (x : Point) → Lead q at_first no_point (noted_list ns work).lines x
+        → Lead q at_first no_point (noted_list ns (with_line work (learned_line s.atoms log' l))).lines x
+    line_legal on x lead = line_lead on ns q work (learned_line s.atoms log' l) x x lead (may_learn, refl)
+
+  -- with its line, where it is held
+  pub line_learned : (held' : List Held) → held' ≡ held ++ held_of log' l.clause ∷ [] → HoldsLearned log' s.atoms held work
+      → HoldsLearned log' s.atoms held' (with_line work (learned_line s.atoms log' l))
+  line_learned held' all_held before ns =
+      let Old : List (ℕ × Bool) → Type 0 = λ d. (i : ℕ) × Contains (ids held) i × (map (numbered s.atoms) (literals_at log' i) ≡ d) in
+      let New : List (ℕ × Bool) → Type 0 = λ d. (i : ℕ) × Contains (ids held') i × (map (numbered s.atoms) (literals_at log' i) ≡ d) in
+      let more : ids held' ≡ ids held ++ l.clause ∷ [] = ap ids all_held ∙ map_push (λ (x : Held). x.id) held (held_of log' l.clause) in
+      let has : (i : ℕ) → Contains (ids held ++ l.clause ∷ []) i → Contains (ids held') i = λ i there. subst (λ (us : List ℕ). Contains us i) (sym more) there in
+      subst (λ (r : Search). All New r.learned) (sym (search_more ns work (learned_line s.atoms log' l ∷ [])))
+      (All-push New (search_after ns work).learned (map (numbered s.atoms) lits)
+      (All-weaker Old New (λ d w. (w.0, has w.0 (Contains-append_left (ids held) (l.clause ∷ []) w.0 w.1), w.2)) (search_after ns work).learned (before ns))
+      (l.clause, has l.clause (Contains-push (ids held) l.clause), refl))
 
   -- a step that adds it
-  pub line_advances : {A : Type 0} → (m m' : TheoryState) → Keeps m m' → (held' : List Held) → HoldsMore log' held held' → (AreOn log' s.atoms held → AreOn log' s.atoms held')
+  pub line_advances : {A : Type 0} → (m m' : TheoryState) → Keeps m m' → (held' : List Held) → HoldsMore log' held held' → held' ≡ held ++ held_of log' l.clause ∷ []
+      → (AreOn log' s.atoms held → AreOn log' s.atoms held')
       → (work' : WorkList Note) → work' ≡ with_line work (learned_line s.atoms log' l) → (result : Result A Stop)
       → EndsLegally m m' log s.atoms (told_lits s.bounds es) es work (with_line work (learned_line s.atoms log' l)) result → Advances m m' s es log log' held held' work work' result
-  line_advances m m' keeps held' more on work' is result ends =
+  line_advances m m' keeps held' more all_held on work' is result ends =
       subst (λ (w : WorkList Note). Advances m m' s es log log' held held' work w result) (sym is)
       (record {
         keeps = keeps;
@@ -259,12 +272,25 @@ module _ (log log' : LogState) (held : List Held) (s : state.Search) (work : Wor
         sound = stays m.over;
         holds_more = more;
         named = λ named. on (on_kept log log' s.atoms held h.grows h.search.are_held named);
+        learned = λ before. line_learned held' all_held (learned_grown log log' s.atoms held h.grows h.search.are_held work before);
         adds = adds_line work (learned_line s.atoms log' l) tt;
         ends = ends;
       })
 
-  -- where it can't be held
-  pub line_memory : (A : Type 0) → TellsLits → ClausesAreTrue → NegationIsOther → (m m' : TheoryState)
+  -- where it wants one unit more
+  pub line_wanting : (A : Type 0) → TellsLits → ClausesAreTrue → NegationIsOther → (m m' : TheoryState)
+      → EndsLegally {A = A} m m' log s.atoms (told_lits s.bounds es) es work work (Err Spent)
+  line_wanting A tells clauses other m m' ns levels assumed q known only asked st =
+      record {
+        point = st.point;
+        legal = st.legal;
+        wanted = LearnedEntry l.level (map (numbered s.atoms) lits);
+        after = st.point;
+        may = (may_learn tells clauses other ns levels assumed q only asked, refl);
+      }
+
+  -- where it isn't put into the index
+  pub line_memory : (A : Type 0) → TellsLits → ClausesAreTrue → NegationIsOther → LegalWorkGoesOn → (m m' : TheoryState)
       → EndsLegally {A = A} m m' log s.atoms (told_lits s.bounds es) es work (with_line work (learned_line s.atoms log' l)) (Err Memory)
-  line_memory A tells clauses other m m' ns levels assumed q known only asked st =
-      (st.point, line_legal tells clauses other ns levels assumed q only asked st.point st.legal)
+  line_memory A tells clauses other goes_on m m' ns levels assumed q known only asked st =
+      (st.point, line_legal tells clauses other ns levels assumed q only asked goes_on st.point st.legal)

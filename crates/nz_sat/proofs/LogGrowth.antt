@@ -1,13 +1,16 @@
 -- Logs that grow, and what they keep of a search.
 use Rattle.std.proofs.Common.{ℕ, List, [], get_or, Option, Some, None, refl, sym, ap, subst, ◌∙◌, All, Contains, IsSome, slice_get, ◌≡◌, Bool, true, false, ◌∷◌, map}
 use Rattle.std.proofs.lemmas.List.Elements.{All-contains, All-weaker, All-head, All-tail}
-use Rattle.nz_spec.specs.search.Legal.{Task, signed_literal}
+use Rattle.nz_spec.specs.search.Search.{Task, signed_literal}
+use Rattle.nz_spec.specs.search.Work.{WorkList}
 use Rattle.nz_spec.specs.terms.Table.{Node, term_in}
 use Rattle.nz_log.specs.declared.lits.Lit.{Lit}
 use Rattle.nz_log.specs.Atoms.{IsLitIn, Stay, atom_in, literal_in, with_sign}
 use Rattle.nz_log.specs.Logs.{Entry, LogState}
 use Rattle.nz_log.specs.Sound.{IsLog}
 use Rattle.nz_log.specs.Growth.{Grows}
+use Rattle.nz_search.specs.declared.note.Note.{Note}
+use Rattle.nz_search.specs.Standing.{search_after}
 use Rattle.nz_sat.specs.declared.clauses.Held.{Held}
 use Rattle.nz_sat.specs.declared.trail.Assigned.{Assigned}
 use Rattle.nz_sat.specs.Numbers.{IsAtomAt, atom_literal}
@@ -25,14 +28,14 @@ use Rattle.nz_log.specs.declared.atoms.Atom as log
 abbrev pub said : List Node → Bool → Option log.Atom → Literal
 said ns sign o = elim o [ None ↦ term_literal (term_in ns 0) sign | Some a ↦ with_sign sign (atom_in ns a) ]
 
-signed : (x : Literal) (sign : Bool) → with_sign sign x ≡ signed_literal x sign
-signed x true = refl
-signed x false = refl
-
 -- a literal says its atom, or the negation of that
-pub says : (ns : List Node) (all : List log.Atom) (l : Lit) → IsAtomAt ns all l.atom → literal_in ns all l ≡ signed_literal (atom_literal ns all l.atom) l.sign
-says ns all l t =
-    ap (said ns l.sign) t.at ∙ signed (atom_in ns t.atom) l.sign ∙ ap (λ (x : Literal). signed_literal x l.sign) (sym (ap (said ns true) t.at))
+pub says : (ns : List Node) (all : List log.Atom) (l : Lit) → literal_in ns all l ≡ signed_literal (atom_literal ns all l.atom) l.sign
+says ns all l = signed (slice_get all l.atom) l.sign where
+  signed : (o : Option log.Atom) (sign : Bool) → said ns sign o ≡ signed_literal (said ns true o) sign
+  signed None true = refl
+  signed None false = refl
+  signed (Some a) true = refl
+  signed (Some a) false = refl
 
 pub lit_within : (ns : List Node) (all : List log.Atom) (l : Lit) → IsAtomAt ns all l.atom → IsLitIn ns all l
 lit_within ns all l t = record { atom = t.atom; at = t.at; within = t.within }
@@ -114,17 +117,17 @@ on_kept a b atoms held g h named k d inside =
     subst (All (λ (l : Lit). Contains atoms l.atom)) (sym (ap (λ (o : Option Entry). elim o [ None ↦ [] | Some e ↦ e.literals ]) (g.kept (get_or held k d).id (h k d inside).0)))
     (named k d inside)
 
--- the task is asked of the log that grew, where that is in order
-pub asked_on : (a b : LogState) (atoms : List ℕ) → Grows a b → {ns : List Node} → {levels : List (List ℕ)} → {assumed : List Lit} → {q : Task} → IsLog ns levels b
-    → IsAsked ns levels a atoms assumed q → IsAsked ns levels b atoms assumed q
-asked_on a b atoms g {ns} {levels} {assumed} {q} order asked =
+-- the task is asked of the log that grew, where that is in order, and by a list that goes on under the same literals
+pub asked_on : (a b : LogState) (atoms : List ℕ) → Grows a b → {ns : List Node} → {levels : List (List ℕ)} → {assumed : List Lit} → {work work' : WorkList Note} → {q : Task}
+    → IsLog ns levels b → (search_after ns work').under ≡ (search_after ns work).under → IsAsked ns levels a atoms assumed work q → IsAsked ns levels b atoms assumed work' q
+asked_on a b atoms g {ns} {levels} {assumed} order under asked =
     record {
       table = asked.table;
       within = atoms_stay a.atoms b.atoms g.atoms ns atoms asked.within;
       named = asked.named;
       order = order;
       asserted = asked.asserted;
-      assumed_literals = asked.assumed_literals
+      under = under ∙ asked.under
           ∙ sym (literals_stay a.atoms b.atoms g.atoms ns assumed
           (All-weaker (λ (l : Lit). Contains atoms l.atom) (λ (l : Lit). IsSome (slice_get a.atoms l.atom))
           (λ l has. atom_some ns a.atoms l.atom (All-contains (IsAtomAt ns a.atoms) atoms l.atom asked.within has)) assumed asked.named));

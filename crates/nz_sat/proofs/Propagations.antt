@@ -40,7 +40,7 @@ goes_tells log atoms b es es' work inside g h =
     record {
       named = h.named;
       decided = λ ns. h.decided ns ∙ ap (map (λ (e : Assigned). numbered atoms e.literal)) (sym (goes_decisions es es' g));
-      told = λ ns. h.told ns ∙ ap (map (told_literal atoms)) (sym (goes_told b es es' inside g));
+      told = λ ns. h.told ns ∙ ap (map (told_literal ns log.atoms)) (sym (goes_told b es es' inside g));
     }
 
 pub goes_first : (es es' : List Assigned) → GoesOn es es' → KeepsFirst es es'

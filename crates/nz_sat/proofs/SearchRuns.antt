@@ -1,5 +1,5 @@
 -- A search from its start to its end: what is assumed, and one turn of decision and conflicts.
-use Rattle.std.proofs.Common.{◌≡◌, ℕ, ◌+◌, ◌<◌, if◌then◌else◌, List, [], ◌∷◌, length, take, map, get_or, inl, Option, None, refl, sym, ap, subst, ◌∙◌, arith, Result, Ok, ◌≢◌, ◌≤◌, Bool, true, ◌++◌, Some, inr}
+use Rattle.std.proofs.Common.{◌≡◌, ℕ, ◌+◌, ◌<◌, if◌then◌else◌, List, [], ◌∷◌, length, take, map, get_or, inl, Option, None, refl, sym, ap, subst, ◌∙◌, arith, Result, Ok, Err, ◌≢◌, ◌≤◌, Bool, true, ◌++◌, Some, inr}
 use Rattle.std.specs.Prelude.{All, Contains, IfOk, IfSome, filter, unwrap_or, nat_lt, slice_get}
 use Rattle.std.proofs.lemmas.List.{get_or-map, length-map, length_push, take-append-le, append-nil, map_push}
 use Rattle.std.proofs.lemmas.List.Elements.{All-contains, All-cons, All-filter, All-map, All-nil, All-push, filter-append}
@@ -10,16 +10,17 @@ use Rattle.nz_spec.specs.search.Work.{DecisionEntry, UnitLine, WorkLine, WorkLis
 use Rattle.nz_log.specs.declared.lits.Lit.{Lit}
 use Rattle.nz_search.specs.declared.note.Note.{Note}
 use Rattle.nz_search.specs.declared.stop.Stop.{Stop}
+use Rattle.nz_search.specs.declared.stop.Stop.TheVariants.{Spent}
 use Rattle.nz_log.specs.Logs.{LogState, IsLive, literals_at}
 use Rattle.nz_log.specs.Growth.{Grows}
 use Rattle.nz_sat.specs.declared.clauses.Held.{Held}
 use Rattle.nz_sat.specs.declared.search.Search.{Search}
-use Rattle.nz_sat.specs.Sats.{AreOn}
+use Rattle.nz_sat.specs.Sats.{AreOn, HoldsLearned, ids}
 use Rattle.nz_sat.specs.declared.trail.Assigned.{Assigned}
 use Rattle.nz_sat.specs.Clauses.{IsAssumed, HasReasonOf}
 use Rattle.nz_sat.specs.Numbers.{number_of, numbered, atom_literal}
 use Rattle.nz_sat.specs.Conflicts.{Refutes, StaysSound}
-use Rattle.nz_sat.specs.Searching.{Advances, AreOpen, AreWaiting, AssumesAll, Carries, Decides, IsNoted, IsSearch, Runs, Settles, SettlesOn, StaysInOrder, Steps, WereOpen, assumed_entries, KeepsFirst, ids}
+use Rattle.nz_sat.specs.Searching.{Advances, AreOpen, AreWaiting, AssumesAll, Carries, Decides, IsNoted, IsSearch, Runs, Settles, SettlesOn, StaysInOrder, Steps, WereOpen, assumed_entries, KeepsFirst}
 use Rattle.nz_sat.specs.Theories.{EndsLegally, TheoryState, bounds_on, told_literal, told_lits, told_on}
 use Rattle.nz_sat.specs.Trails.{AreUpTo, EachBehind, IsNext, IsTrueOn, TrailState, assigned, below, decided, depth, is_decision, literals_on, with_entry}
 use Rattle.nz_sat.proofs.SearchSteps.{Reaches, log_reaches, reaches_step, reaches_then, steps_behind}
@@ -30,8 +31,9 @@ use Rattle.nz_sat.proofs.ToldTrails.{stands_so, keeps_none}
 use Rattle.nz_sat.proofs.TrailEntries.{level_within, assigned_at}
 use Rattle.std.proofs.lemmas.Bool.{cases_lt}
 use Rattle.std.proofs.lemmas.Bool.Decides.{Decides-ltb}
+use Rattle.nz_spec.specs.laws.LegalWork.{LegalWorkGoesOn}
 use Rattle.nz_spec.specs.search.Legal.{MayDecide}
-use Rattle.nz_spec.specs.search.Legal as legal
+use Rattle.nz_spec.specs.search.Search as legal
 use Rattle.nz_spec.specs.terms.Table.{Node}
 use Rattle.nz_log.specs.Atoms.{clause_in}
 use Rattle.nz_search.specs.Standing.{search_after}
@@ -116,6 +118,11 @@ module _ (log : LogState) (held : List Held) (s : Search) (h : IsSearch log held
       filter-append is_decision s.trail.entries (entry ∷ [])
       ∙ ap (λ (b : Bool). filter is_decision s.trail.entries ++ (if b then entry ∷ [] else [])) above_zero
 
+  decided_learned : (work : WorkList Note) → HoldsLearned log s.atoms held work → HoldsLearned log s.atoms held (with_line work line)
+  decided_learned work learned ns =
+      subst (λ (r : legal.Search). All (λ (c : List (ℕ × Bool)). (i : ℕ) × Contains (ids held) i × (map (numbered s.atoms) (literals_at log i) ≡ c)) r.learned)
+      (sym (search_more ns work (line ∷ []))) (learned ns)
+
   pub decided_noted : (work : WorkList Note) → IsNoted log held s work → IsNoted log held (record s { trail = with_entry s.trail entry }) (with_line work line)
   decided_noted work n =
       let f : Assigned → ℕ × Bool = λ e. numbered s.atoms e.literal in
@@ -128,11 +135,9 @@ module _ (log : LogState) (held : List Held) (s : Search) (h : IsSearch log held
               ∙ sym (ap (map f) more_decisions ∙ map_push f (filter is_decision s.trail.entries) entry);
           told = λ ns.
               ap (λ (r : legal.Search). r.told) (search_more ns work (line ∷ [])) ∙ n.trail.told ns
-              ∙ ap (λ (xs : List Assigned). map (told_literal s.atoms) (bounds_on s.bounds.marks.items xs)) (sym (take-append-le s.bounds.told s.trail.entries (entry ∷ []) inside));
+              ∙ ap (λ (xs : List Assigned). map (told_literal ns log.atoms) (bounds_on s.bounds.marks.items xs)) (sym (take-append-le s.bounds.told s.trail.entries (entry ∷ []) inside));
         };
-        learned = λ ns.
-            subst (λ (r : legal.Search). All (λ (c : List (ℕ × Bool)). (i : ℕ) × Contains (ids held) i × (map (numbered s.atoms) (literals_at log i) ≡ c)) r.learned)
-            (sym (search_more ns work (line ∷ []))) (n.learned ns);
+        learned = decided_learned work n.learned;
       }
 
   -- the number of an atom on the trail is another one
@@ -170,9 +175,9 @@ module _ (log : LogState) (held : List Held) (s : Search) (h : IsSearch log held
   -- ---- The step
 
   -- the point stays, and what the theory was told
-  pub decided_reaches : (m : TheoryState) (work : WorkList Note) → IsNoted log held s work
+  pub decided_reaches : LegalWorkGoesOn → (m : TheoryState) (work : WorkList Note) → IsNoted log held s work
       → Reaches m m s s.trail.entries (record s { trail = with_entry s.trail entry }) log log held held work (with_line work line)
-  decided_reaches m work n =
+  decided_reaches goes_on m work n =
       let inside : s.bounds.told ≤ length s.trail.entries = h.on.inside in
       let same : told_lits s.bounds s.trail.entries ≡ told_lits s.bounds after =
       ap (λ (xs : List Assigned). literals_on (bounds_on s.bounds.marks.items xs)) (sym (take-append-le s.bounds.told s.trail.entries (entry ∷ []) inside)) in
@@ -182,15 +187,22 @@ module _ (log : LogState) (held : List Held) (s : Search) (h : IsSearch log held
         sound = λ ns levels known within order. order;
         holds_more = record { learned = []; joined = sym (append-nil held); held = h.are_held };
         named = λ on. on;
+        learned = decided_learned work;
         adds = adds_line work line tt;
         stands = λ ns levels assumed q known only asked st.
             record {
               point = st.point;
-              legal = line_lead ns q work line st.point st.point st.legal (decided_may ns work n, refl);
+              legal = line_lead goes_on ns q work line st.point st.point st.legal (decided_may ns work n, refl);
               at = subst (λ (r : legal.Search). m.at ns r.forms (clause_in ns log.atoms (told_lits s.bounds after)) st.point) (sym (search_more ns work (line ∷ [])))
                   (subst (λ (ls : List Lit). m.at ns (search_after ns work).forms (clause_in ns log.atoms ls) st.point) same st.at);
             };
       }
+
+  -- where it wants one unit more
+  pub decided_wanting : (A : Type 0) (m m' : TheoryState) (work : WorkList Note) → IsNoted log held s work
+      → EndsLegally {A = A} m m' log s.atoms (told_lits s.bounds s.trail.entries) s.trail.entries work work (Err Spent)
+  decided_wanting A m m' work n ns levels assumed q known only asked st =
+      record { point = st.point; legal = st.legal; wanted = DecisionEntry number sign; after = st.point; may = (decided_may ns work n, refl) }
 
   -- what is decided isn't assumed
   pub decided_assumed : (assumed : List Lit) → All (IsAssumed assumed) s.trail.entries → All (IsAssumed assumed) after
@@ -245,11 +257,11 @@ pub record HasDecided (theory : TheoryState) (log : LogState) (held : List Held)
   pub more : length mid.trail.entries ≡ length s.trail.entries + 1
   pub units : unit_count work'.lines ≡ unit_count work.lines + 1
 
-pub has_decided : (m : TheoryState) → {s mid : Search} → {log : LogState} → {held : List Held} → {work work' : WorkList Note} → (t : ℕ)
+pub has_decided : LegalWorkGoesOn → (m : TheoryState) → {s mid : Search} → {log : LogState} → {held : List Held} → {work work' : WorkList Note} → (t : ℕ)
     → IsSearch log held s → AreOpen log held s.trail.entries → WereOpen log held s.trail.entries → IsNoted log held s work
     → assigned s.trail.entries t ≡ None → Contains s.atoms t → s.bounds.told ≡ length s.trail.entries → mid ≡ record s { trail = mid.trail } → Decides s mid t work work'
     → HasDecided m log held s mid work work'
-has_decided m {s} {mid} {log} {held} {work} {work'} t h all_open were_open is_noted free atom whole rest d =
+has_decided goes_on m {s} {mid} {log} {held} {work} {work'} t h all_open were_open is_noted free atom whole rest d =
     let e = decided s.trail.entries (record { atom = t; sign = d.sign }) in
     let trail : TrailState = with_entry s.trail e in
     let made : Search = record s { trail = trail } in
@@ -268,7 +280,7 @@ has_decided m {s} {mid} {log} {held} {work} {work'} t h all_open were_open is_no
         assumed_only = decided_assumed log held s h t d.sign free atom whole;
         units = omega (arith, units);
       };
-      reaches = decided_reaches log held s h t d.sign free atom whole m work is_noted;
+      reaches = decided_reaches log held s h t d.sign free atom whole goes_on m work is_noted;
       told = ap (λ (xs : List Assigned). literals_on (bounds_on s.bounds.marks.items xs)) (take-append-le s.bounds.told s.trail.entries (e ∷ []) h.on.inside);
       more = length_push s.trail.entries e;
       units = units;
@@ -331,7 +343,7 @@ module _ (start : Search) (none : start.trail.entries ≡ []) (log : LogState) (
               t.decided ns
               ∙ ap (λ (xs : List Assigned). map (λ (e : Assigned). numbered start.atoms e.literal) (filter is_decision xs)) none
               ∙ ap (map (λ (e : Assigned). numbered start.atoms e.literal)) (sym (no_decisions es a.undecided));
-          told = λ ns. t.told ns ∙ ap (map (told_literal start.atoms)) (first_told start.trail.entries ∙ sym (first_told es));
+          told = λ ns. t.told ns ∙ ap (map (told_literal ns log.atoms)) (first_told start.trail.entries ∙ sym (first_told es));
         };
         learned = noted.learned;
       })
@@ -355,6 +367,7 @@ module _ (start : Search) (none : start.trail.entries ≡ []) (log : LogState) (
         sound = subst (λ (us : List ℕ). StaysInOrder m.over us log log') atoms step.sound;
         holds_more = step.holds_more;
         named = subst (λ (us : List ℕ). AreOn log us held → AreOn log' us held') atoms step.named;
+        learned = subst (λ (us : List ℕ). HoldsLearned log us held work → HoldsLearned log' us held' work') atoms step.learned;
         adds = step.adds;
         ends = λ ns levels all q known only. ends ns levels all q known (assumed_wider assumed all only mid.trail.entries a.assumed_only);
       }
@@ -374,7 +387,7 @@ module _ (start : Search) (none : start.trail.entries ≡ []) (log : LogState) (
   pub first_stands : (m : TheoryState) (work : WorkList Note) → IsNoted log held start work → (es : List Assigned) → (A : Type 0) (x : A)
       → EndsLegally {A = A} m m log start.atoms (told_lits start.bounds start.trail.entries) es work work (Ok x)
   first_stands m work noted es A x ns levels assumed q known only asked st =
-      stands_so ns log start.atoms start.bounds start.trail.entries work noted.trail asked.within h.on.on_trail (m.at ns) q st
+      stands_so ns log start.atoms start.bounds start.trail.entries work noted.trail (m.at ns) q st
 
 pub first_were : {mid : Search} → {log : LogState} → {held : List Held} → {assumed : List Lit} → {o : Option ℕ} → AssumesAll log held assumed mid o → WereOpen log held mid.trail.entries
 first_were a k less = let none = a.undecided in absurd (omega (arith, less, none))
@@ -428,7 +441,7 @@ pub run_advances : {A B : Type 0} → {m m₁ m₂ : TheoryState} → {assumed :
     → Runs log' held' assumed start s work' → Advances m₁ m₂ s s.trail.entries log' log'' held' held'' work' work'' result
     → Advances m m₂ start (assumed_entries assumed) log log'' held held'' work work'' result
 run_advances {assumed = assumed} {s = s} before h step =
-    reaches_then (reaches_step before h.search h.same h.noted.trail) h.same (λ all only. assumed_wider assumed all only s.trail.entries h.assumed_only) step
+    reaches_then (reaches_step before h.noted.trail) h.same (λ all only. assumed_wider assumed all only s.trail.entries h.assumed_only) step
 
 pub run_steps : {A : Type 0} → {m m₁ m₂ : TheoryState} → {assumed : List Lit} → {start s new : Search} → {log log' log'' : LogState} → {held held' held'' : List Held}
     → {work work' work'' : WorkList Note} → {x : A} → {answer : Result (Option ℕ) Stop} → Advances m m₁ start (assumed_entries assumed) log log' held held' work work' (Ok x)

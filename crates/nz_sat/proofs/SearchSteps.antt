@@ -6,7 +6,8 @@ use Rattle.std.proofs.lemmas.List.{append-nil, length-map, map-append, take-appe
 use Rattle.std.proofs.lemmas.List.Elements.{filter-append}
 use Rattle.nz_spec.specs.simplex.Bland.{Point}
 use Rattle.nz_spec.specs.terms.Form.{Part}
-use Rattle.nz_spec.specs.search.Legal.{AreLegal, Task}
+use Rattle.nz_spec.specs.search.Legal.{Lead}
+use Rattle.nz_spec.specs.search.Search.{Task, at_first, no_point}
 use Rattle.nz_spec.specs.clauses.Literal as spec
 use Rattle.nz_spec.specs.terms.Table.{Node}
 use Rattle.nz_spec.specs.search.Work.{WorkList}
@@ -27,28 +28,26 @@ use Rattle.nz_sat.specs.declared.trail.Assigned.{Assigned}
 use Rattle.nz_sat.specs.Clauses.{IsAssumed}
 use Rattle.nz_sat.specs.Conflicts.{is_marked}
 use Rattle.nz_sat.specs.Numbers.{IsAtomAt}
-use Rattle.nz_sat.specs.Sats.{AreHeld, AreOn, HoldsMore, IsAsked}
-use Rattle.nz_sat.specs.Searching.{Advances, IsSearch, StaysInOrder, Steps}
+use Rattle.nz_sat.specs.Sats.{AreHeld, AreOn, HoldsLearned, HoldsMore, IsAsked}
+use Rattle.nz_sat.specs.Searching.{Advances, StaysInOrder, Steps}
 use Rattle.nz_sat.specs.Theories.{AddsLines, EndsLegally, IsOfSearch, Keeps, StandsAt, TellsTrail, TheoryState, told_lits, told_on}
 use Rattle.nz_sat.specs.Trails.{IsFrontOf}
 use Rattle.nz_sat.proofs.LogGrowth.{asked_on, atoms_stay, grows_far, held_on, on_kept}
-use Rattle.nz_sat.proofs.SearchLines.{adds_far, adds_none}
+use Rattle.nz_sat.proofs.SearchLines.{adds_far, adds_none, adds_same}
 use Rattle.nz_sat.proofs.ToldTrails.{keeps_far, keeps_none, stands_by}
+use Rattle.nz_sat.proofs.TrailGrowth.{learned_grown}
 
 -- ---- Where a list leads
 
--- where a theory stands the list is legal
-pub stands_legal : {IsAt : Standing} → {ns : List Node} → {q : Task} → {work : WorkList Note} → Stands IsAt ns q work → AreLegal q (noted_list ns work).lines
+-- where a theory stands the list leads somewhere
+pub stands_legal : {IsAt : Standing} → {ns : List Node} → {q : Task} → {work : WorkList Note} → Stands IsAt ns q work
+    → (point : Point) × Lead q at_first no_point (noted_list ns work).lines point
 stands_legal s = (s.point, s.legal)
 
--- a list that is legal, and that an error ends which names no place
+-- a list that want of memory ends
 pub ends_memory : (A : Type 0) (theory theory' : TheoryState) (log : LogState) (atoms : List ℕ) (told : List Lit) (es : List Assigned) (work : WorkList Note)
     → EndsLegally {A = A} theory theory' log atoms told es work work (Err Memory)
 ends_memory A theory theory' log atoms told es work ns levels assumed q known only asked s = (s.point, s.legal)
-
-pub ends_spent : (A : Type 0) (theory theory' : TheoryState) (log : LogState) (atoms : List ℕ) (told : List Lit) (es : List Assigned) (work : WorkList Note)
-    → EndsLegally {A = A} theory theory' log atoms told es work work (Err Spent)
-ends_spent A theory theory' log atoms told es work ns levels assumed q known only asked s = (s.point, s.legal)
 
 -- ---- Steps
 
@@ -59,26 +58,26 @@ pub record Reaches (theory theory' : TheoryState) (s : Search) (es : List Assign
   pub sound : StaysInOrder theory.over s.atoms log log'
   pub holds_more : HoldsMore log' held held'
   pub named : AreOn log s.atoms held → AreOn log' s.atoms held'
+  pub learned : HoldsLearned log s.atoms held work → HoldsLearned log' s.atoms held' work'
   pub adds : AddsLines IsOfSearch work work'
-  pub stands : (ns : List Node) (levels : List (List ℕ)) (assumed : List Lit) (q : Task) → theory.over ns → All (IsAssumed assumed) es → IsAsked ns levels log s.atoms assumed q
+  pub stands : (ns : List Node) (levels : List (List ℕ)) (assumed : List Lit) (q : Task) → theory.over ns → All (IsAssumed assumed) es → IsAsked ns levels log s.atoms assumed work q
       → StandsAt (theory.at ns) ns q work (clause_in ns log.atoms (told_lits s.bounds s.trail.entries))
       → StandsAt (theory'.at ns) ns q work' (clause_in ns log'.atoms (told_lits s'.bounds s'.trail.entries))
 
 -- a step after which the list tells the trail
 pub reaches_step : {A : Type 0} → {m m' : TheoryState} → {s mid : Search} → {es : List Assigned} → {log log' : LogState} → {held held' : List Held} → {work work' : WorkList Note} → {x : A}
-    → Advances m m' s es log log' held held' work work' (Ok x) → IsSearch log' held' mid → mid.atoms ≡ s.atoms → TellsTrail log' mid.atoms mid.bounds mid.trail.entries work'
-    → Reaches m m' s es mid log log' held held' work work'
-reaches_step {m' = m'} {s = s} {mid = mid} {log = log} {log' = log'} {work' = work'} p h same tells =
+    → Advances m m' s es log log' held held' work work' (Ok x) → TellsTrail log' mid.atoms mid.bounds mid.trail.entries work' → Reaches m m' s es mid log log' held held' work work'
+reaches_step {m' = m'} {mid = mid} {log' = log'} {work' = work'} p tells =
     record {
       keeps = p.keeps;
       grows = p.grows;
       sound = p.sound;
       holds_more = p.holds_more;
       named = p.named;
+      learned = p.learned;
       adds = p.adds;
       stands = λ ns levels assumed q known only asked st.
-          let within = subst (All (IsAtomAt ns log'.atoms)) (sym same) (atoms_stay log.atoms log'.atoms p.grows.atoms ns s.atoms asked.within) in
-          stands_by ns log' mid.atoms mid.bounds mid.trail.entries work' tells within h.on.on_trail (m'.at ns) q (p.ends ns levels assumed q known only asked st);
+          stands_by ns log' mid.atoms mid.bounds mid.trail.entries work' tells (m'.at ns) q (p.ends ns levels assumed q known only asked st);
     }
 
 -- what was told of a front of a trail comes first
@@ -144,6 +143,7 @@ reaches_cut {m} {m₁} {m₂} {s} {mid} {cut} {es} {log} {log'} {held} {held'} {
       sound = p.sound;
       holds_more = p.holds_more;
       named = p.named;
+      learned = p.learned;
       adds = p.adds;
       stands = λ ns levels assumed q known only asked st.
           cut_stands m₁ m₂ ns q log' work' (told_lits mid.bounds mid.trail.entries) (told_lits cut.bounds cut.trail.entries) at
@@ -167,10 +167,12 @@ reaches_then {m = m} {m₁ = m₁} {m₂ = m₂} {s = s} {mid = mid} {a = a} {b 
         held = q.holds_more.held;
       };
       named = λ on. subst (λ (us : List ℕ). AreOn c us h₂) same (q.named (subst (λ (us : List ℕ). AreOn b us h₁) (sym same) (p.named on)));
+      learned = λ before.
+          subst (λ (us : List ℕ). HoldsLearned c us h₂ w₂) same (q.learned (subst (λ (us : List ℕ). HoldsLearned b us h₁ w₁) (sym same) (p.learned before)));
       adds = adds_far w w₁ w₂ p.adds q.adds;
       ends = λ ns levels assumed task known assumed_only asked st.
-          let asked' = asked_on a b s.atoms p.grows (p.sound ns levels known asked.within asked.order) asked in
-          q.ends ns levels assumed task (p.keeps.over ns known) (only assumed assumed_only) (subst (λ (us : List ℕ). IsAsked ns levels b us assumed task) (sym same) asked')
+          let asked' = asked_on a b s.atoms p.grows (p.sound ns levels known asked.within asked.order) (adds_same ns w w₁ p.adds).under asked in
+          q.ends ns levels assumed task (p.keeps.over ns known) (only assumed assumed_only) (subst (λ (us : List ℕ). IsAsked ns levels b us assumed w₁ task) (sym same) asked')
           (p.stands ns levels assumed task known assumed_only asked st);
     }
 
@@ -185,22 +187,25 @@ log_reaches m s es a b held work h g sound result ends =
       sound = sound;
       holds_more = record { learned = []; joined = sym (append-nil held); held = held_on a b held g h };
       named = on_kept a b s.atoms held g h;
+      learned = learned_grown a b s.atoms held g h work;
       adds = adds_none work;
       ends = ends;
     }
 
--- an error that names no place
+-- an error that names no place, before a line that may follow
 narrow_ends : (A : Type 0) (m m' : TheoryState) (log : LogState) (atoms : List ℕ) (told : List Lit) (es : List Assigned) (work : WorkList Note) (e : Stop) → OnWide e (λ place. ⊥)
-    → EndsLegally {A = A} m m' log atoms told es work work (Err e)
-narrow_ends A m m' log atoms told es work (Wide place) narrow = absurd narrow
-narrow_ends A m m' log atoms told es work Spent narrow = ends_spent A m m' log atoms told es work
-narrow_ends A m m' log atoms told es work Memory narrow = ends_memory A m m' log atoms told es work
+    → EndsLegally {A = A} m m' log atoms told es work work (Err Spent) → EndsLegally {A = A} m m' log atoms told es work work (Err e)
+narrow_ends A m m' log atoms told es work (Wide place) narrow wanting = absurd narrow
+narrow_ends A m m' log atoms told es work Spent narrow wanting = wanting
+narrow_ends A m m' log atoms told es work Memory narrow wanting = ends_memory A m m' log atoms told es work
 
 pub narrow_advances : {A : Type 0} → (m : TheoryState) (s : Search) (es : List Assigned) (a b : LogState) (held : List Held) (work : WorkList Note) → AreHeld a held → Grows a b
-    → StaysInOrder m.over s.atoms a b → (e : Stop) → OnWide e (λ place. ⊥) → (result : Result A Stop) → Err e ≡ result → Advances m m s es a b held held work work result
-narrow_advances {A} m s es a b held work h g sound e narrow result is =
+    → StaysInOrder m.over s.atoms a b → (e : Stop) → OnWide e (λ place. ⊥) → EndsLegally {A = A} m m a s.atoms (told_lits s.bounds s.trail.entries) es work work (Err Spent)
+    → (result : Result A Stop) → Err e ≡ result → Advances m m s es a b held held work work result
+narrow_advances {A} m s es a b held work h g sound e narrow wanting result is =
     log_reaches m s es a b held work h g sound result
-    (subst (EndsLegally {A = A} m m a s.atoms (told_lits s.bounds s.trail.entries) es work work) is (narrow_ends A m m a s.atoms (told_lits s.bounds s.trail.entries) es work e narrow))
+    (subst (EndsLegally {A = A} m m a s.atoms (told_lits s.bounds s.trail.entries) es work work) is
+    (narrow_ends A m m a s.atoms (told_lits s.bounds s.trail.entries) es work e narrow wanting))
 
 -- an error that a step hands on
 ends_on : (A B : Type 0) (IsAt : Standing) (ns : List Node) (q : Task) (work : WorkList Note) (e : Stop) → Ends {A = A} IsAt ns q work (Err e) → Ends {A = B} IsAt ns q work (Err e)
@@ -218,6 +223,7 @@ advances_err {A} {B} {m} {m'} {s} {es} {log} {log'} {held} {held'} {work} {work'
       sound = p.sound;
       holds_more = p.holds_more;
       named = p.named;
+      learned = p.learned;
       adds = p.adds;
       ends = λ ns levels assumed q known only asked st. ends_on A B (m'.at ns) ns q work' e (p.ends ns levels assumed q known only asked st);
     })

@@ -1,34 +1,40 @@
 -- What a search knows where it begins, and what its end tells its callers.
-use Rattle.std.proofs.Common.{◌≡◌, ℕ, zero, suc, ◌≤◌, Bool, true, if◌then◌else◌, List, [], ◌∷◌, ◌++◌, length, take, map, get_or, Option, Some, None, refl, sym, ap, subst, ◌∙◌, arith, append_assoc, Ok}
-use Rattle.std.specs.Prelude.{All, Contains, IsSome, filter, option_map, slice_get}
+use Rattle.std.proofs.Common.{◌≡◌, ℕ, zero, suc, Bool, true, false, true≢false, List, [], ◌∷◌, ◌++◌, length, take, map, get_or, Option, Some, None, refl, sym, ap, subst, ◌∙◌, arith, append_assoc, Ok}
+use Rattle.std.specs.Prelude.{All, Contains, IsSome, IsTrue, filter, option_map, slice_get}
 use Rattle.std.specs.declared.result.Result.{Result}
 use Rattle.std.proofs.lemmas.List.{append-nil, take_all}
-use Rattle.std.proofs.lemmas.List.Elements.{All-contains, All-map, All-nil, All-same, Contains-get_or}
-use Rattle.std.proofs.lemmas.List.Sums.{sum_by-cons}
+use Rattle.std.proofs.lemmas.List.Elements.{All-contains, All-map, All-same, Contains-get_or}
 use Rattle.std.proofs.lemmas.Option.{same_Some, slice_get-map}
 use Rattle.nz_lists.proofs.Members.{has_found, map_has}
-use Rattle.nz_spec.specs.search.Legal as legal
-use Rattle.nz_spec.specs.search.Legal.{AreLegal, Task, after_line, after_lines, at_first}
+use Rattle.nz_spec.specs.search.Atoms.{HasUnit, WasTold}
+use Rattle.nz_spec.specs.search.Legal.{Lead, after_line, after_lines}
+use Rattle.nz_spec.specs.search.Places.{AreAllTold}
+use Rattle.nz_spec.specs.search.Search as legal
+use Rattle.nz_spec.specs.search.Search.{Task, at_first, no_point, told_literals}
+use Rattle.nz_spec.specs.simplex.Bland.{Point}
+use Rattle.nz_spec.specs.clauses.Farkas.{is_linear_literal}
+use Rattle.nz_spec.specs.clauses.Literal.{Literal}
 use Rattle.nz_spec.specs.terms.Table.{Node}
-use Rattle.nz_spec.specs.search.Work.{NoteLine, UnitLine, WorkLine, WorkList, is_unit, unit_count}
+use Rattle.nz_spec.specs.search.Work.{BranchEntry, DecisionEntry, FoundEntry, LearnedEntry, NoteLine, PivotEntry, UnitLine, WorkLine, WorkList}
 use Rattle.nz_log.specs.declared.lits.Lit.{Lit}
 use Rattle.nz_search.specs.declared.note.Note.{Note}
 use Rattle.nz_log.specs.declared.atoms.Atom as log
-use Rattle.nz_search.specs.declared.note.Note.TheVariants.{Start, Atom, Bound, Form, Told}
+use Rattle.nz_search.specs.declared.note.Note.TheVariants.{Start, Atom, Bound, Form, Under, Told}
 use Rattle.nz_search.specs.declared.stop.Stop.{Stop}
-use Rattle.nz_log.specs.Atoms.{atom_in}
+use Rattle.nz_log.specs.declared.atoms.Atom.TheVariants.{Term, AtMost}
+use Rattle.nz_log.specs.Atoms.{atom_in, literal_in}
 use Rattle.nz_log.specs.Logs.{LogState, literals_at}
 use Rattle.nz_search.specs.Notes.{noted_line, noted_list}
-use Rattle.nz_search.specs.Standing.{Ends, Standing, Stands}
+use Rattle.nz_search.specs.Standing.{Ends, Standing, Stands, search_after}
 use Rattle.nz_search.specs.Theories.{IsBoundIn}
 use Rattle.nz_sat.specs.declared.clauses.Held.{Held}
 use Rattle.nz_sat.specs.declared.search.Search.{Search}
 use Rattle.nz_sat.specs.declared.trail.Assigned.{Assigned}
 use Rattle.nz_sat.specs.Clauses.{IsAssumed, IsOpen, by_true, by_two}
 use Rattle.nz_sat.specs.Conflicts.{is_marked}
-use Rattle.nz_sat.specs.Numbers.{AreBeginnings, AreNotedIn, IsBeginning, atom_literal, noted_atoms, numbered}
-use Rattle.nz_sat.specs.Sats.{AreOn, IsAsked, IsSatisfied, IsTheoryMet, IsTrueClause, IsTrueLit, SatState, truth_of}
-use Rattle.nz_sat.specs.Searching.{Advances, IsNoted, IsSearch, Satisfies, StaysInOrder, assumed_entries, ids}
+use Rattle.nz_sat.specs.Numbers.{AreNotedIn, atom_literal, noted_atoms, numbered}
+use Rattle.nz_sat.specs.Sats.{AreOn, HasBegun, HoldsLearned, IsAsked, IsSatisfied, IsTheoryMet, IsTrueClause, IsTrueLit, SatState, truth_of, ids}
+use Rattle.nz_sat.specs.Searching.{Advances, IsNoted, IsSearch, Satisfies, StaysInOrder, assumed_entries}
 use Rattle.nz_sat.specs.Theories.{IsMet, TellsTrail, TheoryState, bounds_on, told_literal, told_lits, told_on}
 use Rattle.nz_sat.specs.Trails.{AreTruthsOn, EachBehind, IsNext, IsTrueOn, assigned, is_decision, literals_on}
 use Rattle.nz_sat.proofs.Chains.{filter_has, lit_is}
@@ -37,57 +43,29 @@ use Rattle.nz_sat.proofs.TrailGrowth.{held_has}
 use Rattle.nz_sat.proofs.LearnedClauses.{all_from}
 use Rattle.nz_sat.proofs.Levels.{below_true}
 use Rattle.nz_sat.proofs.LearnedLines.{held_named}
-use Rattle.nz_sat.proofs.LogGrowth.{said}
-use Rattle.nz_sat.proofs.ToldTrails.{entry_from, front_has, stands_by, told_among, told_entry}
+use Rattle.nz_sat.proofs.LogGrowth.{said, says}
+use Rattle.nz_sat.proofs.ToldTrails.{entry_from, front_has, stands_by, told_among, told_entry, told_said}
 use Rattle.nz_sat.proofs.AtomTrails.{bound_marked, marked_bound}
 use Rattle.nz_sat.proofs.TrailEntries.{assigned_at, assigned_place}
 
 -- ---- At the start
 
--- what notes of atoms and forms keep of where a list leads
-first_keep : {X : Type 0} (f : legal.Search → X) (ns : List Node) → ((r : legal.Search) (line : WorkLine Note) → IsBeginning line → f (after_line r (noted_line ns line)) ≡ f r)
-    → (lines : List (WorkLine Note)) → AreBeginnings lines → (r : legal.Search) → f (after_lines r (map (noted_line ns) lines)) ≡ f r
-first_keep f ns keeps [] h r = refl
-first_keep f ns keeps (x ∷ xs) h r = first_keep f ns keeps xs h.1 (after_line r (noted_line ns x)) ∙ keeps r x h.0
-
-decided_first : (ns : List Node) (r : legal.Search) (line : WorkLine Note) → IsBeginning line → (after_line r (noted_line ns line)).decided ≡ r.decided
-decided_first ns r (NoteLine (Start start)) h = refl
-decided_first ns r (NoteLine (Atom t)) h = refl
-decided_first ns r (NoteLine (Bound b)) h = refl
-decided_first ns r (NoteLine (Form atom)) h = refl
-decided_first ns r (NoteLine (Told atom sign)) h = absurd h
-decided_first ns r (UnitLine entry) h = absurd h
-
-learned_first : (ns : List Node) (r : legal.Search) (line : WorkLine Note) → IsBeginning line → (after_line r (noted_line ns line)).learned ≡ r.learned
-learned_first ns r (NoteLine (Start start)) h = refl
-learned_first ns r (NoteLine (Atom t)) h = refl
-learned_first ns r (NoteLine (Bound b)) h = refl
-learned_first ns r (NoteLine (Form atom)) h = refl
-learned_first ns r (NoteLine (Told atom sign)) h = absurd h
-learned_first ns r (UnitLine entry) h = absurd h
-
-told_first : (ns : List Node) (r : legal.Search) (line : WorkLine Note) → IsBeginning line → (after_line r (noted_line ns line)).told ≡ r.told
-told_first ns r (NoteLine (Start start)) h = refl
-told_first ns r (NoteLine (Atom t)) h = refl
-told_first ns r (NoteLine (Bound b)) h = refl
-told_first ns r (NoteLine (Form atom)) h = refl
-told_first ns r (NoteLine (Told atom sign)) h = absurd h
-told_first ns r (UnitLine entry) h = absurd h
-
--- they name these atoms
-named_first : (ns : List Node) (lines : List (WorkLine Note)) → AreBeginnings lines → (r : legal.Search)
-    → (after_lines r (map (noted_line ns) lines)).atoms ≡ r.atoms ++ map (atom_in ns) (noted_atoms lines)
-named_first ns [] h r = sym (append-nil r.atoms)
-named_first ns (UnitLine entry ∷ lines) h r = absurd h.0
-named_first ns (NoteLine (Told atom sign) ∷ lines) h r = absurd h.0
-named_first ns (NoteLine (Start start) ∷ lines) h r = named_first ns lines h.1 (after_line r (noted_line ns (NoteLine (Start start))))
-named_first ns (NoteLine (Form atom) ∷ lines) h r = named_first ns lines h.1 (after_line r (noted_line ns (NoteLine (Form atom))))
-named_first ns (NoteLine (Atom t) ∷ lines) h r =
-    named_first ns lines h.1 (after_line r (noted_line ns (NoteLine (Atom t))))
-    ∙ append_assoc r.atoms (atom_in ns (log.TheVariants.Term t) ∷ []) (map (atom_in ns) (noted_atoms lines))
-named_first ns (NoteLine (Bound b) ∷ lines) h r =
-    named_first ns lines h.1 (after_line r (noted_line ns (NoteLine (Bound b))))
-    ∙ append_assoc r.atoms (atom_in ns (log.TheVariants.AtMost b) ∷ []) (map (atom_in ns) (noted_atoms lines))
+-- lines name these atoms
+named_first : (ns : List Node) (lines : List (WorkLine Note)) (r : legal.Search) → (after_lines r (map (noted_line ns) lines)).atoms ≡ r.atoms ++ map (atom_in ns) (noted_atoms lines)
+named_first ns [] r = sym (append-nil r.atoms)
+named_first ns (NoteLine (Start start) ∷ lines) r = named_first ns lines (after_line r (noted_line ns (NoteLine (Start start))))
+named_first ns (NoteLine (Form atom) ∷ lines) r = named_first ns lines (after_line r (noted_line ns (NoteLine (Form atom))))
+named_first ns (NoteLine (Under literals) ∷ lines) r = named_first ns lines (after_line r (noted_line ns (NoteLine (Under literals))))
+named_first ns (NoteLine (Told atom sign) ∷ lines) r = named_first ns lines (after_line r (noted_line ns (NoteLine (Told atom sign))))
+named_first ns (UnitLine (DecisionEntry atom sign) ∷ lines) r = named_first ns lines (after_line r (UnitLine (DecisionEntry atom sign)))
+named_first ns (UnitLine (LearnedEntry keep clause) ∷ lines) r = named_first ns lines (after_line r (UnitLine (LearnedEntry keep clause)))
+named_first ns (UnitLine (PivotEntry leaves enters) ∷ lines) r = named_first ns lines (after_line r (UnitLine (PivotEntry leaves enters)))
+named_first ns (UnitLine (BranchEntry atom) ∷ lines) r = named_first ns lines (after_line r (UnitLine (BranchEntry atom)))
+named_first ns (UnitLine (FoundEntry goal value) ∷ lines) r = named_first ns lines (after_line r (UnitLine (FoundEntry goal value)))
+named_first ns (NoteLine (Atom t) ∷ lines) r =
+    named_first ns lines (after_line r (noted_line ns (NoteLine (Atom t)))) ∙ append_assoc r.atoms (atom_in ns (Term t) ∷ []) (map (atom_in ns) (noted_atoms lines))
+named_first ns (NoteLine (Bound b) ∷ lines) r =
+    named_first ns lines (after_line r (noted_line ns (NoteLine (Bound b)))) ∙ append_assoc r.atoms (atom_in ns (AtMost b) ∷ []) (map (atom_in ns) (noted_atoms lines))
 
 -- what atoms say that are noted
 noted_says : (ns : List Node) (all : List log.Atom) (xs : List log.Atom) (us : List ℕ) → map (slice_get all) us ≡ map Some xs → map (atom_literal ns all) us ≡ map (atom_in ns) xs
@@ -102,37 +80,22 @@ noted_says ns all (x ∷ xs) (u ∷ us) same =
     λ k. first k ∷ rest k
 
 -- the work list of a search that begins
-pub first_noted : (log : LogState) (held : List Held) (s : Search) (work : WorkList Note) → AreNotedIn log.atoms work.lines s.atoms → AreBeginnings work.lines → s.trail.entries ≡ []
-    → IsNoted log held s work
-first_noted log held s work noted notes none =
-    let L : List (ℕ × Bool) → Type 0 = λ c. (i : ℕ) × Contains (ids held) i × (map (numbered s.atoms) (literals_at log i) ≡ c) in
+pub first_noted : (log : LogState) (held : List Held) (s : Search) (work : WorkList Note) (atoms : List ℕ) → s.atoms ≡ atoms → AreNotedIn log.atoms work.lines atoms → HasBegun log atoms held work
+    → s.trail.entries ≡ [] → IsNoted log held s work
+first_noted log held s work atoms same noted begun none =
     let nothing : told_on s.bounds s.trail.entries ≡ [] = ap (told_on s.bounds) none ∙ ap (bounds_on s.bounds.marks.items) (take-nil s.bounds.told) in
     record {
       trail = record {
-        named = λ ns. named_first ns work.lines notes at_first ∙ sym (noted_says ns log.atoms (noted_atoms work.lines) s.atoms noted);
-        decided = λ ns.
-            first_keep (λ (r : legal.Search). r.decided) ns (decided_first ns) work.lines notes at_first
-            ∙ sym (ap (λ (es : List Assigned). map (λ (e : Assigned). numbered s.atoms e.literal) (filter is_decision es)) none);
-        told = λ ns. first_keep (λ (r : legal.Search). r.told) ns (told_first ns) work.lines notes at_first ∙ sym (ap (map (told_literal s.atoms)) nothing);
+        named = λ ns.
+            named_first ns work.lines at_first ∙ sym (noted_says ns log.atoms (noted_atoms work.lines) atoms noted) ∙ ap (map (atom_literal ns log.atoms)) (sym same);
+        decided = λ ns. begun.decided ns ∙ sym (ap (λ (es : List Assigned). map (λ (e : Assigned). numbered s.atoms e.literal) (filter is_decision es)) none);
+        told = λ ns. begun.told ns ∙ sym (ap (map (told_literal ns log.atoms)) nothing);
       };
-      learned = λ ns.
-          subst (All L) (sym (first_keep (λ (r : legal.Search). r.learned) ns (learned_first ns) work.lines notes at_first)) (All-nil L);
+      learned = subst (λ (us : List ℕ). HoldsLearned log us held work) (sym same) begun.learned;
     } where
       take-nil : (n : ℕ) → take {A = Assigned} n [] ≡ []
       take-nil zero = refl
       take-nil (suc n) = refl
-
--- no unit is used yet
-no_units : (lines : List (WorkLine Note)) → AreBeginnings lines → unit_count lines ≡ 0
-no_units [] h = refl
-no_units (UnitLine entry ∷ lines) h = absurd h.0
-no_units (NoteLine note ∷ lines) h =
-    let one = sum_by-cons (λ (x : WorkLine Note). if is_unit x then 1 else 0) (NoteLine note) lines in
-    let none = no_units lines h.1 in
-    omega (arith, one, none)
-
-pub beginnings_units : (work : WorkList Note) → AreBeginnings work.lines → unit_count work.lines ≤ work.limit
-beginnings_units work h = let none = no_units work.lines h in omega (arith, none)
 
 -- assumed literals are assumed
 assumed_only : (assumed : List Lit) → All (IsAssumed assumed) (assumed_entries assumed)
@@ -145,19 +108,23 @@ module _ {m m' : TheoryState} {s : Search} {log log' : LogState} {held held' : L
   pub run_sound : StaysInOrder m.over atoms log log'
   run_sound = subst (λ (us : List ℕ). StaysInOrder m.over us log log') same a.sound
 
+  pub run_learned : HoldsLearned log atoms held work → HoldsLearned log' atoms held' work'
+  run_learned = subst (λ (us : List ℕ). HoldsLearned log us held work → HoldsLearned log' us held' work') same a.learned
+
   pub run_named : AreOn log atoms held → AreOn log' atoms held'
   run_named = subst (λ (us : List ℕ). AreOn log us held → AreOn log' us held') same a.named
 
   -- where the list leads to where the theory stands, so it does at the end
-  pub run_ends : TellsTrail log s.atoms s.bounds s.trail.entries work → All (λ (e : Assigned). Contains s.atoms e.literal.atom) s.trail.entries → (ns : List Node) (levels : List (List ℕ)) (q : Task)
-      → m.over ns → IsAsked ns levels log atoms assumed q → Stands (m.at ns) ns q work → Ends (m'.at ns) ns q work' answer
-  run_ends tells on ns levels q known asked stands =
-      let asked' = subst (λ (us : List ℕ). IsAsked ns levels log us assumed q) (sym same) asked in
+  pub run_ends : TellsTrail log s.atoms s.bounds s.trail.entries work → (ns : List Node) (levels : List (List ℕ)) (q : Task)
+      → m.over ns → IsAsked ns levels log atoms assumed work q → Stands (m.at ns) ns q work → Ends (m'.at ns) ns q work' answer
+  run_ends tells ns levels q known asked stands =
+      let asked' = subst (λ (us : List ℕ). IsAsked ns levels log us assumed work q) (sym same) asked in
       a.ends ns levels assumed q known (assumed_only assumed) asked'
-      (stands_by ns log s.atoms s.bounds s.trail.entries work tells asked'.within on (m.at ns) q stands)
+      (stands_by ns log s.atoms s.bounds s.trail.entries work tells (m.at ns) q stands)
 
 -- where the theory stands after the run, also where it can't be told
-pub ends_later : (A : Type 0) (IsAt : Standing) (ns : List Node) (q : Task) (work : WorkList Note) (x : A) → Ends {A = A} IsAt ns q work (Ok x) → AreLegal q (noted_list ns work).lines
+pub ends_later : (A : Type 0) (IsAt : Standing) (ns : List Node) (q : Task) (work : WorkList Note) (x : A) → Ends {A = A} IsAt ns q work (Ok x)
+    → (point : Point) × Lead q at_first no_point (noted_list ns work).lines point
 ends_later A IsAt ns q work x s = (s.point, s.legal)
 
 -- ---- At the end
@@ -179,9 +146,9 @@ some_truth None some = some
 some_truth (Some e) some = some
 
 -- what holds on the trail is what the truths say
-pub satisfied : {T : Type 0} → (log : LogState) (held : List Held) (assumed : List Lit) (atoms : List ℕ) (s : Search) (t : SatState T) → t.clauses ≡ held
-    → AreTruthsOn s.trail.entries t.truths → Satisfies log held assumed atoms s → IsSatisfied log t assumed atoms
-satisfied log held assumed atoms s t same truths h =
+pub satisfied : {T : Type 0} → (log : LogState) (held : List Held) (assumed : List Lit) (atoms : List ℕ) (s : Search) (work : WorkList Note) (t : SatState T) → t.clauses ≡ held
+    → AreTruthsOn s.trail.entries t.truths → Satisfies log held assumed atoms s work → IsSatisfied log t assumed atoms
+satisfied log held assumed atoms s work t same truths h =
     let es = s.trail.entries in
     let is_true : (l : Lit) → IsTrueOn es l → IsTrueLit t l = λ l on. truths l.atom ∙ on in
     let clause : (x : Held) → Contains (ids held) x.id → IsTrueClause t (literals_at log x.id) =
@@ -218,15 +185,28 @@ true_among es l on =
           (slice_get-map (λ (e : Assigned). e.literal) es place.1.0 ∙ ap (option_map (λ (e : Assigned). e.literal)) place.1.1 ∙ ap Some is)
     ] refl on
 
+-- it was told each true literal on a bound
+told_true : (m : TheoryState) (log : LogState) (held : List Held) (s : Search) → IsSearch log held s → IsMet m s.bounds s.trail.entries → (l : Lit) → IsBoundIn log l
+    → IsTrueOn s.trail.entries l → Contains (told_lits s.bounds s.trail.entries) l
+told_true m log held s h met l bound on =
+    let es = s.trail.entries in
+    let b = s.bounds in
+    let P : Assigned → Bool = λ e. is_marked b.marks.items e.literal.atom in
+    let whole : take b.told es ≡ es = ap (λ (n : ℕ). take n es) met.whole ∙ take_all (length es) es (omega arith) in
+    let e = entry_from es l (true_among es l on) in
+    let has = has_found es e.0 e.1 e.2 in
+    let atom = All-contains (λ (x : Assigned). Contains s.atoms x.literal.atom) es e.1 h.on.on_trail has in
+    let marked : P e.1 ≡ true = bound_marked log s.atoms b.marks.items h.on.marked e.1.literal atom (subst (IsBoundIn log) (sym e.3) bound) in
+    let told : Contains (told_on b es) e.1 = filter_has P (take b.told es) e.1 (subst (λ (xs : List Assigned). Contains xs e.1) (sym whole) has) marked in
+    subst (Contains (told_lits b es)) e.3 (map_has (λ (x : Assigned). x.literal) (told_on b es) e.1 told)
+
 -- what it was told are the bounds that are true
 pub theory_met : {T : Type 0} → (m : TheoryState) (log : LogState) (held : List Held) (s : Search) (t : SatState T) (atoms : List ℕ) → IsSearch log held s → s.atoms ≡ atoms
     → AreTruthsOn s.trail.entries t.truths → IsMet m s.bounds s.trail.entries → IsTheoryMet log m.has_told m.is_feasible t atoms
 theory_met m log held s t atoms h same truths met =
     let es = s.trail.entries in
     let b = s.bounds in
-    let P : Assigned → Bool = λ e. is_marked b.marks.items e.literal.atom in
     let on : (e : Assigned) → Contains es e → Contains s.atoms e.literal.atom = λ e has. All-contains (λ (x : Assigned). Contains s.atoms x.literal.atom) es e h.on.on_trail has in
-    let whole : take b.told es ≡ es = ap (λ (n : ℕ). take n es) met.whole ∙ take_all (length es) es (omega arith) in
     record {
       literals = told_lits b es;
       told = met.told;
@@ -240,11 +220,36 @@ theory_met m log held s t atoms h same truths met =
           let e = entry_from es l (told_among b es l has) in
           let on_es : IsTrueOn es l = subst (IsTrueOn es) e.3 (entry_true s.trail.size es h.on.order e.0 e.1 e.2) in
           truths l.atom ∙ on_es);
-      all = λ l atom bound holds.
-          let e = entry_from es l (true_among es l (sym (truths l.atom) ∙ holds)) in
-          let has = has_found es e.0 e.1 e.2 in
-          let bound' : IsBoundIn log e.1.literal = subst (IsBoundIn log) (sym e.3) bound in
-          let marked : P e.1 ≡ true = bound_marked log s.atoms b.marks.items h.on.marked e.1.literal (on e.1 has) bound' in
-          let told : Contains (told_on b es) e.1 = filter_has P (take b.told es) e.1 (subst (λ (xs : List Assigned). Contains xs e.1) (sym whole) has) marked in
-          subst (Contains (told_lits b es)) e.3 (map_has (λ (x : Assigned). x.literal) (told_on b es) e.1 told);
+      all = λ l atom bound holds. told_true m log held s h met l bound (sym (truths l.atom) ∙ holds);
     }
+
+-- an atom that says a linear literal is a bound
+linear_bound : (ns : List Node) (state : LogState) (i : ℕ) (sign : Bool) → IsTrue (is_linear_literal (atom_literal ns state.atoms i)) → IsBoundIn state (record { atom = i; sign = sign })
+linear_bound ns state i sign linear = bound_of (slice_get state.atoms i) refl linear where
+  bound_of : (o : Option log.Atom) → slice_get state.atoms i ≡ o → IsTrue (is_linear_literal (said ns true o)) → IsBoundIn state (record { atom = i; sign = sign })
+  bound_of None at h = absurd (true≢false (sym h))
+  bound_of (Some (Term t)) at h = absurd (true≢false (sym h))
+  bound_of (Some (AtMost b)) at h = (b, at)
+
+-- each atom that bounds a sum was told, with its sign
+pub all_told : (m : TheoryState) (log : LogState) (held : List Held) (assumed : List Lit) (atoms : List ℕ) (s : Search) (work : WorkList Note) → Satisfies log held assumed atoms s work
+    → IsMet m s.bounds s.trail.entries → (ns : List Node) → AreAllTold (search_after ns work)
+all_told m log held assumed atoms s work h met ns =
+    let es = s.trail.entries in
+    let r = search_after ns work in
+    let f : ℕ → Literal = atom_literal ns log.atoms in
+    let T : Literal → Type 0 = λ l. IsTrue (is_linear_literal l) → HasUnit l → WasTold r l in
+    let one : (i : ℕ) → Contains s.atoms i → T (f i) =
+    λ i has linear unit.
+    let e = decided_entry (assigned es i) (All-contains (λ (t : ℕ). IsSome (assigned es t)) s.atoms i h.all_decided has) in
+    let sign = e.0.literal.sign in
+    let l : Lit = record { atom = i; sign = sign } in
+    let told = told_true m log held s h.search met l (linear_bound ns log i sign linear) (ap (option_map (λ (x : Assigned). x.literal.sign)) e.1) in
+    let has_told = map_has (literal_in ns log.atoms) (told_lits s.bounds es) l told in
+    let in_list : Contains (told_literals r) (literal_in ns log.atoms l) =
+    subst (λ (ls : List Literal). Contains ls (literal_in ns log.atoms l)) (sym (told_said ns log s.atoms s.bounds es work h.noted.trail)) has_told in
+    (sign, false, subst (Contains (told_literals r)) (says ns log.atoms l) in_list) in
+    subst (All T) (sym (h.noted.trail.named ns)) (All-map T f s.atoms (all_from (λ (i : ℕ). T (f i)) s.atoms one)) where
+      decided_entry : (o : Option Assigned) → IsSome o → (e : Assigned) × (o ≡ Some e)
+      decided_entry None some = absurd (decided_not_missing None some refl)
+      decided_entry (Some e) some = (e, refl)

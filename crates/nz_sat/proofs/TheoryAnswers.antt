@@ -2,14 +2,13 @@
 use Rattle.std.proofs.Common.{◌≡◌, ℕ, ◌<◌, ◌≤◌, Bool, List, [], length, map, min, inl, inr, Option, None, Some, refl, sym, ap, subst, ◌∙◌, arith, All, Contains, IfOk, IfSome, Result, Ok, Err}
 use Rattle.std.proofs.lemmas.List.{append-nil}
 use Rattle.std.proofs.lemmas.Result.{IfOk-weaker}
-use Rattle.nz_spec.specs.search.Legal as legal
+use Rattle.nz_spec.specs.search.Search as legal
 use Rattle.nz_spec.specs.search.Work.{WorkList}
 use Rattle.nz_log.specs.declared.lits.Lit.{Lit}
 use Rattle.nz_search.specs.declared.note.Note.{Note}
 use Rattle.nz_search.specs.declared.stop.Stop.{Stop}
 use Rattle.nz_search.specs.declared.stop.Stop.TheVariants.{Memory}
 use Rattle.nz_log.specs.Logs.{LogState, literals_at}
-use Rattle.nz_search.specs.Standing.{search_after}
 use Rattle.nz_search.specs.Theories.{IsClash}
 use Rattle.nz_log.specs.Growth.{Grows}
 use Rattle.nz_sat.specs.declared.clauses.Held.{Held}
@@ -18,21 +17,22 @@ use Rattle.nz_sat.specs.declared.search.Search.{Search}
 use Rattle.nz_sat.specs.declared.trail.Assigned.{Assigned}
 use Rattle.nz_sat.specs.Conflicts.{GoesBackTo, HasLast, IsFalsifiedUnder, StaysSound}
 use Rattle.nz_sat.specs.Numbers.{numbered}
-use Rattle.nz_sat.specs.Searching.{Advances, Carries, ComesTo, Follows, IsConflict, IsNoted, IsSearch, Learns, MayFollow, OpenOrConflict, OpenOrFalsified, Settles, StaysInOrder, Steps, Turns, TurnsOn, WasNoted, WereOpen, ids, AreOpen}
+use Rattle.nz_sat.specs.Searching.{Advances, Carries, ComesTo, Follows, IsConflict, IsNoted, IsSearch, Learns, MayFollow, OpenOrConflict, OpenOrFalsified, Settles, StaysInOrder, Steps, Turns, TurnsOn, WasNoted, WereOpen, AreOpen}
 use Rattle.nz_sat.specs.Theories.{AddsLines, Consults, EndsLegally, IsMet, IsOfTheory, IsTrailOn, TellsTrail, TheoryState, told_lits}
 use Rattle.nz_sat.specs.Trails.{GoesOn, IsTrueOn, below, depth, literals_on, IsFalseOn, IsFrontOf, level_on}
 use Rattle.nz_sat.proofs.SearchSteps.{Reaches, log_reaches, reaches_step, reaches_then, stands_legal, steps_behind}
 use Rattle.nz_sat.proofs.Propagations.{carries_far, goes_first, goes_tells, goes_told}
 use Rattle.nz_sat.proofs.LogGrowth.{atoms_stay, grows_far, grows_none, held_on, on_kept, order_over}
-use Rattle.nz_sat.proofs.TrailGrowth.{goes_assumed, held_live}
+use Rattle.nz_sat.proofs.TrailGrowth.{goes_assumed, held_live, learned_grown}
 use Rattle.nz_sat.proofs.Levels.{below_twice, below_depth, below_false, below_front, found_below}
 use Rattle.nz_sat.proofs.SearchLines.{adds_keep, adds_units, adds_wider, learned_kept}
 use Rattle.nz_sat.proofs.ToldTrails.{clash_falsified, stands_so}
 use Rattle.std.proofs.lemmas.Bool.{cases_lt}
-use Rattle.std.proofs.lemmas.List.Elements.{All-contains, All-weaker, Contains-append_left}
+use Rattle.std.proofs.lemmas.List.Elements.{All-contains, Contains-append_left}
 use Rattle.nz_sat.specs.Clauses.{HasReasonOf, IsAssumed, IsFalsified, IsOpen, ids_of}
 use Rattle.nz_sat.proofs.LearnedClauses.{all_from, false_level}
 use Rattle.nz_sat.proofs.Marks.{false_entry, level_found}
+use Rattle.nz_sat.specs.Sats.{HoldsLearned, ids}
 use Rattle.nz_sat.proofs.AtomTrails.{literals_kept, trail_cut, trail_grown}
 
 -- ---- What a search keeps where it goes back, and where the log or the work list grows
@@ -69,14 +69,6 @@ module _ (log log' : LogState) (g : Grows log log') (held : List Held) (s : Sear
 
   pub grown_were : (es : List Assigned) → WereOpen log held es → WereOpen log' held es
   grown_were es were k less = grown_open (below k es) (were k less)
-
-  -- what was learned are clauses that are held
-  pub grown_learned : (atoms : List ℕ) (ds : List (List (ℕ × Bool))) → All (λ (c : List (ℕ × Bool)). (i : ℕ) × Contains (ids held) i × (map (numbered atoms) (literals_at log i) ≡ c)) ds
-      → All (λ (c : List (ℕ × Bool)). (i : ℕ) × Contains (ids held) i × (map (numbered atoms) (literals_at log' i) ≡ c)) ds
-  grown_learned atoms ds each =
-      All-weaker (λ (c : List (ℕ × Bool)). (i : ℕ) × Contains (ids held) i × (map (numbered atoms) (literals_at log i) ≡ c))
-      (λ (c : List (ℕ × Bool)). (i : ℕ) × Contains (ids held) i × (map (numbered atoms) (literals_at log' i) ≡ c))
-      (λ c w. (w.0, w.1, ap (map (numbered atoms)) (same_literals w.0 w.1) ∙ w.2)) ds each
 
 -- ---- The trail is cut
 
@@ -234,7 +226,14 @@ pub falsified_advances : (m : TheoryState) (log : LogState) (held : List Held) (
     → (found : Option ℕ) → Advances m m s s.trail.entries log log held held work work (Ok found)
 falsified_advances m log held s work h tells found =
     log_reaches m s s.trail.entries log log held work h.are_held (grows_none log) (λ ns levels known within order. order) (Ok found)
-    (λ ns levels assumed q known only asked st. stands_so ns log s.atoms s.bounds s.trail.entries work tells asked.within h.on.on_trail (m.at ns) q st)
+    (λ ns levels assumed q known only asked st. stands_so ns log s.atoms s.bounds s.trail.entries work tells (m.at ns) q st)
+
+-- lines of a theory tell of no clause that is learned
+learned_added : (log : LogState) (atoms : List ℕ) (held : List Held) (work work' : WorkList Note) → AddsLines IsOfTheory work work' → HoldsLearned log atoms held work
+    → HoldsLearned log atoms held work'
+learned_added log atoms held work work' adds learned ns =
+    subst (All (λ (c : List (ℕ × Bool)). (i : ℕ) × Contains (ids held) i × (map (numbered atoms) (literals_at log i) ≡ c)))
+    (sym (adds_keep work work' adds (λ (r : legal.Search). r.learned) ns (λ r line kind. learned_kept ns r line kind))) (learned ns)
 
 pub consult_advances : (m m' : TheoryState) (log log' : LogState) (held : List Held) (s s' : Search) (b : Bounds) (work work' : WorkList Note) (result : Result (Option ℕ) Stop) → IsSearch log held s
     → IsSearch log held s' → s' ≡ record s { trail = s'.trail } → GoesOn s.trail.entries s'.trail.entries → Consults m m' log log' s'.atoms s'.bounds b s'.trail work work' result
@@ -251,6 +250,7 @@ consult_advances m m' log log' held s s' b work work' result h h' rest g c =
       sound = subst (λ (us : List ℕ). StaysInOrder m.over us log log') atoms (order_over m.over s'.atoms s'.trail.entries h'.on.on_trail log log' c.sound);
       holds_more = record { learned = []; joined = sym (append-nil held); held = held_on log log' held c.grows h.are_held };
       named = on_kept log log' s.atoms held c.grows h.are_held;
+      learned = λ before. learned_added log' s.atoms held work work' c.adds (learned_grown log log' s.atoms held c.grows h.are_held work before);
       adds = adds_wider work work' c.adds;
       ends = λ ns levels assumed q known only asked st. ends ns levels assumed q known (goes_assumed s.trail.entries s'.trail.entries assumed g only) asked st;
     }
@@ -264,18 +264,14 @@ pub turns_on : {start mid new : Search} → {log log' : LogState} → {held : Li
 turns_on {start} {mid} {new} {log} {log'} {held} {work} {work₁} {work₂} h noted carries grows units same tells told c =
     let more = adds_units work₁ work₂ units in
     let before = carries.units in
-    let L : List ℕ → List (List (ℕ × Bool)) → Type 0 =
-    λ us ds. All (λ (d : List (ℕ × Bool)). (i : ℕ) × Contains (ids held) i × (map (numbered us) (literals_at log' i) ≡ d)) ds in
     record {
       search = c.search;
       were_open = c.were_open;
       told_so = c.told_so;
       noted = record {
         trail = tells;
-        learned = λ ns.
-            subst (λ (us : List ℕ). L us (search_after ns work₂).learned) (sym same)
-            (subst (L mid.atoms) (sym (adds_keep work₁ work₂ units (λ (r : legal.Search). r.learned) ns (λ r line kind. learned_kept ns r line kind)))
-            (grown_learned log log' grows held mid h mid.atoms (search_after ns work₁).learned (noted.learned ns)));
+        learned = subst (λ (us : List ℕ). HoldsLearned log' us held work₂) (sym same)
+            (learned_added log' mid.atoms held work₁ work₂ units (learned_grown log log' mid.atoms held grows h.are_held work₁ noted.learned));
       };
       carries = record {
         atoms = same ∙ carries.atoms;
@@ -293,7 +289,7 @@ learned_follows l = record { search = l.search; were_open = l.were_open; waits =
 pub learned_advances : {A : Type 0} → {m m₁ m₂ : TheoryState} → {s mid : Search} → {log log₁ log₂ : LogState} → {held held₁ held₂ : List Held} → {work work₁ work₂ : WorkList Note} → {place : ℕ}
     → {result : Result A Stop} → Learns log₁ held₁ s mid work work₁ place → Advances m m₁ s s.trail.entries log log₁ held held₁ work work₁ (Ok place)
     → Advances m₁ m₂ mid mid.trail.entries log₁ log₂ held₁ held₂ work₁ work₂ result → Advances m m₂ s s.trail.entries log log₂ held held₂ work work₂ result
-learned_advances l first step = reaches_then (reaches_step first l.search l.carries.atoms l.noted.trail) l.carries.atoms l.carries.assumed_only step
+learned_advances l first step = reaches_then (reaches_step first l.noted.trail) l.carries.atoms l.carries.assumed_only step
 
 pub turns_learned : {log log' : LogState} → {held : List Held} → {s mid : Search} → (new : Search) → {work work₁ work₂ : WorkList Note} → {place : ℕ}
     → Learns log held s mid work work₁ place → work₁.limit ≡ work.limit → Grows log log' → AddsLines IsOfTheory work₁ work₂ → new.atoms ≡ mid.atoms
@@ -353,7 +349,7 @@ module _ {m m' : TheoryState} {start old : Search} {log log' : LogState} {held h
 
   -- the search goes on from here
   pub settling_reaches : Reaches m m' start start.trail.entries old log log' held held' work work'
-  settling_reaches = reaches_step t.advances t.turns.search t.turns.carries.atoms t.turns.noted.trail
+  settling_reaches = reaches_step t.advances t.turns.noted.trail
 
 -- ---- Back from a conflict
 
@@ -414,7 +410,7 @@ pub back_refuted : {A : Type 0} → {m m' : TheoryState} → {start old cut : Se
     → (EndsLegally m m' log start.atoms (told_lits start.bounds start.trail.entries) start.trail.entries work work' (Ok conflict)
     → EndsLegally m m' log start.atoms (told_lits start.bounds start.trail.entries) start.trail.entries work work' result)
     → Advances m m' start start.trail.entries log new held held' work work' result
-back_refuted {m = m} {m' = m'} {start = start} {cut = cut} {log = log} {log' = log'} {new = new} {held' = held'} t b grows sound result ends =
+back_refuted {m = m} {m' = m'} {start = start} {cut = cut} {log = log} {log' = log'} {new = new} {held' = held'} {work' = work'} t b grows sound result ends =
     let p = t.advances in
     let more = subst (λ (us : List ℕ). StaysInOrder m'.over us log' new) b.carries.atoms
     (order_over m'.over cut.atoms cut.trail.entries b.search.on.on_trail log' new (λ ns levels known. sound ns levels)) in
@@ -425,6 +421,7 @@ back_refuted {m = m} {m' = m'} {start = start} {cut = cut} {log = log} {log' = l
           more ns levels (p.keeps.over ns known) (atoms_stay log.atoms log'.atoms p.grows.atoms ns start.atoms within) (p.sound ns levels known within order);
       holds_more = record { learned = p.holds_more.learned; joined = p.holds_more.joined; held = held_on log' new held' grows p.holds_more.held };
       named = λ on. on_kept log' new start.atoms held' grows p.holds_more.held (p.named on);
+      learned = λ before. learned_grown log' new start.atoms held' grows p.holds_more.held work' (p.learned before);
       adds = p.adds;
       ends = ends p.ends;
     }

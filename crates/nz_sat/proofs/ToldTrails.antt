@@ -1,23 +1,25 @@
 -- What a theory is told of a trail, and its answers there.
-use Rattle.std.proofs.Common.{◌≡◌, ◌≢◌, ℕ, ◌+◌, ◌<◌, Bool, true, false, not, if◌then◌else◌, List, [], ◌∷◌, ◌++◌, length, take, drop, map, suc, inl, inr, Option, None, Some, refl, sym, ap, subst, ◌∙◌, arith, true≢false}
-use Rattle.std.specs.Prelude.{All, Contains, IfOk, IfSome, IsTrue, OnOk, filter, is_some, option_map, slice_get, unwrap_or}
+use Rattle.std.proofs.Common.{◌≡◌, ℕ, ◌+◌, ◌<◌, Bool, true, false, not, if◌then◌else◌, List, [], ◌∷◌, ◌++◌, length, take, drop, map, suc, inl, inr, Option, None, Some, refl, sym, ap, subst, ◌∙◌, arith, true≢false}
+use Rattle.std.specs.Prelude.{All, Contains, IfOk, IfSome, IsSome, IsTrue, OnOk, filter, is_some, option_map, slice_get, unwrap_or}
 use Rattle.std.specs.declared.result.Result.{Result}
 use Rattle.std.specs.declared.result.Result.TheVariants.{Ok, Err}
 use Rattle.std.proofs.lemmas.Bool.Decides.{eqb_tells}
 use Rattle.std.proofs.lemmas.List.{append-nil, length-map, map_push, take-append-drop, take_more}
-use Rattle.std.proofs.lemmas.List.Elements.{All-contains, All-head, All-map, All-tail, All-weaker, Contains-append_left, Contains-push_cases, filter-append, recursion_from_All}
+use Rattle.std.proofs.lemmas.List.Elements.{All-contains, All-head, All-tail, All-weaker, Contains-append_left, Contains-push_cases, filter-append, recursion_from_All}
 use Rattle.std.proofs.lemmas.List.Sums.{length-filter}
 use Rattle.std.proofs.lemmas.Result.{IfOk-weaker}
-use Rattle.std.proofs.lemmas.Option.{IfSome_then, get_or_from_slice_get, slice_get-get_or, slice_get_within}
+use Rattle.std.proofs.lemmas.Option.{IfSome_then, get_or_from_slice_get, slice_get-get_or, slice_get-map, slice_get_within}
 use Rattle.nz_lists.proofs.Places.{drop_found}
 use Rattle.nz_lists.proofs.Members.{has_cases, has_found, map_has}
 use Rattle.nz_spec.specs.simplex.Bland.{Point}
 use Rattle.nz_spec.specs.terms.Form.{Part}
-use Rattle.nz_spec.specs.search.Legal.{MayTell, PivotsAreLegal, Task, ToldLiteral, literal_by, literals_by, told_literals}
-use Rattle.nz_spec.specs.search.Legal as legal
+use Rattle.nz_spec.specs.laws.LegalWork.{LegalWorkDoesNotRepeat, LegalWorkGoesOn, PivotsAreLegal}
+use Rattle.nz_spec.specs.search.Legal.{Lead, MayTell}
+use Rattle.nz_spec.specs.search.Notes.{told_atom}
+use Rattle.nz_spec.specs.search.Search as legal
+use Rattle.nz_spec.specs.search.Search.{MayBe, Task, ToldLiteral, at_first, literal_by, literals_by, no_point, told_literals}
 use Rattle.nz_spec.specs.clauses.Literal as spec
 use Rattle.nz_spec.specs.clauses.Literal.{AreTrueLiterals, NegationIsOther, is_literal_true}
-use Rattle.nz_spec.specs.terms.Model.{IsModel}
 use Rattle.nz_spec.specs.terms.Table.{Node}
 use Rattle.nz_spec.specs.terms.Term.{Assignment}
 use Rattle.nz_spec.specs.search.Work.{WorkList, with_line}
@@ -25,11 +27,12 @@ use Rattle.nz_log.specs.declared.lits.Lit.{Lit}
 use Rattle.nz_search.specs.declared.note.Note.{Note}
 use Rattle.nz_search.specs.declared.stop.Stop.{Stop}
 use Rattle.nz_log.specs.declared.atoms.Atom.{Atom}
-use Rattle.nz_log.specs.Atoms.{AreWithin, IsLitIn, TellsLits, clause_in, literal_in}
-use Rattle.nz_log.specs.Leveled.{AreTold}
+use Rattle.nz_log.specs.Atoms.{AreWithin, IsLitIn, Stay, TellsLits, clause_in, literal_in}
+use Rattle.nz_log.specs.Leveled.{AreTold, AreToldAtoms}
 use Rattle.nz_log.specs.Lits.{negated_lit}
 use Rattle.nz_log.specs.Logs.{LogState, literals_at}
 use Rattle.nz_log.specs.Sound.{ClausesAreTrue, IsLog}
+use Rattle.nz_search.specs.Notes.{noted_list}
 use Rattle.nz_search.specs.Standing.{Standing, Stands, search_after}
 use Rattle.nz_search.specs.Theories.{AddsPivots, IsClash, Leads}
 use Rattle.nz_log.specs.Growth.{Grows}
@@ -37,15 +40,15 @@ use Rattle.nz_sat.specs.declared.consult.Bounds.{Bounds}
 use Rattle.nz_sat.specs.declared.trail.Assigned.{Assigned}
 use Rattle.nz_sat.specs.Clauses.{IsAssumed, IsFalsified}
 use Rattle.nz_sat.specs.Conflicts.{is_marked}
-use Rattle.nz_sat.specs.Numbers.{IsAtomAt, atom_literal, number_of, numbered}
+use Rattle.nz_sat.specs.Numbers.{atom_literal, number_of, numbered}
 use Rattle.nz_sat.specs.Sats.{IsAsked}
 use Rattle.nz_sat.specs.Theories.{Consults, EndsLegally, IsTrailOn, Keeps, StandsAt, StaysSoundOver, TellsOne, TellsTrail, TheoryState, bounds_on, told_line, told_literal, told_lits, told_on}
 use Rattle.nz_sat.specs.Trails.{EachBehind, IsNext, TrailState, assigned, depth, is_decision, literals_on}
-use Rattle.nz_sat.proofs.LogGrowth.{asked_on, grows_far, grows_none, lit_stays, names_stay, order_over}
+use Rattle.nz_sat.proofs.LogGrowth.{asked_on, grows_far, grows_none, lit_stays, names_stay, order_over, said, same_at}
 use Rattle.nz_sat.proofs.Chains.{filter_from}
 use Rattle.nz_sat.proofs.DeadEnds.{literal_numbered, map_from, number_at, same_atom, task_entry}
 use Rattle.nz_sat.proofs.LearnedClauses.{all_from}
-use Rattle.nz_sat.proofs.SearchLines.{adds_far, adds_none, adds_pivots, check_ends, pivots_stay, search_more}
+use Rattle.nz_sat.proofs.SearchLines.{adds_far, adds_none, adds_pivots, adds_same, adds_wider, check_ends, pivots_stay, search_more}
 use Rattle.nz_sat.proofs.AtomTrails.{names_some, names_told, trail_grown}
 use Rattle.nz_sat.proofs.TrailEntries.{assigned_at}
 
@@ -98,50 +101,66 @@ module _ (b : Bounds) (es : List Assigned) (e : Assigned) (at : slice_get es b.t
 -- ---- What a list tells of what was told
 
 -- what a list tells of entries says their literals
-told_each : (ns : List Node) (all : List Atom) (atoms : List ℕ) → All (IsAtomAt ns all) atoms → (es : List Assigned) → All (λ (e : Assigned). Contains atoms e.literal.atom) es
-    → map (λ (t : ToldLiteral). literal_by (map (atom_literal ns all) atoms) (t.atom, t.sign)) (map (told_literal atoms) es) ≡ clause_in ns all (literals_on es)
-told_each ns all atoms within [] on = refl
-told_each ns all atoms within (e ∷ es) on =
-    let O : Assigned → Type 0 = λ x. Contains atoms x.literal.atom in
-    let has = All-head O e es on in
-    let first = literal_numbered ns all atoms e.literal has (All-contains (IsAtomAt ns all) atoms e.literal.atom within has) in
-    let rest = told_each ns all atoms within es (All-tail O e es on) in
-    λ i. first i ∷ rest i
+told_each : (ns : List Node) (all : List Atom) (es : List Assigned) → map (λ (t : ToldLiteral). t.literal) (map (told_literal ns all) es) ≡ clause_in ns all (literals_on es)
+told_each ns all [] = refl
+told_each ns all (e ∷ es) = let rest = told_each ns all es in λ i. literal_in ns all e.literal ∷ rest i
 
-pub told_said : (ns : List Node) (log : LogState) (atoms : List ℕ) (b : Bounds) (es : List Assigned) (work : WorkList Note) → TellsTrail log atoms b es work → All (IsAtomAt ns log.atoms) atoms
-    → All (λ (e : Assigned). Contains atoms e.literal.atom) es → told_literals (search_after ns work) ≡ clause_in ns log.atoms (told_lits b es)
-told_said ns log atoms b es work tells within on =
-    let r = search_after ns work in
-    let O : Assigned → Type 0 = λ x. Contains atoms x.literal.atom in
-    let among : All O (told_on b es) =
-    all_from O (told_on b es)
-    (λ e has. All-contains O es e on (front_has b.told es e (filter_from (λ (x : Assigned). is_marked b.marks.items x.literal.atom) (take b.told es) e has).0)) in
-    ap (λ (ts : List ToldLiteral). map (λ (t : ToldLiteral). literal_by r.atoms (t.atom, t.sign)) ts) (tells.told ns)
-    ∙ ap (λ (xs : List spec.Literal). map (λ (t : ToldLiteral). literal_by xs (t.atom, t.sign)) (map (told_literal atoms) (told_on b es))) (tells.named ns)
-    ∙ told_each ns log.atoms atoms within (told_on b es) among
+module _ (ns : List Node) (log : LogState) (atoms : List ℕ) (b : Bounds) (es : List Assigned) (work : WorkList Note) (tells : TellsTrail log atoms b es work) where
+  -- what the list says by the number of an atom
+  says_numbered : (l : Lit) → Contains atoms l.atom → literal_by (search_after ns work).atoms (numbered atoms l) ≡ literal_in ns log.atoms l
+  says_numbered l has = ap (λ (xs : List spec.Literal). literal_by xs (numbered atoms l)) (tells.named ns) ∙ literal_numbered ns log.atoms atoms l has
 
--- where a theory stands that was told what the list tells, by the literals that it was told
-module _ (ns : List Node) (log : LogState) (atoms : List ℕ) (b : Bounds) (es : List Assigned) (work : WorkList Note) (tells : TellsTrail log atoms b es work)
-    (within : All (IsAtomAt ns log.atoms) atoms) (on : All (λ (e : Assigned). Contains atoms e.literal.atom) es) (IsAt : Standing) (q : Task) where
-  pub stands_by : Stands IsAt ns q work → StandsAt IsAt ns q work (clause_in ns log.atoms (told_lits b es))
-  stands_by s =
-      record { point = s.point; legal = s.legal; at = subst (λ (ls : List spec.Literal). IsAt (search_after ns work).forms ls s.point) (told_said ns log atoms b es work tells within on) s.at }
+  pub told_said : told_literals (search_after ns work) ≡ clause_in ns log.atoms (told_lits b es)
+  told_said = ap (map (λ (t : ToldLiteral). t.literal)) (tells.told ns) ∙ told_each ns log.atoms (told_on b es)
 
-  pub stands_so : StandsAt IsAt ns q work (clause_in ns log.atoms (told_lits b es)) → Stands IsAt ns q work
-  stands_so s =
-      record { point = s.point; legal = s.legal; at = subst (λ (ls : List spec.Literal). IsAt (search_after ns work).forms ls s.point) (sym (told_said ns log atoms b es work tells within on)) s.at }
+  -- where a theory stands that was told what the list tells, by the literals that it was told
+  module _ (IsAt : Standing) (q : Task) where
+    pub stands_by : Stands IsAt ns q work → StandsAt IsAt ns q work (clause_in ns log.atoms (told_lits b es))
+    stands_by s = record { point = s.point; legal = s.legal; at = subst (λ (ls : List spec.Literal). IsAt (search_after ns work).forms ls s.point) told_said s.at }
+
+    pub stands_so : StandsAt IsAt ns q work (clause_in ns log.atoms (told_lits b es)) → Stands IsAt ns q work
+    stands_so s = record { point = s.point; legal = s.legal; at = subst (λ (ls : List spec.Literal). IsAt (search_after ns work).forms ls s.point) (sym told_said) s.at }
 
 -- the log grows
+pub told_stay : (old new : List Atom) → Stay old new → (ns : List Node) (es : List Assigned) → All (λ (e : Assigned). IsSome (slice_get old e.literal.atom)) es
+    → map (told_literal ns new) es ≡ map (told_literal ns old) es
+told_stay old new stay ns [] there = refl
+told_stay old new stay ns (e ∷ es) there =
+    let P : Assigned → Type 0 = λ x. IsSome (slice_get old x.literal.atom) in
+    let first = ap (said ns e.literal.sign) (same_at old new stay e.literal.atom (All-head P e es there)) in
+    let rest = told_stay old new stay ns es (All-tail P e es there) in
+    let told : spec.Literal → ToldLiteral = λ l. record { depth = e.level; literal = l } in
+    λ i. told (first i) ∷ rest i
+
+-- the atoms of entries are there
+pub entries_there : (log : LogState) (atoms : List ℕ) → AreToldAtoms log atoms → (es : List Assigned) → All (λ (e : Assigned). Contains atoms e.literal.atom) es
+    → All (λ (e : Assigned). IsSome (slice_get log.atoms e.literal.atom)) es
+entries_there log atoms there es on =
+    All-weaker (λ (e : Assigned). Contains atoms e.literal.atom) (λ (e : Assigned). IsSome (slice_get log.atoms e.literal.atom))
+    (λ e has. All-contains (λ (i : ℕ). IsSome (slice_get log.atoms i)) atoms e.literal.atom (names_some log atoms there) has) es on
+
 pub tells_grown : (log log' : LogState) (atoms : List ℕ) (b : Bounds) (t : TrailState) (work : WorkList Note) → IsTrailOn log atoms b t → Grows log log' → TellsTrail log atoms b t.entries work
     → TellsTrail log' atoms b t.entries work
 tells_grown log log' atoms b t work h g tells =
+    let T : Assigned → Type 0 = λ e. IsSome (slice_get log.atoms e.literal.atom) in
+    let each = entries_there log atoms h.there t.entries h.on_trail in
+    let told : All T (told_on b t.entries) =
+    all_from T (told_on b t.entries)
+    (λ e has. All-contains T t.entries e each (front_has b.told t.entries e (filter_from (λ (x : Assigned). is_marked b.marks.items x.literal.atom) (take b.told t.entries) e has).0)) in
     record {
       named = λ ns. tells.named ns ∙ sym (names_stay log.atoms log'.atoms g.atoms ns atoms (names_some log atoms h.there));
       decided = tells.decided;
-      told = tells.told;
+      told = λ ns. tells.told ns ∙ sym (told_stay log.atoms log'.atoms g.atoms ns (told_on b t.entries) told);
     }
 
 -- ---- What may be told
+
+-- the laws by which what a trail says may be told
+pub record Laws : Type 0 where
+  pub tells : TellsLits
+  pub clauses : ClausesAreTrue
+  pub other : NegationIsOther
+  pub repeats : LegalWorkDoesNotRepeat
 
 missing : (es : List Assigned) (x : Assigned) → Contains es x → assigned es x.literal.atom ≡ None → ⊥
 missing [] x has none = omega (arith, has.1)
@@ -198,24 +217,26 @@ module _ (log : LogState) (atoms : List ℕ) (b : Bounds) (t : TrailState) (h : 
       record {
         named = tells.named;
         decided = tells.decided;
-        told = λ ns. tells.told ns ∙ ap (map (told_literal atoms)) (sym (told_same b es e at unmarked));
+        told = λ ns. tells.told ns ∙ ap (map (told_literal ns log.atoms)) (sym (told_same b es e at unmarked));
       }
 
   pub next_told : (work : WorkList Note) → TellsTrail log atoms b es work → is_marked b.marks.items e.literal.atom ≡ true
       → TellsTrail log atoms (record b { told = b.told + 1 }) es (with_line work (told_line atoms e.literal))
   next_told work tells marked =
-      let f = told_literal atoms in
-      let T : ℕ → ToldLiteral = λ k. record { depth = k; atom = unwrap_or (number_of atoms e.literal.atom) 0; sign = e.literal.sign } in
       let line = told_line atoms e.literal in
       record {
         named = λ ns. ap (λ (r : legal.Search). r.atoms) (search_more ns work (line ∷ [])) ∙ tells.named ns;
         decided = λ ns. ap (λ (r : legal.Search). r.decided) (search_more ns work (line ∷ [])) ∙ tells.decided ns;
         told = λ ns.
             let r = search_after ns work in
+            let f = told_literal ns log.atoms in
+            let T : ℕ → spec.Literal → ToldLiteral = λ k l. record { depth = k; literal = l } in
             let deep : length r.decided ≡ e.level =
             ap length (tells.decided ns) ∙ length-map (filter is_decision es) (λ (x : Assigned). numbered atoms x.literal) ∙ length-filter is_decision es ∙ sym next_level in
             ap (λ (s : legal.Search). s.told) (search_more ns work (line ∷ []))
-            ∙ ap (λ (ts : List ToldLiteral). ts ++ T (length r.decided) ∷ []) (tells.told ns) ∙ ap (λ (k : ℕ). map f (told_on b es) ++ T k ∷ []) deep
+            ∙ ap (λ (ts : List ToldLiteral). ts ++ T (length r.decided) (literal_by r.atoms (numbered atoms e.literal)) ∷ []) (tells.told ns)
+            ∙ ap (λ (k : ℕ). map f (told_on b es) ++ T k (literal_by r.atoms (numbered atoms e.literal)) ∷ []) deep
+            ∙ ap (λ (l : spec.Literal). map f (told_on b es) ++ T e.level l ∷ []) (says_numbered ns log atoms b es work tells e.literal next_atom)
             ∙ sym (ap (map f) (told_more b es e at marked) ∙ map_push f (told_on b es) e);
       }
 
@@ -232,42 +253,47 @@ module _ (log : LogState) (atoms : List ℕ) (b : Bounds) (t : TrailState) (h : 
       let x = entry_from es l (next_among l has) in
       subst (λ (m : Lit). Contains atoms m.atom) x.3 (All-contains (λ (y : Assigned). Contains atoms y.literal.atom) es x.1 h.on_trail (has_found es x.0 x.1 x.2))
 
-  module _ (tells_lits : TellsLits) (clauses : ClausesAreTrue) (other : NegationIsOther) (ns : List Node) (levels : List (List ℕ)) (assumed : List Lit) (q : Task)
-      (asked : IsAsked ns levels log atoms assumed q) (only : All (IsAssumed assumed) es) (work : WorkList Note) (tells : TellsTrail log atoms b es work) where
+  module _ (laws : Laws) (ns : List Node) (levels : List (List ℕ)) (assumed : List Lit) (q : Task) (work : WorkList Note) (asked : IsAsked ns levels log atoms assumed work q)
+      (only : All (IsAssumed assumed) es) (tells : TellsTrail log atoms b es work) (x : Point) (lead : Lead q at_first no_point (noted_list ns work).lines x) where
+    abbrev r : legal.Search
+    r = search_after ns work
+
     abbrev number : ℕ
     number = unwrap_or (number_of atoms e.literal.atom) 0
 
-    pub next_says : literal_by (search_after ns work).atoms (numbered atoms e.literal) ≡ literal_in ns log.atoms e.literal
-    next_says =
-        ap (λ (xs : List spec.Literal). literal_by xs (numbered atoms e.literal)) (tells.named ns)
-        ∙ literal_numbered ns log.atoms atoms e.literal next_atom (All-contains (IsAtomAt ns log.atoms) atoms e.literal.atom asked.within next_atom)
+    pub next_says : literal_by r.atoms (numbered atoms e.literal) ≡ literal_in ns log.atoms e.literal
+    next_says = says_numbered ns log atoms b es work tells e.literal next_atom
 
-    other_number : (x : Assigned) → Contains (told_on b es) x → unwrap_or (number_of atoms x.literal.atom) 0 ≢ number
-    other_number x has same =
-        let before = (filter_from (λ (y : Assigned). is_marked b.marks.items y.literal.atom) (take b.told es) x has).0 in
-        let on = All-contains (λ (y : Assigned). Contains atoms y.literal.atom) es x h.on_trail (front_has b.told es x before) in
-        let atom : x.literal.atom ≡ e.literal.atom = same_atom atoms x.literal.atom e.literal.atom on next_atom same in
-        missing (take b.told es) x before (ap (assigned (take b.told es)) atom ∙ (h.order b.told e at).fresh)
+    -- what the number of an atom says in the list
+    named_at : (l : Lit) → Contains atoms l.atom → slice_get r.atoms (numbered atoms l).0 ≡ Some (atom_literal ns log.atoms l.atom)
+    named_at l has =
+        ap (λ (xs : List spec.Literal). slice_get xs (numbered atoms l).0) (tells.named ns) ∙ slice_get-map (atom_literal ns log.atoms) atoms (numbered atoms l).0
+        ∙ ap (option_map (atom_literal ns log.atoms)) (number_at atoms l.atom has)
 
-    next_follows : (a : Assignment) → IsModel q.asserted [] a → AreTrueLiterals a q.assumed → AreTrueLiterals a (literals_by (search_after ns work).atoms (search_after ns work).decided)
-        → IsTrue (is_literal_true a (literal_by (search_after ns work).atoms (numbered atoms e.literal)))
-    next_follows a model assumed_hold decided_hold =
-        let r = search_after ns work in
-        let named' = subst (λ (xs : List spec.Literal). AreTrueLiterals a (literals_by xs r.decided)) (tells.named ns) decided_hold in
+    -- what was told says another literal
+    next_new : Contains (told_literals r) (literal_by r.atoms (numbered atoms e.literal)) → ⊥
+    next_new has =
+        let among = subst (λ (ls : List spec.Literal). Contains ls (literal_by r.atoms (numbered atoms e.literal))) (told_said ns log atoms b es work tells) has in
+        let l = map_from (literal_in ns log.atoms) (told_lits b es) (literal_by r.atoms (numbered atoms e.literal)) among in
+        let y = told_entry b es l.0 l.1 in
+        let on = subst (λ (m : Lit). Contains atoms m.atom) y.3 (All-contains (λ (z : Assigned). Contains atoms z.literal.atom) es y.0 h.on_trail (front_has b.told es y.0 y.1)) in
+        let same = (laws.repeats q (noted_list ns work).lines x lead).atoms (numbered atoms l.0).0 number l.0.sign e.literal.sign (atom_literal ns log.atoms l.0.atom)
+        (atom_literal ns log.atoms e.literal.atom) (named_at l.0 on) (named_at e.literal next_atom) (says_numbered ns log atoms b es work tells l.0 on ∙ l.2) in
+        let atom : y.0.literal.atom ≡ e.literal.atom = ap (λ (m : Lit). m.atom) y.3 ∙ same_atom atoms l.0.atom e.literal.atom on next_atom same in
+        missing (take b.told es) y.0 y.1 (ap (assigned (take b.told es)) atom ∙ (h.order b.told e at).fresh)
+
+    next_follows : (a : Assignment) → MayBe q r a → IsTrue (is_literal_true a (literal_by r.atoms (numbered atoms e.literal)))
+    next_follows a may =
+        let named' = subst (λ (xs : List spec.Literal). AreTrueLiterals a (literals_by xs r.decided)) (tells.named ns) may.decided in
         let decided' = subst (λ (ps : List (ℕ × Bool)). AreTrueLiterals a (literals_by (map (atom_literal ns log.atoms) atoms) ps)) (tells.decided ns) named' in
         subst (λ (x : spec.Literal). IsTrue (is_literal_true a x)) (sym next_says)
-        (task_entry tells_lits clauses other ns levels assumed q log atoms asked b t h only a model assumed_hold decided' e next_has)
+        (task_entry laws.tells laws.clauses laws.other ns levels assumed q log atoms work asked b t h only a may.model decided' e next_has)
 
-    pub next_may : MayTell q (search_after ns work) number e.literal.sign
+    pub next_may : MayTell q r (told_atom number e.literal.sign false)
     next_may =
         let inside : number < length atoms = slice_get_within atoms number e.literal.atom (number_at atoms e.literal.atom next_atom) in
-        let long : length (search_after ns work).atoms ≡ length atoms = ap length (tells.named ns) ∙ length-map atoms (atom_literal ns log.atoms) in
-        let P : ToldLiteral → Type 0 = λ x. x.atom ≢ number in
-        record {
-          named = omega (arith, inside, long);
-          new = subst (All P) (sym (tells.told ns)) (All-map P (told_literal atoms) (told_on b es) (all_from (λ (x : Assigned). P (told_literal atoms x)) (told_on b es) other_number));
-          follows = next_follows;
-        }
+        let long : length r.atoms ≡ length atoms = ap length (tells.named ns) ∙ length-map atoms (atom_literal ns log.atoms) in
+        record { there = omega (arith, inside, long); new = next_new; follows = next_follows }
 
 -- ---- A turn of telling
 
@@ -291,7 +317,7 @@ consults_none m log atoms b t work h told tells =
       told = told;
       noted = tells;
       clash = tt;
-      ends = λ ns levels assumed q known only asked stands. stands_so ns log atoms b t.entries work tells asked.within h.on_trail (m.at ns) q stands;
+      ends = λ ns levels assumed q known only asked stands. stands_so ns log atoms b t.entries work tells (m.at ns) q stands;
     }
 
 module _ {m m₁ : TheoryState} {log log₁ : LogState} {atoms : List ℕ} {b b₁ : Bounds} {t : TrailState} {work work₁ : WorkList Note} (c : Consults m m₁ log log₁ atoms b b₁ t work work₁ (Ok None))
@@ -334,11 +360,13 @@ module _ {m m₁ : TheoryState} {log log₁ : LogState} {atoms : List ℕ} {b b�
         (λ x l. lit_stays log.atoms log₁.atoms c.grows.atoms ns x.literal l) t.entries within in
         o.sound ls ns levels c.told (c.keeps.over ns known) (one_within ns within') (c.sound ns levels known within order)
 
-    one_ends : TellsLits → ClausesAreTrue → NegationIsOther → EndsLegally m m₂ log atoms (told_lits b t.entries) t.entries work work₂ r
-    one_ends tells clauses other ns levels assumed q known only asked stands =
-        let asked' = asked_on log log₁ atoms c.grows (order_over m.over atoms t.entries c.trail.on_trail log log₁ c.sound ns levels known asked.within asked.order) asked in
-        o.ends ns q (next_may log₁ atoms b₁ t c.trail e at tells clauses other ns levels assumed q asked' only work₁ c.noted)
-        (next_says log₁ atoms b₁ t c.trail e at tells clauses other ns levels assumed q asked' only work₁ c.noted) (c.ends ns levels assumed q known only asked stands)
+    one_ends : Laws → EndsLegally m m₂ log atoms (told_lits b t.entries) t.entries work work₂ r
+    one_ends laws ns levels assumed q known only asked stands =
+        let under = (adds_same ns work work₁ (adds_wider work work₁ c.adds)).under in
+        let asked' = asked_on log log₁ atoms c.grows (order_over m.over atoms t.entries c.trail.on_trail log log₁ c.sound ns levels known asked.within asked.order) under asked in
+        let st = c.ends ns levels assumed q known only asked stands in
+        o.ends ns q (next_may log₁ atoms b₁ t c.trail e at laws ns levels assumed q work₁ asked' only c.noted st.point st.legal)
+        (next_says log₁ atoms b₁ t c.trail e at laws ns levels assumed q work₁ asked' only c.noted st.point st.legal) st
 
     one_clash : IfOk r (λ found. IfSome found (IsClash log₂ (literals_on t.entries)))
     one_clash =
@@ -347,8 +375,8 @@ module _ {m m₁ : TheoryState} {log log₁ : LogState} {atoms : List ℕ} {b b�
         (λ id k. record { live = k.live; once = k.once; negations = λ l has. next_among log₁ atoms b₁ t c.trail e at (negated_lit l) (k.negations l has) })) (o.clash ls c.told)
 
     -- where it answers a clause, or stops, no more is told
-    pub consults_ends : TellsLits → ClausesAreTrue → NegationIsOther → OnOk r (m₂.has_told ls) → OnOk r (work₂ ≡ work₁) → Consults m m₂ log log₂ atoms b b₁ t work work₂ r
-    consults_ends tells clauses other told same =
+    consults_ends : Laws → OnOk r (m₂.has_told ls) → OnOk r (work₂ ≡ work₁) → Consults m m₂ log log₂ atoms b b₁ t work work₂ r
+    consults_ends laws told same =
         record {
           rest = c.rest;
           trail = trail_grown log₁ atoms b₁ t c.trail log₂ one_grows;
@@ -360,22 +388,22 @@ module _ {m m₁ : TheoryState} {log log₁ : LogState} {atoms : List ℕ} {b b�
           noted = IfOk-weaker r (λ (found : Option ℕ). work₂ ≡ work₁) (λ (found : Option ℕ). TellsTrail log₂ atoms b₁ t.entries work₂)
               (λ found is. subst (TellsTrail log₂ atoms b₁ t.entries) (sym is) (tells_grown log₁ log₂ atoms b₁ t work₁ c.trail one_grows c.noted)) same;
           clash = one_clash;
-          ends = one_ends tells clauses other;
+          ends = one_ends laws;
         }
 
-  pub consults_err : {m₂ : TheoryState} → {log₂ : LogState} → {work₂ : WorkList Note} → {stop : Stop} → TellsOne m₁ m₂ log₁ log₂ atoms e.literal work₁ work₂ (Err stop) → TellsLits
-      → ClausesAreTrue → NegationIsOther → Consults m m₂ log log₂ atoms b b₁ t work work₂ (Err stop)
-  consults_err o tells clauses other = consults_ends o tells clauses other tt tt
+  pub consults_err : {m₂ : TheoryState} → {log₂ : LogState} → {work₂ : WorkList Note} → {stop : Stop} → TellsOne m₁ m₂ log₁ log₂ atoms e.literal work₁ work₂ (Err stop) → Laws
+      → Consults m m₂ log log₂ atoms b b₁ t work work₂ (Err stop)
+  consults_err o laws = consults_ends o laws tt tt
 
   pub consults_clash : {m₂ : TheoryState} → {log₂ : LogState} → {work₂ : WorkList Note} → (found : Option ℕ) → is_some found ≡ true
-      → TellsOne m₁ m₂ log₁ log₂ atoms e.literal work₁ work₂ (Ok found) → TellsLits → ClausesAreTrue → NegationIsOther → Consults m m₂ log log₂ atoms b b₁ t work work₂ (Ok found)
-  consults_clash None some o tells clauses other = absurd (true≢false (sym some))
-  consults_clash (Some id) some o tells clauses other = consults_ends o tells clauses other (o.told (told_lits b₁ t.entries) c.told) o.noted
+      → TellsOne m₁ m₂ log₁ log₂ atoms e.literal work₁ work₂ (Ok found) → Laws → Consults m m₂ log log₂ atoms b b₁ t work work₂ (Ok found)
+  consults_clash None some o laws = absurd (true≢false (sym some))
+  consults_clash (Some id) some o laws = consults_ends o laws (o.told (told_lits b₁ t.entries) c.told) o.noted
 
   -- a bound that is taken
-  pub consults_more : {m₂ : TheoryState} → {log₂ : LogState} → {work₂ : WorkList Note} → TellsOne m₁ m₂ log₁ log₂ atoms e.literal work₁ work₂ (Ok None) → TellsLits → ClausesAreTrue
-      → NegationIsOther → is_marked b₁.marks.items e.literal.atom ≡ true → Consults m m₂ log log₂ atoms b (record b₁ { told = b₁.told + 1 }) t work work₂ (Ok None)
-  consults_more {m₂} {log₂} {work₂} o tells clauses other marked =
+  pub consults_more : {m₂ : TheoryState} → {log₂ : LogState} → {work₂ : WorkList Note} → TellsOne m₁ m₂ log₁ log₂ atoms e.literal work₁ work₂ (Ok None) → Laws
+      → is_marked b₁.marks.items e.literal.atom ≡ true → Consults m m₂ log log₂ atoms b (record b₁ { told = b₁.told + 1 }) t work work₂ (Ok None)
+  consults_more {m₂} {log₂} {work₂} o laws marked =
       let grows = one_grows o in
       let trail = trail_grown log₁ atoms b₁ t c.trail log₂ grows in
       record {
@@ -389,7 +417,7 @@ module _ {m m₁ : TheoryState} {log log₁ : LogState} {atoms : List ℕ} {b b�
         noted = subst (TellsTrail log₂ atoms (record b₁ { told = b₁.told + 1 }) t.entries) (sym o.noted)
             (next_told log₂ atoms b₁ t trail e at work₁ (tells_grown log₁ log₂ atoms b₁ t work₁ c.trail grows c.noted) marked);
         clash = tt;
-        ends = one_ends o tells clauses other;
+        ends = one_ends o laws;
       }
 
 on_ok : {A E : Type 0} (P : Type 0) (r : Result A E) → P → OnOk r P
@@ -397,21 +425,21 @@ on_ok P (Ok a) h = h
 on_ok P (Err e) h = tt
 
 -- the theory looks for values that meet what it was told
-pub consults_checked : PivotsAreLegal → {m m₁ m₂ : TheoryState} → {log log₁ log₂ : LogState} → {atoms : List ℕ} → {b b₁ : Bounds} → {t : TrailState} → {work work₁ work₂ : WorkList Note}
+pub consults_checked : PivotsAreLegal → LegalWorkGoesOn → {m m₁ m₂ : TheoryState} → {log log₁ log₂ : LogState} → {atoms : List ℕ} → {b b₁ : Bounds} → {t : TrailState} → {work work₁ work₂ : WorkList Note}
     → Consults m m₁ log log₁ atoms b b₁ t work work₁ (Ok None) → Keeps m₁ m₂ → AddsPivots work₁ work₂ → (r : Result (Option ℕ) Stop)
     → ((ls : List Lit) → m₁.has_told ls → OnOk r (m₂.has_told ls)) → ((ls : List Lit) → m₁.has_told ls → IfOk r (λ found. IfSome found (IsClash log₂ ls)))
     → ((ls : List Lit) → m₁.has_told ls → AreTold log₁ ls → Grows log₁ log₂)
     → ((ls : List Lit) (ns : List Node) (levels : List (List ℕ)) → m₁.has_told ls → m₁.over ns → AreWithin ns log₁.atoms ls → IsLog ns levels log₁ → IsLog ns levels log₂)
     → ((ns : List Node) (fs : List (List Part)) (ls : List spec.Literal) (x : Point) → m₁.at ns fs ls x → Leads (m₂.at ns fs ls) ns fs ls x work₁ work₂ r)
     → Consults m m₂ log log₂ atoms b b₁ t work work₂ r
-consults_checked laws {m} {m₁} {m₂} {log} {log₁} {log₂} {atoms} {b} {b₁} {t} {work} {work₁} {work₂} c keeps pivots r told clash grows sound leads =
+consults_checked laws on {m} {m₁} {m₂} {log} {log₁} {log₂} {atoms} {b} {b₁} {t} {work} {work₁} {work₂} c keeps pivots r told clash grows sound leads =
     let es = t.entries in
     let ls = told_lits b₁ es in
-    let on : (l : Lit) → Contains ls l → Contains atoms l.atom =
+    let among : (l : Lit) → Contains ls l → Contains atoms l.atom =
     λ l has.
     let x = entry_from es l (told_among b₁ es l has) in
     subst (λ (k : Lit). Contains atoms k.atom) x.3 (All-contains (λ (y : Assigned). Contains atoms y.literal.atom) es x.1 c.trail.on_trail (has_found es x.0 x.1 x.2)) in
-    let more = grows ls c.told (names_told log₁ atoms c.trail.there ls on) in
+    let more = grows ls c.told (names_told log₁ atoms c.trail.there ls among) in
     let within : (ns : List Node) → All (λ (x : Assigned). IsLitIn ns log₁.atoms x.literal) es → AreWithin ns log₁.atoms ls =
     λ ns each.
     recursion_from_All (IsLitIn ns log₁.atoms) ls
@@ -443,7 +471,7 @@ consults_checked laws {m} {m₁} {m₂} {log} {log₁} {log₂} {atoms} {b} {b�
       ends = λ ns levels assumed q known only asked stands.
           let s = c.ends ns levels assumed q known only asked stands in
           let at = search_after ns work₁ in
-          check_ends laws ns work₁ work₂ q (Option ℕ) (m₁.at ns) (m₂.at ns) s r (leads ns at.forms (told_literals at) s.point s.at);
+          check_ends laws ns work₁ work₂ on q (Option ℕ) (m₁.at ns) (m₂.at ns) s r (leads ns at.forms (told_literals at) s.point s.at);
     }
 
 pub consults_same : {m m' : TheoryState} → {log log' : LogState} → {atoms : List ℕ} → {b b' : Bounds} → {t : TrailState} → {work work' : WorkList Note} → {r r' : Result (Option ℕ) Stop} → r ≡ r'

@@ -1,23 +1,28 @@
 -- What a search keeps where its trail goes on.
-use Rattle.std.proofs.Common.{◌≡◌, ℕ, zero, suc, ◌+◌, ◌<◌, true, false, List, [], ◌++◌, length, take, get_or, Option, Some, None, refl, sym, ap, subst, ◌∙◌, arith, ◌≢◌, ◌≤◌, Bool, not, if◌then◌else◌, ◌∷◌, drop, ◌⊎◌, inl, inr}
+use Rattle.std.proofs.Common.{◌≡◌, ℕ, zero, suc, ◌+◌, ◌<◌, true, false, List, [], ◌++◌, length, take, map, get_or, Option, Some, None, refl, sym, ap, subst, ◌∙◌, arith, ◌≢◌, ◌≤◌, Bool, not, if◌then◌else◌, ◌∷◌, drop, ◌⊎◌, inl, inr}
 use Rattle.std.specs.Prelude.{All, Contains, IfSome, IsSome, is_some, replicate, slice_get, nat_lt, option_map}
 use Rattle.std.proofs.lemmas.List.{append-nil, get_or-map, length-map, take-append-drop}
-use Rattle.std.proofs.lemmas.List.Elements.{All-append, All-contains, All-map, Contains-get_or, All-push}
+use Rattle.std.proofs.lemmas.List.Elements.{All-append, All-contains, All-map, All-weaker, Contains-get_or, All-push}
 use Rattle.std.proofs.lemmas.Option.{slice_get-get_or, IfSome_then, get_or_from_slice_get, slice_get_within}
 use Rattle.nz_lists.proofs.Members.{has_found}
 use Rattle.nz_log.specs.declared.lits.Lit.{Lit}
 use Rattle.nz_log.specs.Logs.{LogState, IsLive, literals_at}
+use Rattle.nz_log.specs.Growth.{Grows}
+use Rattle.nz_spec.specs.search.Work.{WorkList}
+use Rattle.nz_search.specs.declared.note.Note.{Note}
+use Rattle.nz_search.specs.Standing.{search_after}
 use Rattle.nz_sat.specs.declared.clauses.Held.{Held}
 use Rattle.nz_sat.specs.declared.search.Search.{Search}
 use Rattle.nz_sat.specs.declared.trail.Assigned.{Assigned}
 use Rattle.nz_sat.specs.Trails.{GoesOn, IsTrueOn, TrailState, below, depth, IsFalseOn, assigned, is_decision, with_entry}
 use Rattle.nz_sat.specs.Clauses.{AreUsable, HasReasonOf, IsAssumed, Visits, IsFalsified, IsOfSize, IsReasonOf, IsReasonOneOf, IsUsable, ids_of, IsOpen, IsReason, Waits}
 use Rattle.nz_sat.specs.Conflicts.{AreUnmarked, IsFalsifiedUnder}
-use Rattle.nz_sat.specs.Sats.{AreHeld}
-use Rattle.nz_sat.specs.Searching.{AreOpen, IsSearch, OpenOrFalsified, WereOpen, ids, Assumes, MayAssume}
+use Rattle.nz_sat.specs.Numbers.{numbered}
+use Rattle.nz_sat.specs.Sats.{AreHeld, HoldsLearned, ids}
+use Rattle.nz_sat.specs.Searching.{AreOpen, IsSearch, OpenOrFalsified, WereOpen, Assumes, MayAssume}
 use Rattle.nz_sat.proofs.Clausal.{slice_get_behind, truth_found, either_sign, open_grows, other_lit, sign_again}
 use Rattle.nz_sat.proofs.Levels.{below_join, below_none}
-use Rattle.nz_sat.proofs.AtomTrails.{trail_goes, trail_push}
+use Rattle.nz_sat.proofs.AtomTrails.{literals_kept, trail_goes, trail_push}
 use Rattle.nz_sat.proofs.VisitedClauses.{goes_depth}
 use Rattle.std.proofs.lemmas.Bool.Decides.{Decides-ltb}
 use Rattle.std.proofs.lemmas.List.Sums.{get_or-le-sum_by, sum_by_push}
@@ -99,6 +104,13 @@ usable_id log held s h i has =
 
 pub search_usable : (log : LogState) (held : List Held) (s : Search) → IsSearch log held s → AreUsable log s.trail.size s.index
 search_usable log held s h l i has = usable_id log held s h i (h.only l i has)
+
+-- what was learned are clauses that are held, also as the log grows
+pub learned_grown : (a b : LogState) (atoms : List ℕ) (held : List Held) → Grows a b → AreHeld a held → (work : WorkList Note) → HoldsLearned a atoms held work → HoldsLearned b atoms held work
+learned_grown a b atoms held g h work learned ns =
+    All-weaker (λ (c : List (ℕ × Bool)). (i : ℕ) × Contains (ids held) i × (map (numbered atoms) (literals_at a i) ≡ c))
+    (λ (c : List (ℕ × Bool)). (i : ℕ) × Contains (ids held) i × (map (numbered atoms) (literals_at b i) ≡ c))
+    (λ c w. (w.0, w.1, ap (map (numbered atoms)) (literals_kept a b g w.0 (held_live a held h w.0 w.1)) ∙ w.2)) (search_after ns work).learned (learned ns)
 
 pub held_has : (held : List Held) (k : ℕ) (d : Held) → k < length held → Contains (ids held) (get_or held k d).id
 held_has held k d inside =

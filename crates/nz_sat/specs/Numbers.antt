@@ -1,13 +1,12 @@
 -- Atoms by the numbers that a work list gives them.
-use Rattle.std.specs.Prelude.{◌≡◌, ℕ, suc, ◌==◌, Bool, true, false, List, [], ◌∷◌, map, slice_get, Option, Some, None, option_map, unwrap_or, slice_index_or, if◌then◌else◌, ⊤}
-use Rattle.std.specs.List.{AllByRecursion}
+use Rattle.std.specs.Prelude.{◌≡◌, ℕ, suc, ◌==◌, Bool, true, false, List, [], ◌∷◌, map, slice_get, Option, Some, None, option_map, unwrap_or, slice_index_or, if◌then◌else◌}
 use Rattle.nz_spec.specs.clauses.Literal.{Literal}
 use Rattle.nz_spec.specs.terms.Table.{Node}
 use Rattle.nz_spec.specs.search.Work.{WorkLine, UnitLine, NoteLine}
 use Rattle.nz_log.specs.declared.atoms.Atom as log
 use Rattle.nz_log.specs.declared.lits.Lit.{Lit}
 use Rattle.nz_search.specs.declared.note.Note.{Note}
-use Rattle.nz_search.specs.declared.note.Note.TheVariants.{Start, Atom, Bound, Form, Told}
+use Rattle.nz_search.specs.declared.note.Note.TheVariants.{Start, Atom, Bound, Form, Under, Told}
 use Rattle.nz_log.specs.Atoms.{IsLitIn, literal_in}
 
 -- the atoms that these lines name, in their order
@@ -17,24 +16,13 @@ noted_atoms (NoteLine (Start start) ∷ lines) = noted_atoms lines
 noted_atoms (NoteLine (Atom t) ∷ lines) = log.TheVariants.Term t ∷ noted_atoms lines
 noted_atoms (NoteLine (Bound b) ∷ lines) = log.TheVariants.AtMost b ∷ noted_atoms lines
 noted_atoms (NoteLine (Form atom) ∷ lines) = noted_atoms lines
+noted_atoms (NoteLine (Under literals) ∷ lines) = noted_atoms lines
 noted_atoms (NoteLine (Told atom sign) ∷ lines) = noted_atoms lines
 noted_atoms (UnitLine entry ∷ lines) = noted_atoms lines
 
 -- these atoms of a log are those that the lines name, in their order
 abbrev pub AreNotedIn : List log.Atom → List (WorkLine Note) → List ℕ → Type 0
 AreNotedIn all lines atoms = map (slice_get all) atoms ≡ map Some (noted_atoms lines)
-
--- a note of what the simplex begins with, of an atom, or of a form
-abbrev pub IsBeginning : WorkLine Note → Type 0
-IsBeginning (NoteLine (Start start)) = ⊤
-IsBeginning (NoteLine (Atom t)) = ⊤
-IsBeginning (NoteLine (Bound b)) = ⊤
-IsBeginning (NoteLine (Form atom)) = ⊤
-IsBeginning (NoteLine (Told atom sign)) = ⊥
-IsBeginning (UnitLine entry) = ⊥
-
-abbrev pub AreBeginnings : List (WorkLine Note) → Type 0
-AreBeginnings lines = AllByRecursion IsBeginning lines
 
 -- the number of an atom
 abbrev pub number_of : List ℕ → ℕ → Option ℕ

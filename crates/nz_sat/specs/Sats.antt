@@ -1,17 +1,20 @@
 -- A search over clauses of a log, as its callers see it.
-use Rattle.std.specs.Prelude.{◌≡◌, ℕ, ◌++◌, Bool, All, Contains, List, map, filter, nat_le, Option, Some, None, IsSome, option_map, slice_index_or}
+use Rattle.std.specs.Prelude.{◌≡◌, ℕ, ◌++◌, Bool, All, Contains, List, [], map, filter, nat_le, Option, Some, None, IsSome, option_map, slice_index_or}
 use Rattle.nz_spec.specs.terms.Table.{Node, IsTable}
 use Rattle.nz_spec.specs.search.Decide.{asserted_terms}
-use Rattle.nz_spec.specs.search.Legal.{Task}
+use Rattle.nz_spec.specs.search.Search.{Task, Search}
+use Rattle.nz_spec.specs.search.Work.{WorkList}
 use Rattle.nz_spec.specs.clauses.Literal.{are_same_sign, StandOnce}
 use Rattle.nz_log.specs.declared.lits.Lit.{Lit}
 use Rattle.nz_log.specs.Atoms.{literal_in}
 use Rattle.nz_log.specs.Lits.{negated_lit}
 use Rattle.nz_log.specs.Logs.{LogState, IsLive, literals_at, level_at}
 use Rattle.nz_log.specs.Sound.{IsLog}
+use Rattle.nz_search.specs.declared.note.Note.{Note}
+use Rattle.nz_search.specs.Standing.{search_after}
 use Rattle.nz_search.specs.Theories.{IsBoundIn}
 use Rattle.nz_sat.specs.declared.clauses.Held.{Held}
-use Rattle.nz_sat.specs.Numbers.{IsAtomAt}
+use Rattle.nz_sat.specs.Numbers.{IsAtomAt, numbered}
 
 -- The clauses, by the numbers of atoms in the log the truths that the last search left, and the theory.
 pub record SatState (T : Type 0) : Type 0 where
@@ -53,6 +56,9 @@ module _ {T : Type 0} where
 
 -- ---- Clauses
 
+abbrev pub ids : List Held → List ℕ
+ids held = map (λ (h : Held). h.id) held
+
 -- each clause is live in the log, with its level
 abbrev pub AreHeld : LogState → List Held → Type 0
 AreHeld log held = All (λ (h : Held). IsLive log h.id × (level_at log h.id ≡ h.level)) held
@@ -75,6 +81,26 @@ pub record HoldsMore (log : LogState) (old new : List Held) : Type 0 where
   pub joined : new ≡ old ++ learned
   pub held : AreHeld log new
 
+-- each clause that a list says was learned is held, with the same literals by the numbers of these atoms
+abbrev pub HoldsLearned : LogState → List ℕ → List Held → WorkList Note → Type 0
+HoldsLearned log atoms held work =
+    (ns : List Node) → All (λ (c : List (ℕ × Bool)). (i : ℕ) × Contains (ids held) i × (map (numbered atoms) (literals_at log i) ≡ c)) (search_after ns work).learned
+
+-- Of the search that a list says goes on nothing is decided or told yet, and what was learned before is held.
+pub record HasBegun (log : LogState) (atoms : List ℕ) (held : List Held) (work : WorkList Note) : Type 0 where
+  pub decided : (ns : List Node) → (search_after ns work).decided ≡ []
+  pub told : (ns : List Node) → (search_after ns work).told ≡ []
+  pub learned : HoldsLearned log atoms held work
+
+-- Two searches of a list are the same but for what is decided, learned and told.
+pub record IsSameSearch (old new : Search) : Type 0 where
+  pub atoms : new.atoms ≡ old.atoms
+  pub forms : new.forms ≡ old.forms
+  pub begun : new.begun ≡ old.begun
+  pub branches : new.branches ≡ old.branches
+  pub found : new.found ≡ old.found
+  pub under : new.under ≡ old.under
+
 -- ---- What a search is asked
 
 -- no literal of these is the negation of one of them
@@ -87,11 +113,12 @@ pub record AreNamed (log : LogState) (held : List Held) (assumed : List Lit) (at
   pub assumed_named : All (λ (l : Lit). Contains atoms l.atom) assumed
   pub once : StandOnce atoms
 
--- The task of a search: over a table that has what the atoms name, and levels of assertions, of which all are asserted.
-pub record IsAsked (ns : List Node) (levels : List (List ℕ)) (log : LogState) (atoms : List ℕ) (assumed : List Lit) (q : Task) : Type 0 where
+-- The task of a search: over a table that has what the atoms name, and levels of assertions, of which all are asserted. The list says that the search
+-- goes under just the assumed literals.
+pub record IsAsked (ns : List Node) (levels : List (List ℕ)) (log : LogState) (atoms : List ℕ) (assumed : List Lit) (work : WorkList Note) (q : Task) : Type 0 where
   pub table : IsTable ns
   pub within : All (IsAtomAt ns log.atoms) atoms
   pub named : All (λ (l : Lit). Contains atoms l.atom) assumed
   pub order : IsLog ns levels log
   pub asserted : q.asserted ≡ asserted_terms ns levels
-  pub assumed_literals : q.assumed ≡ map (literal_in ns log.atoms) assumed
+  pub under : (search_after ns work).under ≡ map (literal_in ns log.atoms) assumed

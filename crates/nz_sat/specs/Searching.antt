@@ -14,17 +14,13 @@ use Rattle.nz_sat.specs.declared.analyze.Learned.{Learned}
 use Rattle.nz_sat.specs.declared.search.Search.{Search}
 use Rattle.nz_sat.specs.declared.trail.Assigned.{Assigned}
 use Rattle.nz_log.specs.Sound.{IsLog}
-use Rattle.nz_search.specs.Standing.{search_after}
 use Rattle.nz_sat.specs.Trails.{GoesOn, IsTrueOn, assigned, below, decided, depth, implied, with_entry}
 use Rattle.nz_sat.specs.Clauses.{HasReasonOf, IsAssumed, IsFalsified, IsListed, IsOfSize, IsOpen, Waits, ids_of}
 use Rattle.nz_log.specs.Growth.{Grows}
 use Rattle.nz_sat.specs.Conflicts.{AreUnmarked, IsFalsifiedUnder}
 use Rattle.nz_sat.specs.Numbers.{IsAtomAt, number_of, numbered}
-use Rattle.nz_sat.specs.Sats.{AreConsistent, AreHeld, AreOn, HoldsMore}
+use Rattle.nz_sat.specs.Sats.{AreConsistent, AreHeld, AreOn, HoldsLearned, HoldsMore, ids}
 use Rattle.nz_sat.specs.Theories.{AddsLines, EndsLegally, IsMet, IsOfSearch, IsTrailOn, Keeps, TellsTrail, TheoryState, told_lits}
-
-abbrev pub ids : List Held → List ℕ
-ids held = map (λ (h : Held). h.id) held
 
 -- Each clause that is held is in the index, and no other; clauses are over its atoms, which have their places in each table; its trail is over
 -- them, and the reasons on it are clauses that are held.
@@ -55,7 +51,7 @@ WereOpen log held es = (k : ℕ) → k < depth es → AreOpen log held (below k 
 -- The work list tells the trail, and what was learned: clauses that are held.
 pub record IsNoted (log : LogState) (held : List Held) (s : Search) (work : WorkList Note) : Type 0 where
   pub trail : TellsTrail log s.atoms s.bounds s.trail.entries work
-  pub learned : (ns : List Node) → All (λ (c : List (ℕ × Bool)). (i : ℕ) × Contains (ids held) i × (map (numbered s.atoms) (literals_at log i) ≡ c)) (search_after ns work).learned
+  pub learned : HoldsLearned log s.atoms held work
 
 -- The search went back, to a level, from one that the work list tells.
 pub record WasNoted (log : LogState) (held : List Held) (s : Search) (work : WorkList Note) : Type 0 where
@@ -125,6 +121,7 @@ pub record Advances {A : Type 0} (theory theory' : TheoryState) (s : Search) (es
   pub sound : StaysInOrder theory.over s.atoms log log'
   pub holds_more : HoldsMore log' held held'
   pub named : AreOn log s.atoms held → AreOn log' s.atoms held'
+  pub learned : HoldsLearned log s.atoms held work → HoldsLearned log' s.atoms held' work'
   pub adds : AddsLines IsOfSearch work work'
   pub ends : EndsLegally theory theory' log s.atoms (told_lits s.bounds s.trail.entries) es work work' result
 
@@ -241,13 +238,14 @@ pub record Runs (log : LogState) (held : List Held) (assumed : List Lit) (start 
   pub assumed_only : All (IsAssumed assumed) s.trail.entries
   pub hold : All (IsTrueOn (below 0 s.trail.entries)) assumed
 
--- Each clause is open, each assumed literal is true, and each atom is decided.
-pub record Satisfies (log : LogState) (held : List Held) (assumed : List Lit) (atoms : List ℕ) (s : Search) : Type 0 where
+-- Each clause is open, each assumed literal is true, and each atom is decided, with the work noted.
+pub record Satisfies (log : LogState) (held : List Held) (assumed : List Lit) (atoms : List ℕ) (s : Search) (work : WorkList Note) : Type 0 where
   pub search : IsSearch log held s
   pub all_open : AreOpen log held s.trail.entries
   pub same : s.atoms ≡ atoms
   pub hold : All (IsTrueOn (below 0 s.trail.entries)) assumed
   pub all_decided : All (λ (t : ℕ). IsSome (assigned s.trail.entries t)) s.atoms
+  pub noted : IsNoted log held s work
 
 -- An atom is decided, and noted.
 pub record Decides (s s' : Search) (atom : ℕ) (work work' : WorkList Note) : Type 0 where

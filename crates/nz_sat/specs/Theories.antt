@@ -2,10 +2,12 @@
 use Rattle.std.specs.Prelude.{◌≡◌, ℕ, ◌≤◌, ◌++◌, ◌∷◌, Bool, true, false, All, Contains, List, [], Option, None, Some, IfOk, IfSome, OnOk, Result, drop, filter, length, map, slice_get, take, unwrap_or, ⊤}
 use Rattle.std.specs.List.{AllByRecursion}
 use Rattle.nz_spec.specs.simplex.Bland.{Point}
-use Rattle.nz_spec.specs.search.Legal.{MayTell, Task, ToldLiteral, at_first, literal_by, no_point, Lead}
+use Rattle.nz_spec.specs.search.Legal.{MayTell, Lead}
+use Rattle.nz_spec.specs.search.Notes.{told_atom}
+use Rattle.nz_spec.specs.search.Search.{Task, ToldLiteral, at_first, literal_by, no_point}
 use Rattle.nz_spec.specs.clauses.Literal as spec
 use Rattle.nz_spec.specs.terms.Table.{Node}
-use Rattle.nz_spec.specs.search.Work.{PivotEntry, DecisionEntry, LearnedEntry, NoteLine, UnitLine, WorkLine, WorkList}
+use Rattle.nz_spec.specs.search.Work.{PivotEntry, DecisionEntry, LearnedEntry, BranchEntry, FoundEntry, NoteLine, UnitLine, WorkLine, WorkList}
 use Rattle.nz_log.specs.declared.atoms.Atom.{Atom}
 use Rattle.nz_log.specs.declared.atoms.Atom.TheVariants.{Term, AtMost}
 use Rattle.nz_log.specs.declared.lits.Lit.{Lit}
@@ -113,19 +115,27 @@ IsOfTheory (NoteLine (note.TheVariants.Start start)) = ⊥
 IsOfTheory (NoteLine (note.TheVariants.Atom t)) = ⊥
 IsOfTheory (NoteLine (note.TheVariants.Bound b)) = ⊥
 IsOfTheory (NoteLine (note.TheVariants.Form atom)) = ⊥
+IsOfTheory (NoteLine (note.TheVariants.Under literals)) = ⊥
 IsOfTheory (NoteLine (note.TheVariants.Told atom sign)) = ⊤
 IsOfTheory (UnitLine (DecisionEntry atom sign)) = ⊥
 IsOfTheory (UnitLine (LearnedEntry keep clause)) = ⊥
 IsOfTheory (UnitLine (PivotEntry leaves enters)) = ⊤
+IsOfTheory (UnitLine (BranchEntry atom)) = ⊥
+IsOfTheory (UnitLine (FoundEntry goal value)) = ⊥
 
--- a line that comes of a search: a unit, or what the theory was told
+-- a line that comes of a search: a decision, a learned clause, a pivot, or what the theory was told
 abbrev pub IsOfSearch : WorkLine Note → Type 0
 IsOfSearch (NoteLine (note.TheVariants.Start start)) = ⊥
 IsOfSearch (NoteLine (note.TheVariants.Atom t)) = ⊥
 IsOfSearch (NoteLine (note.TheVariants.Bound b)) = ⊥
 IsOfSearch (NoteLine (note.TheVariants.Form atom)) = ⊥
+IsOfSearch (NoteLine (note.TheVariants.Under literals)) = ⊥
 IsOfSearch (NoteLine (note.TheVariants.Told atom sign)) = ⊤
-IsOfSearch (UnitLine entry) = ⊤
+IsOfSearch (UnitLine (DecisionEntry atom sign)) = ⊤
+IsOfSearch (UnitLine (LearnedEntry keep clause)) = ⊤
+IsOfSearch (UnitLine (PivotEntry leaves enters)) = ⊤
+IsOfSearch (UnitLine (BranchEntry atom)) = ⊥
+IsOfSearch (UnitLine (FoundEntry goal value)) = ⊥
 
 -- Lines of a kind are added, and the limit stays.
 pub record AddsLines (P : WorkLine Note → Type 0) (old new : WorkList Note) : Type 0 where
@@ -134,15 +144,15 @@ pub record AddsLines (P : WorkLine Note → Type 0) (old new : WorkList Note) : 
   pub each : AllByRecursion P more
 
 -- an entry that the theory was told, as a work list has it
-abbrev pub told_literal : List ℕ → Assigned → ToldLiteral
-told_literal atoms e = record { depth = e.level; atom = unwrap_or (number_of atoms e.literal.atom) 0; sign = e.literal.sign }
+abbrev pub told_literal : List Node → List Atom → Assigned → ToldLiteral
+told_literal ns all e = record { depth = e.level; literal = literal_in ns all e.literal }
 
 -- The work list, over each table, tells the atoms, the decisions of the trail, and the bounds on it that a theory was told, each behind as many
 -- decisions as its level is.
 pub record TellsTrail (log : LogState) (atoms : List ℕ) (bounds : Bounds) (es : List Assigned) (work : WorkList Note) : Type 0 where
   pub named : (ns : List Node) → (search_after ns work).atoms ≡ map (atom_literal ns log.atoms) atoms
   pub decided : (ns : List Node) → (search_after ns work).decided ≡ map (λ (e : Assigned). numbered atoms e.literal) (filter is_decision es)
-  pub told : (ns : List Node) → (search_after ns work).told ≡ map (told_literal atoms) (told_on bounds es)
+  pub told : (ns : List Node) → (search_after ns work).told ≡ map (told_literal ns log.atoms) (told_on bounds es)
 
 -- The lines are legal and lead to a point, at which a theory stands that was told these literals.
 pub record StandsAt (IsAt : Standing) (ns : List Node) (q : Task) (work : WorkList Note) (ls : List spec.Literal) : Type 0 where
@@ -153,7 +163,7 @@ pub record StandsAt (IsAt : Standing) (ns : List Node) (q : Task) (work : WorkLi
 -- Where the theory stands where the old list leads, the new one is legal, and leads to where the theory stands then, or stopped.
 abbrev pub EndsLegally : {A : Type 0} → (old new : TheoryState) → LogState → List ℕ → List Lit → List Assigned → (work work' : WorkList Note) → Result A Stop → Type 0
 EndsLegally old new log atoms told es work work' result = (ns : List Node) (levels : List (List ℕ)) (assumed : List Lit) (q : Task) → old.over ns → All (IsAssumed assumed) es
-    → IsAsked ns levels log atoms assumed q → StandsAt (old.at ns) ns q work (clause_in ns log.atoms told) → Ends (new.at ns) ns q work' result
+    → IsAsked ns levels log atoms assumed work q → StandsAt (old.at ns) ns q work (clause_in ns log.atoms told) → Ends (new.at ns) ns q work' result
 
 -- A theory is told bounds of a trail, from a place on and up to another one, and answers a clause that says that not all entries are true, if it sees
 -- that.
@@ -180,5 +190,5 @@ pub record TellsOne (theory theory' : TheoryState) (log log' : LogState) (atoms 
   pub sound : (ls : List Lit) (ns : List Node) (levels : List (List ℕ)) → theory.has_told ls → theory.over ns → AreWithin ns log.atoms (ls ++ literal ∷ []) → IsLog ns levels log → IsLog ns levels log'
   pub noted : IfOk result (λ found. work' ≡ work_told work (told_line atoms literal) found)
   pub adds : AddsLines IsOfTheory work work'
-  pub ends : (ns : List Node) (q : Task) → MayTell q (search_after ns work) (numbered atoms literal).0 literal.sign
+  pub ends : (ns : List Node) (q : Task) → MayTell q (search_after ns work) (told_atom (numbered atoms literal).0 literal.sign false)
       → literal_by (search_after ns work).atoms (numbered atoms literal) ≡ literal_in ns log.atoms literal → Stands (theory.at ns) ns q work → Ends (theory'.at ns) ns q work' result

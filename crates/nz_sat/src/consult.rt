@@ -15,7 +15,7 @@ use nz_log::laws::{clauses_are_true, tells_lits};
 use nz_log::{Atom, AtomId, ClauseId, Lit, Log};
 use nz_search::{Note, Stop, Theory};
 use nz_spec::derivation::negation_is_other;
-use nz_spec::work::pivots_are_legal;
+use nz_spec::work::{legal_work_does_not_repeat, legal_work_goes_on, pivots_are_legal};
 use std::alloc::Global;
 
 /// Which atoms are bounds, and up to which place of a trail a theory was told those.
@@ -115,6 +115,7 @@ fn tell_one<T: Theory>(
         log.old log.new atoms.now literal work.old work.new result }
     ensures unspent { IfErr result (λ e. e ≡ stop.Spent → ⊥) }
 {
+    legal_work_goes_on();
     match theory.assert_lit(log, literal) {
         Ok(Some(clash)) => Ok(Some(clash)),
         Ok(None) => {
@@ -150,6 +151,7 @@ fn tell<T: Theory>(
     tells_lits();
     clauses_are_true();
     negation_is_other();
+    legal_work_does_not_repeat();
     while bounds.told < trail.len() {
         let literal = trail.entry(bounds.told).literal;
         if bounds.has(literal.atom) {
@@ -183,6 +185,7 @@ pub fn consult<T: Theory>(
     ensures spent { IfErr result (λ e. e ≡ stop.Spent → IsSpent work.new) }
 {
     pivots_are_legal();
+    legal_work_goes_on();
     let clash = tell(log, atoms, trail, bounds, theory, work)?;
     if clash.is_some() {
         return Ok(clash);

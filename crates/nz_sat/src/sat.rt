@@ -1,6 +1,7 @@
 //! The search as its callers see it.
 ghost use Rattle.std.specs.Prelude.{◌≡◌, ℕ, ◌≤◌, ◌∷◌, ◌++◌, [], All, List, nat_le, None, IfErr, IfOk, IfSome, OnErr, OnOk};
-ghost use Rattle.nz_spec.specs.search.Legal.{Task};
+ghost use Rattle.nz_spec.specs.search.Places.{AreAllTold};
+ghost use Rattle.nz_spec.specs.search.Search.{Task};
 ghost use Rattle.nz_spec.specs.terms.Table.{Node};
 ghost use Rattle.nz_spec.specs.search.Work.{IsSpent, unit_count};
 ghost use Rattle.nz_log.specs.declared.lits.Lit.{Lit};
@@ -13,8 +14,8 @@ ghost use Rattle.nz_log.specs.Sound.{IsLog};
 ghost use Rattle.nz_search.specs.Standing.{Ends, Stands, search_after};
 ghost use Rattle.nz_log.specs.Growth.{Grows};
 ghost use Rattle.nz_sat.specs.Conflicts.{Refutes};
-ghost use Rattle.nz_sat.specs.Numbers.{AreBeginnings, AreNotedIn, IsAtomAt, noted_atoms};
-ghost use Rattle.nz_sat.specs.Sats.{AreConsistent, AreHeld, AreNamed, AreOn, HoldsMore, IsAsked, IsSatisfied, IsTheoryMet, held_of, held_up_to, literal_truth};
+ghost use Rattle.nz_sat.specs.Numbers.{AreNotedIn, IsAtomAt, noted_atoms};
+ghost use Rattle.nz_sat.specs.Sats.{AreConsistent, AreHeld, AreNamed, AreOn, HasBegun, HoldsLearned, HoldsMore, IsAsked, IsSameSearch, IsSatisfied, IsTheoryMet, held_of, held_up_to, literal_truth};
 
 use crate::clauses::Held;
 use crate::search::Search;
@@ -88,7 +89,9 @@ impl<T: Theory> Sat<T> {
     /// # Errors
     ///
     /// `Spent` where one more unit was wanted than the work list has, `Wide` where the theory stops at a number, and `Memory`. Then the clauses that
-    /// were learned are kept, the search has no truths, and nothing is known of what the theory was told.
+    /// were learned are kept, and nothing is known of what the theory was told.
+    ///
+    /// Where it answers a clause or an error, the search has no truths.
     pub fn solve(
         &mut self,
         log: &mut Log,
@@ -101,16 +104,22 @@ impl<T: Theory> Sat<T> {
         requires named { AreNamed log.old self.old.clauses assumed.now atoms.now }
         requires told_terms { AreToldAtoms log.old atoms.now }
         requires consistent { AreConsistent assumed.now }
-        // Atoms and forms are noted, and nothing else yet.
-        requires notes { AreBeginnings work.old.lines }
+        // Nothing is decided or told yet, and what was learned in the list before is held.
+        requires begun { HasBegun log.old atoms.now self.old.clauses work.old }
         requires of { T.is_of self.old.theory log.old.atoms atoms.now }
         requires untold { T.has_told self.old.theory [] }
         ensures satisfied { IfOk result (λ r. r ≡ None → IsSatisfied log.new self.new assumed.now atoms.now) }
         // The theory was told just the bounds that are true, and some values meet them.
         ensures feasible { IfOk result (λ r. r ≡ None → IsTheoryMet log.new (T.has_told self.new.theory) (T.is_feasible self.new.theory) self.new atoms.now) }
+        ensures all_told { IfOk result (λ r. r ≡ None → (ns : List Node) → AreAllTold (search_after ns work.new)) }
         ensures refuted { IfOk result (λ r. IfSome r (λ id. IsLive log.new id × Refutes assumed.now (literals_at log.new id))) }
+        // No truth is left but those that it answers.
+        ensures no_truths { IfOk result (λ r. IfSome r (λ _. self.new.truths ≡ [])) }
+        ensures stopped { OnErr result (self.new.truths ≡ []) }
         ensures grows { Grows log.old log.new }
         ensures held { HoldsMore log.new self.old.clauses self.new.clauses }
+        // Each clause that the list says was learned is held, whatever comes of it.
+        ensures learned { HoldsLearned log.new atoms.now self.new.clauses work.new }
         // What was learned is over the same atoms.
         ensures named { AreOn log.new atoms.now self.new.clauses }
         ensures over { (ns : List Node) → T.is_over self.old.theory ns → T.is_over self.new.theory ns }
@@ -118,21 +127,23 @@ impl<T: Theory> Sat<T> {
         // Where the atoms are over a table in which what the theory knows of terms is so, the log stays in order.
         ensures sound { (ns : List Node) (levels : List (List ℕ)) → T.is_over self.old.theory ns → All (IsAtomAt ns log.old.atoms) atoms.now → IsLog ns levels log.old → IsLog ns levels log.new }
         // Where the notes are legal and lead to where the theory stands, so is the whole list, and leads to where it stands at the end.
-        ensures ends { (ns : List Node) (levels : List (List ℕ)) (q : Task) → T.is_over self.old.theory ns → IsAsked ns levels log.old atoms.now assumed.now q
+        ensures ends { (ns : List Node) (levels : List (List ℕ)) (q : Task) → T.is_over self.old.theory ns → IsAsked ns levels log.old atoms.now assumed.now work.old q
             → Stands (T.is_at self.old.theory ns) ns q work.old → Ends (T.is_at self.new.theory ns) ns q work.new result }
-        // What the notes name is in each table that had it before; no atom is named that wasn't, and no form joins.
+        // What the notes name is in each table that had it before; no atom is named that wasn't, no form joins, and the search goes on under the same
+        // literals.
         ensures table { (ns : List Node) → AreNotedWithin ns work.old.lines → AreNotedWithin ns work.new.lines }
         ensures notes { noted_atoms work.new.lines ≡ noted_atoms work.old.lines }
-        ensures forms { (ns : List Node) → (search_after ns work.new).forms ≡ (search_after ns work.old).forms }
+        ensures stays { (ns : List Node) → IsSameSearch (search_after ns work.old) (search_after ns work.new) }
         ensures limit { work.new.limit ≡ work.old.limit }
         ensures within { unit_count work.new.lines ≤ work.new.limit }
         ensures spent { IfErr result (λ e. e ≡ stop.Spent → IsSpent work.new) }
     {
         self.truths.clear();
+        // No more units are used than the limit, before and after.
+        let _free = work.left();
         let alloc = *self.clauses.allocator();
         let mut search = Search::new(alloc, log, &self.clauses, atoms)?;
         let refuted = search.run(log, &mut self.clauses, &mut self.theory, assumed, work);
-        // No more units are used than the limit.
         let _left = work.left();
         let refuted = refuted?;
         if refuted.is_none() {

@@ -1,5 +1,5 @@
 //! The search: decisions, what follows from them, and what each conflict teaches.
-ghost use Rattle.std.specs.Prelude.{◌≡◌, ℕ, ◌<◌, ◌≤◌, ◌+◌, ◌++◌, ◌∷◌, [], All, Contains, List, None, length, map, min, take, IfErr, IfOk, IfSome, IsSome, OnErr, OnOk};
+ghost use Rattle.std.specs.Prelude.{◌≡◌, ℕ, ◌<◌, ◌≤◌, ◌+◌, ◌++◌, ◌∷◌, [], All, Contains, List, None, length, map, min, take, vec_capacity, vec_len, IfErr, IfOk, IfSome, IsSome, OnErr, OnOk};
 ghost use Rattle.nz_spec.specs.simplex.Bland.{Point};
 ghost use Rattle.nz_spec.specs.terms.Form as form;
 ghost use Rattle.nz_spec.specs.clauses.Literal as spec;
@@ -33,6 +33,7 @@ use nz_log::laws::{clauses_are_true, tells_lits};
 use nz_log::{AtomId, ClauseId, Lit, Log};
 use nz_search::{Note, Stop, Theory};
 use nz_spec::derivation::negation_is_other;
+use nz_spec::work::legal_work_goes_on;
 use std::alloc::Global;
 
 /// A search under way.
@@ -279,22 +280,26 @@ impl Search {
         )
     }
 
-    /// Notes a learned clause.
+    /// Notes a learned clause, once there is room to hold it.
     fn note_learned(
         &self,
-        alloc: Global,
         log: &Log,
+        held: &mut Vec<Held>,
         work: &mut Work<Note>,
         learned: Learned,
     ) -> Result<(), Stop>
         requires live { IsLive log.now learned.clause }
         requires named { All (λ l. Contains self.now.atoms l.atom) (literals_at log.now learned.clause) }
+        ensures held { held.new.items ≡ held.old.items }
+        ensures room { OnOk result (vec_len held.new < vec_capacity held.new) }
         ensures noted { OnOk result (work.new ≡ with_line work.old (learned_line self.now.atoms log.now learned)) }
         ensures free { OnOk result (unit_count work.old.lines < work.old.limit) }
         ensures err { OnErr result (work.new ≡ work.old) }
         ensures spent { IfErr result (λ e. e ≡ stop.Spent → IsSpent work.new) }
         ensures narrow { IfErr result (λ e. OnWide e (λ _. ⊥)) }
     {
+        held.reserve(1)?;
+        let alloc = *held.allocator();
         let lits = by_numbers(alloc, &self.atoms, log.clause(learned.clause))?;
         note(
             work,
@@ -305,21 +310,23 @@ impl Search {
         )
     }
 
-    /// Adds a clause of the log to those that are held.
+    /// Adds a clause of the log to those that are held, which have room for it.
     fn hold(&mut self, log: &Log, held: &mut Vec<Held>, id: ClauseId) -> Result<(), Memory>
         requires live { IsLive log.now id }
         requires held { AreHeld log.now held.old.items }
         requires within { All (λ l. IsWithin l self.old.index) (literals_at log.now id) }
+        requires room { vec_len held.old < vec_capacity held.old }
         ensures rest { self.new ≡ record self.old { index = self.new.index } }
         ensures more { HoldsMore log.now held.old.items held.new.items }
-        ensures held { OnOk result (held.new.items ≡ held.old.items ++ held_of log.now id ∷ []) }
+        ensures held { held.new.items ≡ held.old.items ++ held_of log.now id ∷ [] }
         ensures named { (atoms : List ℕ) → All (λ l. Contains atoms l.atom) (literals_at log.now id) → AreOn log.now atoms held.old.items → AreOn log.now atoms held.new.items }
         ensures added { OnOk result (Adds log.now id self.old.index self.new.index) }
     {
         held.push(Held {
             id,
             level: log.level(id),
-        })?;
+        })
+        .unwrap();
         self.index.add(log, id)
     }
 
@@ -370,6 +377,7 @@ impl Search {
         tells_lits();
         clauses_are_true();
         negation_is_other();
+        legal_work_goes_on();
         let alloc = *held.allocator();
         let learned = learned_clause(
             alloc,
@@ -379,7 +387,7 @@ impl Search {
             &mut self.seen,
             falsified,
         )?;
-        self.note_learned(alloc, log, work, learned)?;
+        self.note_learned(log, held, work, learned)?;
         self.hold(log, held, learned.clause)?;
         Ok(self.go_back(theory, learned))
     }

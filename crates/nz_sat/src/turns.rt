@@ -14,6 +14,7 @@ use crate::search::Search;
 use nz_base::Work;
 use nz_log::{AtomId, ClauseId, Lit, Log};
 use nz_search::{Note, Stop, Theory};
+use nz_spec::work::legal_work_goes_on;
 
 impl Search {
     /// Learns from a clause in which each literal is false, one of them of the last level, makes true what the clauses make true with that, and
@@ -98,6 +99,7 @@ impl Search {
         ensures settled { IfOk result (λ r. r ≡ None → SettlesOn log.new held.new.items self.old self.new work.old work.new) }
         ensures refuted { IfOk result (λ r. IfSome r (λ id. IsLive log.new id × ((assumed : List Lit) → All (IsAssumed assumed) self.old.trail.entries → Refutes assumed (literals_at log.new id)))) }
     {
+        legal_work_goes_on();
         let from = self.decide(work, atom)?;
         self.settle(log, held, theory, work, from)
     }
@@ -149,7 +151,7 @@ impl Search {
         requires told { T.has_told theory.old [] }
         ensures steps { Steps (state_of T.is_over T.has_told T.is_feasible T.is_of T.is_at theory.old) (state_of T.is_over T.has_told T.is_feasible T.is_of T.is_at theory.new)
             self.old (assumed_entries assumed.now) self.new log.old log.new held.old.items held.new.items work.old work.new result }
-        ensures satisfied { IfOk result (λ r. r ≡ None → Satisfies log.new held.new.items assumed.now self.old.atoms self.new) }
+        ensures satisfied { IfOk result (λ r. r ≡ None → Satisfies log.new held.new.items assumed.now self.old.atoms self.new work.new) }
         ensures refuted { IfOk result (λ r. IfSome r (λ id. IsLive log.new id × Refutes assumed.now (literals_at log.new id))) }
     {
         if let Some(refuted) = self.begin(log, held, theory, assumed, work)? {

@@ -1,8 +1,13 @@
 -- Problems for the search.
-use Rattle.std.specs.Prelude.{ℕ, List}
+use Rattle.std.specs.Prelude.{◌≡◌, ℕ, List}
+use Rattle.nz_spec.specs.search.Search.{at_first}
+use Rattle.nz_spec.specs.search.Work.{WorkList}
+use Rattle.nz_spec.specs.terms.Table.{Node}
 use Rattle.nz_log.specs.Leveled.{AreToldAtoms}
 use Rattle.nz_log.specs.Logs.{LogState}
+use Rattle.nz_search.specs.declared.note.Note.{Note}
 use Rattle.nz_search.specs.declared.theory.NoNumbers.{NoNumbers}
+use Rattle.nz_search.specs.Standing.{search_after}
 use Rattle.nz_sat.specs.Sats.{SatState, AreHeld, AreOn}
 
 pub record HeldState : Type 0 where
@@ -15,3 +20,7 @@ pub record IsPosed (log : LogState) (sat : SatState NoNumbers) (atoms : List ℕ
   pub held : AreHeld log sat.clauses
   pub named : AreOn log atoms sat.clauses
   pub told : AreToldAtoms log atoms
+
+-- the list names atoms alone
+abbrev pub NamesAlone : WorkList Note → Type 0
+NamesAlone work = (ns : List Node) → search_after ns work ≡ record at_first { atoms = (search_after ns work).atoms }

@@ -7,8 +7,9 @@ ghost use Rattle.nz_spec.specs.terms.Table.{HasItsArguments};
 ghost use Rattle.nz_spec.specs.terms.Term.{head_fits};
 ghost use Rattle.nz_term.specs.Heads.{head_of};
 ghost use Rattle.nz_log.specs.Logs.{IsLive};
-ghost use Rattle.nz_sat.specs.Numbers.{AreBeginnings, AreNotedIn};
+ghost use Rattle.nz_sat.specs.Numbers.{AreNotedIn};
 ghost use Rattle.nz_sat.specs.Sats.{AreConsistent};
+ghost use Rattle.nz_sat_tests.specs.Problems.{NamesAlone};
 
 use nz_base::{Memory, Text, Work};
 use nz_log::{Atom, AtomId, ClauseId, Lit, Literal, Log};
@@ -239,7 +240,7 @@ fn note_question(
 ) -> Result<(), Memory>
     requires empty { work.old.lines ≡ [] }
     ensures noted { OnOk result (AreNotedIn log.now.atoms work.new.lines atoms.now) }
-    ensures notes { OnOk result (AreBeginnings work.new.lines) }
+    ensures notes { OnOk result (NamesAlone work.new) }
     ensures once { OnOk result (StandOnce atoms.now) }
     ensures among { OnOk result (All (λ l. Contains atoms.now l.atom) assumed.now) }
     ensures consistent { OnOk result (AreConsistent assumed.now) }
@@ -256,7 +257,7 @@ fn note_question(
 fn note_atoms(log: &Log, atoms: &[AtomId], work: &mut Work<Note>) -> Result<bool, Memory>
     requires empty { work.old.lines ≡ [] }
     ensures noted { IfOk result (λ b. OnTrue b (AreNotedIn log.now.atoms work.new.lines atoms.now)) }
-    ensures notes { IfOk result (λ b. OnTrue b (AreBeginnings work.new.lines)) }
+    ensures notes { IfOk result (λ b. OnTrue b (NamesAlone work.new)) }
 {
     for atom in atoms {
         if log.atom_count() <= *atom {

@@ -1,10 +1,11 @@
 -- The answers to a check, by cases, and what a check is about.
-use Rattle.std.specs.Prelude.{⊤, ℕ, List, ◌++◌, map, flat_map}
+use Rattle.std.specs.Prelude.{⊤, ℕ, List, [], ◌++◌, map, flat_map}
 use Rattle.nz_spec.specs.terms.Term as spec
 use Rattle.nz_spec.specs.terms.Table.{Node, term_in}
 use Rattle.nz_spec.specs.terms.Order.{listing_order}
 use Rattle.nz_spec.specs.search.Decide.{asserted_terms}
-use Rattle.nz_spec.specs.search.Legal.{Task}
+use Rattle.nz_spec.specs.terms.FormOf.{number_in}
+use Rattle.nz_spec.specs.search.Search.{Task}
 use Rattle.nz_search.specs.declared.decide.Verdict.{Verdict}
 use Rattle.nz_search.specs.declared.decide.Verdict.TheVariants.{Sat, Unsat}
 use Rattle.nz_search.specs.declared.stop.Stop.{Stop}
@@ -39,6 +40,9 @@ abbrev pub task_in : List Node → List (List ℕ) → List TermLit → List spe
 task_in ns levels assumed earlier = record {
   asserted = asserted_terms ns levels;
   assumed = map (literal_of ns) assumed;
+  goals = [];
   listed = flat_map listing_order (asserted_terms ns levels ++ map (λ (l : TermLit). term_in ns l.term) assumed);
+  numbering = number_in ns;
   earlier = earlier;
+  earlier_goals = [];
 }

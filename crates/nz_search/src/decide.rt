@@ -23,7 +23,11 @@ pub trait Decide: Drop {
     ghost use Rattle.nz_spec.specs.terms.Term as spec;
     ghost use Rattle.nz_spec.specs.clauses.Literal.{AreTrueLiterals};
     ghost use Rattle.nz_spec.specs.search.Decide.{AreInTable, asserted_numbers, with_number, asserted_terms, IsFrontOfTable, AreModelValues};
-    ghost use Rattle.nz_spec.specs.search.Legal.{at_first, terms_known, IsDeadEnd, AreLegal};
+    ghost use Rattle.nz_spec.specs.search.Search.{at_first, terms_known};
+    ghost use Rattle.nz_spec.specs.search.Legal.{AreLegal, IsSpentLegally};
+    ghost use Rattle.nz_spec.specs.terms.Model.{IsUnsatisfiable};
+    ghost use Rattle.nz_spec.specs.clauses.Steps.{asserting};
+    ghost use Rattle.nz_spec.specs.terms.FormOf.{number_in};
     ghost use Rattle.nz_spec.specs.terms.Order.{HasCompanions};
     ghost use Rattle.nz_spec.specs.search.Places.{IsStoppedLegally};
     ghost use Rattle.nz_spec.specs.terms.Taken.{IsTakenBoolean};
@@ -104,13 +108,13 @@ pub trait Decide: Drop {
         requires consistent { AreConsistent assumed.now }
         ensures sat { IfOk result (λ v. IfSat v (AreModelValues terms.now (asserted_terms terms.now (levels self.old)) [])) }
         ensures sat_assumed { IfOk result (λ v. IfSat v (λ ps. AreTrueLiterals (assignment_by terms.now ps) (map (literal_of terms.now) assumed.now))) }
-        ensures unsat { IfOk result (λ v. OnUnsat v (IsDeadEnd (task_in terms.now (levels self.old) assumed.now []) at_first)) }
+        ensures unsat { IfOk result (λ v. OnUnsat v (IsUnsatisfiable (asserted_terms terms.now (levels self.old)) (map (literal_of terms.now) assumed.now))) }
         ensures derived { IfOk result (λ v. IfUnsat v (λ id. AreNegations assumed.now (clause self.new id))) }
 
         // Each step is one that a search may take there which may begin with what is kept, whatever comes of it.
         ensures legal { (ts : List spec.Term) → begins self.old ts → AreLegal (task_in terms.now (levels self.old) assumed.now ts) (noted_list terms.now work.new).lines }
         ensures named { AreNotedWithin terms.now work.new.lines }
-        ensures spent { IfErr result (λ s. OnSpent s (IsSpent work.new)) }
+        ensures spent { IfErr result (λ s. OnSpent s ((ts : List spec.Term) → begins self.old ts → IsSpentLegally (task_in terms.now (levels self.old) assumed.now ts) (noted_list terms.now work.new))) }
         ensures stopped { IfErr result (λ s. OnWide s (λ p. (ts : List spec.Term) → begins self.old ts → IsStoppedLegally (task_in terms.now (levels self.old) assumed.now ts) (noted_list terms.now work.new) (place_of terms.now p))) }
         ensures place_within { IfErr result (λ s. OnWide s (λ p. IsSiteWithin terms.now p.site)) }
         ensures limit { work.new.limit ≡ work.old.limit }
@@ -128,5 +132,5 @@ pub trait Decide: Drop {
     /// `Memory`.
     fn steps(&self, id: ClauseId) -> Result<Vec<Step<'_>>, Memory>
         requires derived { IsSome (clause self.now id) }
-        ensures derives { IfOk result (λ steps. (c : List TermLit) → clause self.now id ≡ Some c → Derives (asserted_terms (table self.now) (levels self.now)) (steps_of (table self.now) steps.items) (clause_of_terms (table self.now) c)) };
+        ensures derives { IfOk result (λ steps. (c : List TermLit) → clause self.now id ≡ Some c → Derives (number_in (table self.now)) (asserting (asserted_terms (table self.now) (levels self.now))) (steps_of (table self.now) steps.items) (clause_of_terms (table self.now) c)) };
 }

@@ -1,7 +1,7 @@
 //! Notes: the lines of a work list that are no units.
 use nz_delta::Delta;
 use nz_lin::{Bound, Part};
-use nz_term::TermId;
+use nz_term::{TermId, TermLit};
 
 /// The forms with which a search begins, and where the nonbasic ones stand; a basic one has no place.
 #[derive(Debug, Drop)]
@@ -21,6 +21,8 @@ pub enum Note {
     Bound(Bound),
     /// The sum that an atom bounds joins the forms of the simplex.
     Form { atom: usize },
+    /// A search begins, which goes under these literals.
+    Under(Vec<TermLit>),
     /// The simplex is told that an atom has this sign.
     Told { atom: usize, sign: bool },
 }

@@ -22,9 +22,8 @@ pub trait Theory: Drop {
     ghost use Rattle.nz_log.specs.Atoms.{AreWithin, Stay, literal_in};
     ghost use Rattle.nz_log.specs.Leveled.{AreTold};
     ghost use Rattle.nz_log.specs.Sound.{IsLog};
-    ghost use Rattle.nz_place.specs.Places.{IsPlaceIn};
     ghost use Rattle.nz_search.specs.Places.{OnWide};
-    ghost use Rattle.nz_search.specs.Theories.{AddsPivots, IsBoundIn, IsClash, Leads, MovesOn, told_after};
+    ghost use Rattle.nz_search.specs.Theories.{AddsPivots, IsBoundIn, IsClash, IsPlaceOfStep, Leads, MovesOn, told_after};
     ghost use Rattle.nz_log.specs.Growth.{Grows};
 
     /// It was told just these literals, the oldest first, and none of them was taken back.
@@ -60,7 +59,7 @@ pub trait Theory: Drop {
         // Where it wasn't refuted, a form that it bounds moves to the bound.
         ensures at { (ns : List Node) (fs : List (List Part)) (ls : List spec.Literal) (x : Point) → is_at self.old ns fs ls x → IfOk result (λ r. MovesOn (is_at self.new ns fs) fs ls (literal_in ns log.old.atoms literal) x r) }
         ensures place { (ns : List Node) (fs : List (List Part)) (ls : List spec.Literal) (x : Point) → let l = literal_in ns log.old.atoms literal in
-            is_at self.old ns fs ls x → IfErr result (λ e. OnWide e (IsPlaceIn ns fs (ls ++ l ∷ []) (moved_by fs l x))) }
+            is_at self.old ns fs ls x → IfErr result (λ e. OnWide e (IsPlaceOfStep ns fs (ls ++ l ∷ []) (moved_by fs l x))) }
         ensures grows { (ls : List Lit) → has_told self.old ls → AreTold log.old (ls ++ literal ∷ []) → Grows log.old log.new }
         // Over a table that has the terms of what it was told, the log stays in order.
         ensures sound { (ls : List Lit) (ns : List Node) (levels : List (List ℕ)) → has_told self.old ls → is_over self.old ns → AreWithin ns log.old.atoms (ls ++ literal ∷ []) → IsLog ns levels log.old → IsLog ns levels log.new }

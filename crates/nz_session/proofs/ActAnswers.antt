@@ -17,7 +17,7 @@ use Rattle.nz_script.specs.commands.Command.{Info, Command, pop_levels, reset, r
 use Rattle.nz_script.specs.commands.Script.{asked_of, outcome_of}
 use Rattle.nz_script.specs.laws.Sorts.{IsSortedState, StatesStaySorted, AssumptionsAreTaken}
 use Rattle.nz_script.specs.replies.Reply.{quiet, success, info, levels as levels_reply, echoed, unsupported, error, plain}
-use Rattle.nz_script.specs.replies.Right.{Context, IsRight, IsRightOutcome, done, effect, effect_of}
+use Rattle.nz_script.specs.replies.Right.{Context, IsRight, IsRightOutcome, may_want_memory, done, effect, effect_of}
 use Rattle.nz_base.specs.Errors.{error_of}
 use Rattle.nz_base.specs.declared.reply_errors.Error as fault
 use Rattle.nz_base.specs.declared.reply_errors.Error.TheVariants.{OutOfMemory}
@@ -76,11 +76,11 @@ pub record IsCheckAsked {E : Type 0} (levels : E → List (List ℕ)) (table : E
 
 -- ---- Errors
 
--- an error tells the rule that is broken, or want of memory
-error_right : (c : Context) (t : Tree) (ns : List Node) (l : Standing) (e : fault.Error) → IsLive ns l c.state → IfSome (rule_of e) (λ r. (s : State) → IsLive ns l s → outcome_of s t ≡ refused r)
-    → IsRight c (intact t) (error (error_of e)) plain
-error_right c t ns l OutOfMemory live h = inr (refl, refl)
-error_right c t ns l e live h = inl (subst (λ o. IsRightOutcome c o (error (error_of e)) plain) (sym (h c.state live)) (refl, refl))
+-- an error tells the rule that is broken, or want of memory where the command may be so answered
+error_right : (c : Context) (t : Tree) (ns : List Node) (l : Standing) (e : fault.Error) → IsLive ns l c.state → (e ≡ OutOfMemory → may_want_memory (outcome_of c.state t) ≡ true)
+    → IfSome (rule_of e) (λ r. (s : State) → IsLive ns l s → outcome_of s t ≡ refused r) → IsRight c (intact t) (error (error_of e)) plain
+error_right c t ns l OutOfMemory live wants h = inr (wants refl, (refl, refl))
+error_right c t ns l e live wants h = inl (subst (λ o. IsRightOutcome c o (error (error_of e)) plain) (sym (h c.state live)) (refl, refl))
 
 no_error_done : (e : Error) (b : Bool) → error e ≡ (if b then success else quiet) → ⊥
 no_error_done e true same = cc
@@ -102,17 +102,17 @@ error_answer {E} levels table begins desk c t e h right =
 
 -- want of memory
 pub memory_answer : {E : Type 0} (levels : E → List (List ℕ)) (table : E → List Node) (begins : E → List Term → Type 0) (desk : Desk E) (c : Context) (t : Tree) (answer : Answer)
-    → Holds levels table begins desk (asked_in c t) → answer ≡ plainly (code.Error OutOfMemory) → IsAnswer levels table begins c (intact t) answer desk
-memory_answer {E} levels table begins desk c t answer h is =
-    subst (λ (a : Answer). IsAnswer levels table begins c (intact t) a desk) (sym is) (error_answer levels table begins desk c t OutOfMemory h (inr (refl, refl)))
+    → Holds levels table begins desk (asked_in c t) → may_want_memory (outcome_of c.state t) ≡ true → answer ≡ plainly (code.Error OutOfMemory) → IsAnswer levels table begins c (intact t) answer desk
+memory_answer {E} levels table begins desk c t answer h wants is =
+    subst (λ (a : Answer). IsAnswer levels table begins c (intact t) a desk) (sym is) (error_answer levels table begins desk c t OutOfMemory h (inr (wants, (refl, refl))))
 
 module _ {E : Type 0} {levels : E → List (List ℕ)} {table : E → List Node} {begins : E → List Term → Type 0} {old : Desk E} {ns : List Node} {l : Standing} {x : Context} {t : Tree} where
   -- the answer to a command that is refused: what stands is what stood
   pub refused_answered : {answer : Answer} (e : fault.Error) → Holds levels table begins old x → ns ≡ old.terms → l ≡ old.live
-      → IfSome (rule_of e) (λ r. (s : State) → IsLive old.terms old.live s → outcome_of s t ≡ refused r) → answer ≡ plainly (code.Error e)
+      → (e ≡ OutOfMemory → (s : State) → may_want_memory (outcome_of s t) ≡ true) → IfSome (rule_of e) (λ r. (s : State) → IsLive old.terms old.live s → outcome_of s t ≡ refused r) → answer ≡ plainly (code.Error e)
       → IsAnswer levels table begins x (intact t) answer (standing old ns l)
-  refused_answered {answer} e h same_terms same_live rule is =
-      let right = error_right x t old.terms old.live e h.live rule in
+  refused_answered {answer} e h same_terms same_live wants rule is =
+      let right = error_right x t old.terms old.live e h.live (λ y. wants y x.state) rule in
       let stood : IsAnswer levels table begins x (intact t) answer old = subst (λ (a : Answer). IsAnswer levels table begins x (intact t) a old) (sym is) (error_answer levels table begins old x t e (holds_asked levels table begins old x t h) right) in
       let with_terms : IsAnswer levels table begins x (intact t) answer (standing old ns old.live) =
       subst (λ (ms : List Node). IsAnswer levels table begins x (intact t) answer (standing old ms old.live)) (sym same_terms) stood in

@@ -1,5 +1,5 @@
 -- How a session reads on in a piece, and ends.
-use Rattle.std.proofs.Common.{◌≡◌, ℕ, ◌+◌, ◌^◌, ◌<◌, Bool, false, true, IsNone, List, [], ◌∷◌, ◌++◌, length, take, drop, Option, None, Some, Vec, refl, sym, ap, ◌∙◌, subst, append_assoc, append-nil, take-append-drop, arith}
+use Rattle.std.proofs.Common.{◌≡◌, ℕ, ◌+◌, ◌^◌, ◌<◌, Bool, false, true, IsNone, IsSome, ◌⊎◌, inl, inr, List, [], ◌∷◌, ◌++◌, length, take, drop, Option, None, Some, Vec, refl, sym, ap, ◌∙◌, subst, append_assoc, append-nil, take-append-drop, arith}
 use Rattle.std.proofs.lemmas.List.{map-append, length-append, take_all}
 use Rattle.std.proofs.lemmas.Grind.{flat_map-append}
 use Rattle.std.specs.Io.KnownBytes.{Appends, Keeps}
@@ -14,7 +14,7 @@ use Rattle.nz_script.specs.live.Live.{start}
 use Rattle.nz_spec.specs.outside.Error.{out_of_memory}
 use Rattle.nz_script.specs.replies.Reply.{reply_text, error}
 use Rattle.nz_script.specs.replies.Right.{beginning}
-use Rattle.nz_script.specs.run.Transcript.{BeginsText, Kept, AreRight, GoesOn, EndsByExit, IsCutOff, things_of, texts_of}
+use Rattle.nz_script.specs.run.Transcript.{BeginsText, Kept, AreRight, GoesOn, EndsByExit, IsCutOff, IsFrontBegun, things_of, texts_of}
 use Rattle.nz_sexpr.specs.declared.reader.Reader.{Reader}
 use Rattle.nz_sexpr.specs.declared.heard.Heard as code
 use Rattle.nz_sexpr.specs.View.{heard_view}
@@ -23,7 +23,8 @@ use Rattle.nz_sexpr.specs.Fits.{Fits, owes}
 use Rattle.nz_session.specs.declared.desk.Desk.{Desk}
 use Rattle.nz_reply.specs.declared.reply.Kept as kept
 use Rattle.nz_session.specs.declared.session.Session.{Session}
-use Rattle.nz_session.specs.Serve.{IsGoing, Serves, IsShort, Writes, WritesCut, Answers, AnswersInPart, BreaksOff, HasExited, HasEnded, IsCut, kept_at, kept_by}
+use Rattle.nz_session.specs.declared.session.Fed.{Fed}
+use Rattle.nz_session.specs.Serve.{IsGoing, IsServing, Serves, IsShort, Writes, WritesCut, Answers, AnswersOne, AnswersInPart, BreaksOff, HasExited, HasEnded, IsCut, kept_at, kept_by}
 use Rattle.nz_session.proofs.Fronts.{IsHeardOf, heard_by_reader, heard_at_end, front_of, cut_off, transcript_to_exit, transcript_to_end}
 
 -- ---- What is written
@@ -49,6 +50,23 @@ writes_cut old mid new a b c w e n =
       more = w.more;
       kept = e ∙ w.kept;
       written = Appends-trans a b c (texts_of w.more) (reply_text (error out_of_memory)) w.written n;
+    }
+
+-- and then what was written in part
+pub breaks_on : (limit : ℕ) (ended : Bool) (bytes : List ℕ) (old mid new : List Kept) (a b c : Option (List ℕ)) → Writes old mid a b → BreaksOff limit ended bytes mid new b c → BreaksOff limit ended bytes old new a c
+breaks_on limit ended bytes old mid new a b c w n =
+    let same : mid ++ n.more ≡ old ++ (w.more ++ n.more) = ap (λ l. l ++ n.more) w.kept ∙ append_assoc old w.more n.more in
+    let last : List ℕ = take n.count n.text in
+    let all : texts_of w.more ++ (texts_of n.more ++ last) ≡ texts_of (w.more ++ n.more) ++ last =
+    sym (append_assoc (texts_of w.more) (texts_of n.more) last) ∙ ap (λ l. l ++ last) (sym (flat_map-append (λ (k : Kept). reply_text k.reply) w.more n.more)) in
+    record {
+      more = w.more ++ n.more;
+      text = n.text;
+      begins = subst (λ (l : List Kept). BeginsText new l n.text) same n.begins;
+      count = n.count;
+      written = subst (Appends a c) all (Appends-trans a b c (texts_of w.more) (texts_of n.more ++ last) w.written n.written);
+      right = n.right;
+      front = λ short. subst (IsFrontBegun limit ended bytes new) same (n.front short);
     }
 
 -- a text that was written whole is a front of itself
@@ -90,29 +108,7 @@ module _ (limit : ℕ) (ended : Bool) (bytes : List ℕ) (ks : List Kept) (thing
         };
       }
 
--- ---- A piece
-
--- Of the piece a front was read, and this is the rest; what is complete in it was answered.
-pub record IsFeeding {E : Type 0} (levels : E → List (List ℕ)) (table : E → List Node) (begins : E → List Term → Type 0) (first now : Session E) (piece rest : List ℕ) (old new : Option (List ℕ)) : Type 0 where
-  pub done : List ℕ
-  pub all : piece ≡ done ++ rest
-  pub reads : (limit : ℕ) (bytes : List ℕ) → Serves levels table begins limit first bytes → IsShort (bytes ++ piece) → Fits script_limits now.reader (bytes ++ done) (things_of (kept_by now))
-  pub going : (limit : ℕ) (bytes : List ℕ) → Serves levels table begins limit first bytes → IsGoing levels table begins limit now.desk now.kept.items
-  pub writes : Writes (kept_by first) (kept_by now) old new
-
-pub feeding_start : {E : Type 0} (levels : E → List (List ℕ)) (table : E → List Node) (begins : E → List Term → Type 0) (session : Session E) (piece : List ℕ) (held : Option (List ℕ))
-    → IsFeeding levels table begins session session piece piece held held
-feeding_start levels table begins session piece held =
-    record {
-      done = [];
-      all = refl;
-      reads = λ limit bytes serves short.
-          let longer : length (bytes ++ piece) ≡ length bytes + length piece = length-append bytes piece in
-          let read = serves.read (omega (arith, short, longer)) in
-          subst (λ (l : List ℕ). Fits script_limits session.reader l (things_of (kept_by session))) (sym (append-nil bytes)) read.reads;
-      going = λ limit bytes serves. serves.going;
-      writes = writes_nothing (kept_by session) held;
-    }
+-- ---- One thing of a piece
 
 -- what a reader promises of one call
 abbrev pub ReadsOn : Reader → Reader → List ℕ → ℕ → Option code.Heard → Type 0
@@ -123,96 +119,139 @@ ReadsOn old new rest used h =
 pub none_is : (h : Option code.Heard) → h ≡ None → IsNone h
 none_is h e = subst IsNone (sym e) refl
 
-module _ {E : Type 0} (levels : E → List (List ℕ)) (table : E → List Node) (begins : E → List Term → Type 0) (first : Session E) (piece rest : List ℕ) (old held : Option (List ℕ))
-    (reader next : Reader) (desk : Desk E) (ks : Vec kept.Kept Global) (used : ℕ) (h : Option code.Heard)
-    (feeding : IsFeeding levels table begins first (record { reader = reader; desk = desk; kept = ks }) piece rest old held) (reads_on : ReadsOn reader next rest used h) where
-  -- the reader has read the bytes used too, and told what it told
-  reads_more : (limit : ℕ) (bytes : List ℕ) → Serves levels table begins limit first bytes → IsShort (bytes ++ piece)
-      → Fits script_limits next (bytes ++ (feeding.done ++ take used rest)) (things_of (kept_at desk ks.items) ++ told h)
-  reads_more limit bytes serves short =
-      let all : length piece ≡ length feeding.done + length rest = ap length feeding.all ∙ length-append feeding.done rest in
-      let longer : length (bytes ++ feeding.done) ≡ length bytes + length feeding.done = length-append bytes feeding.done in
-      let whole : length (bytes ++ piece) ≡ length bytes + length piece = length-append bytes piece in
-      subst (λ (l : List ℕ). Fits script_limits next l (things_of (kept_at desk ks.items) ++ told h)) (append_assoc bytes feeding.done (take used rest))
-      (reads_on script_limits (bytes ++ feeding.done) (things_of (kept_at desk ks.items)) (feeding.reads limit bytes serves short) (omega (arith, all, longer, whole, short)))
+pub some_is : {A : Type 0} (o : Option A) {x : A} → o ≡ Some x → IsSome o
+some_is {A} o {x} e = subst IsSome (sym e) refl
 
-  -- the piece is what was read and the rest
-  piece_more : piece ≡ (feeding.done ++ take used rest) ++ drop used rest
-  piece_more = feeding.all ∙ ap (λ l. feeding.done ++ l) (sym (take-append-drop used rest)) ∙ sym (append_assoc feeding.done (take used rest) (drop used rest))
+module _ {E : Type 0} (levels : E → List (List ℕ)) (table : E → List Node) (begins : E → List Term → Type 0) (limit : ℕ) (bytes rest : List ℕ) (reader next : Reader) (desk : Desk E) (ks : Vec kept.Kept Global)
+    (used : ℕ) (h : Option code.Heard) (serving : IsServing levels table begins limit (record { reader = reader; desk = desk; kept = ks }) bytes rest) (reads_on : ReadsOn reader next rest used h) where
+  -- the reader has read the bytes used too, and told what it told
+  reads_more : IsShort (bytes ++ rest) → Fits script_limits next (bytes ++ take used rest) (things_of (kept_at desk ks.items) ++ told h)
+  reads_more short =
+      let whole : length (bytes ++ rest) ≡ length bytes + length rest = length-append bytes rest in
+      reads_on script_limits bytes (things_of (kept_at desk ks.items)) (serving.reads short) (omega (arith, whole, short))
+
+  -- the bytes used, and those behind them
+  all_bytes : (bytes ++ take used rest) ++ drop used rest ≡ bytes ++ rest
+  all_bytes = append_assoc bytes (take used rest) (drop used rest) ∙ ap (λ l. bytes ++ l) (take-append-drop used rest)
 
   -- at the end of the piece
   pub fed_all : h ≡ None → used ≡ length rest → owes next ≡ false
-      → ((all : List ℕ) (things : List Heard) → Fits script_limits next all things → IsToldFirst script_limits all things) → (limit : ℕ) (bytes : List ℕ) → Serves levels table begins limit first bytes
-      → Serves levels table begins limit (record { reader = next; desk = desk; kept = ks }) (bytes ++ piece)
-  fed_all none all settled complete limit bytes serves =
+      → ((all : List ℕ) (things : List Heard) → Fits script_limits next all things → IsToldFirst script_limits all things)
+      → Serves levels table begins limit (record { reader = next; desk = desk; kept = ks }) (bytes ++ rest)
+  fed_all none all settled complete =
       let things : List Heard = things_of (kept_at desk ks.items) in
       let taken : take used rest ≡ rest = ap (λ n. take n rest) all ∙ take_all (length rest) rest (omega arith) in
-      let whole : feeding.done ++ take used rest ≡ piece = ap (λ l. feeding.done ++ l) taken ∙ sym feeding.all in
       let nothing : things ++ told h ≡ things = ap (λ x. things ++ told x) none ∙ append-nil things in
       record {
-        going = feeding.going limit bytes serves;
+        going = serving.going;
         read = λ short.
-            let fit = subst (λ (l : List ℕ). Fits script_limits next (bytes ++ l) (things ++ told h)) whole (reads_more limit bytes serves short) in
-            let reads : Fits script_limits next (bytes ++ piece) things = subst (Fits script_limits next (bytes ++ piece)) nothing fit in
-            record { reads = reads; settled = settled; complete = complete (bytes ++ piece) things reads };
+            let fit = subst (λ (l : List ℕ). Fits script_limits next (bytes ++ l) (things ++ told h)) taken (reads_more short) in
+            let reads : Fits script_limits next (bytes ++ rest) things = subst (Fits script_limits next (bytes ++ rest)) nothing fit in
+            record { reads = reads; settled = settled; complete = complete (bytes ++ rest) things reads };
       }
 
   module _ (heard : code.Heard) (some : h ≡ Some heard) where
     -- what was kept, and then this thing, is told of what is heard first
-    heard_fed : ReadingTellsFirst → (limit : ℕ) (bytes : List ℕ) → Serves levels table begins limit first bytes → IsShort (bytes ++ piece)
-        → IsHeardOf false (bytes ++ piece) (things_of (kept_at desk ks.items) ++ heard_view heard ∷ [])
-    heard_fed tells limit bytes serves short =
-        let read = feeding.done ++ take used rest in
-        let fit = subst (λ x. Fits script_limits next (bytes ++ read) (things_of (kept_at desk ks.items) ++ told x)) some (reads_more limit bytes serves short) in
-        let whole : (bytes ++ read) ++ drop used rest ≡ bytes ++ piece = append_assoc bytes read (drop used rest) ∙ ap (λ l. bytes ++ l) (sym piece_more) in
-        subst (λ (l : List ℕ). IsHeardOf false l (things_of (kept_at desk ks.items) ++ heard_view heard ∷ [])) whole
-        (heard_by_reader tells next (bytes ++ read) (drop used rest) (things_of (kept_at desk ks.items) ++ heard_view heard ∷ []) fit)
+    heard_fed : ReadingTellsFirst → IsShort (bytes ++ rest) → IsHeardOf false (bytes ++ rest) (things_of (kept_at desk ks.items) ++ heard_view heard ∷ [])
+    heard_fed tells short =
+        let things = things_of (kept_at desk ks.items) in
+        let fit = subst (λ x. Fits script_limits next (bytes ++ take used rest) (things ++ told x)) some (reads_more short) in
+        subst (λ (l : List ℕ). IsHeardOf false l (things ++ heard_view heard ∷ [])) all_bytes
+        (heard_by_reader tells next (bytes ++ take used rest) (drop used rest) (things ++ heard_view heard ∷ []) fit)
 
     -- the session was cut short
-    pub cut_fed : ReadingTellsFirst → (limit : ℕ) (bytes : List ℕ) → Serves levels table begins limit first bytes → IsCut limit false (bytes ++ piece) (kept_at desk ks.items)
-    cut_fed tells limit bytes serves =
-        let going = feeding.going limit bytes serves in
-        is_cut limit false (bytes ++ piece) (kept_at desk ks.items) (heard_view heard) going.right going.goes_on (heard_fed tells limit bytes serves)
+    pub cut_fed : ReadingTellsFirst → IsCut limit false (bytes ++ rest) (kept_at desk ks.items)
+    cut_fed tells =
+        is_cut limit false (bytes ++ rest) (kept_at desk ks.items) (heard_view heard) serving.going.right serving.going.goes_on (heard_fed tells)
 
     -- the sink failed
-    pub broken_fed : (new : List Kept) (c : Option (List ℕ)) → AnswersInPart (heard_view heard) (kept_at desk ks.items) new held c
-        → ((limit : ℕ) → IsGoing levels table begins limit desk ks.items → AreRight (beginning limit) new) → ReadingTellsFirst
-        → (limit : ℕ) (bytes : List ℕ) → Serves levels table begins limit first bytes → BreaksOff limit false (bytes ++ piece) (kept_by first) new old c
-    broken_fed new c part right tells limit bytes serves =
-        let going = feeding.going limit bytes serves in
-        breaks_off limit false (bytes ++ piece) (kept_at desk ks.items) (heard_view heard) going.right going.goes_on (heard_fed tells limit bytes serves)
-        (kept_by first) new old held c feeding.writes part (right limit going)
+    pub broken_fed : (new : List Kept) (b c : Option (List ℕ)) → AnswersInPart (heard_view heard) (kept_at desk ks.items) new b c → AreRight (beginning limit) new → ReadingTellsFirst
+        → BreaksOff limit false (bytes ++ rest) (kept_at desk ks.items) new b c
+    broken_fed new b c part right tells =
+        breaks_off limit false (bytes ++ rest) (kept_at desk ks.items) (heard_view heard) serving.going.right serving.going.goes_on (heard_fed tells)
+        (kept_at desk ks.items) new b b c (writes_nothing (kept_at desk ks.items) b) part right
 
-    module _ (desk' : Desk E) (ks' : Vec kept.Kept Global) (held' : Option (List ℕ))
-        (answers : Answers (heard_view heard) (kept_at desk ks.items) (kept_at desk' ks'.items) held held') where
+    module _ (desk' : Desk E) (ks' : Vec kept.Kept Global) (b c : Option (List ℕ)) (answers : Answers (heard_view heard) (kept_at desk ks.items) (kept_at desk' ks'.items) b c) where
       things_fed : things_of (kept_at desk ks.items) ++ heard_view heard ∷ [] ≡ things_of (kept_at desk' ks'.items)
-      things_fed = sym (things-answered (heard_view heard) (kept_at desk ks.items) (kept_at desk' ks'.items) held held' answers)
+      things_fed = sym (things-answered (heard_view heard) (kept_at desk ks.items) (kept_at desk' ks'.items) b c answers)
 
       -- the session goes on
-      pub feeding_more : ((limit : ℕ) → IsGoing levels table begins limit desk ks.items → IsGoing levels table begins limit desk' ks'.items)
-          → IsFeeding levels table begins first (record { reader = next; desk = desk'; kept = ks' }) piece (drop used rest) old held'
-      feeding_more going =
+      pub fed_more : IsGoing levels table begins limit desk' ks'.items
+          → IsServing levels table begins limit (record { reader = next; desk = desk'; kept = ks' }) (bytes ++ take used rest) (drop used rest)
+      fed_more going =
           record {
-            done = feeding.done ++ take used rest;
-            all = piece_more;
-            reads = λ limit bytes serves short.
-                subst (Fits script_limits next (bytes ++ (feeding.done ++ take used rest))) (ap (λ x. things_of (kept_at desk ks.items) ++ told x) some ∙ things_fed) (reads_more limit bytes serves short);
-            going = λ limit bytes serves. going limit (feeding.going limit bytes serves);
-            writes = writes_more (kept_by first) (kept_at desk ks.items) (kept_at desk' ks'.items) (heard_view heard) old held held' feeding.writes answers;
+            going = going;
+            reads = λ short.
+                subst (Fits script_limits next (bytes ++ take used rest)) (ap (λ x. things_of (kept_at desk ks.items) ++ told x) some ∙ things_fed) (reads_more (subst IsShort all_bytes short));
           }
 
       -- the session has exited
-      pub exited_fed : OneReading → ReadingTellsFirst
-          → ((limit : ℕ) → IsGoing levels table begins limit desk ks.items → AreRight (beginning limit) (kept_at desk' ks'.items) × EndsByExit start (kept_at desk' ks'.items))
-          → (limit : ℕ) (bytes : List ℕ) → Serves levels table begins limit first bytes → HasExited limit (bytes ++ piece) (kept_at desk' ks'.items)
-      exited_fed one tells exits limit bytes serves =
-          let ends = exits limit (feeding.going limit bytes serves) in
+      pub exited_fed : OneReading → ReadingTellsFirst → AreRight (beginning limit) (kept_at desk' ks'.items) × EndsByExit start (kept_at desk' ks'.items)
+          → HasExited limit (bytes ++ rest) (kept_at desk' ks'.items)
+      exited_fed one tells ends =
           record {
             right = ends.0;
             ends = ends.1;
-            transcript = λ short. transcript_to_exit one limit (bytes ++ piece) (kept_at desk' ks'.items) ends.0 ends.1
-                (subst (IsHeardOf false (bytes ++ piece)) things_fed (heard_fed tells limit bytes serves short));
+            transcript = λ short. transcript_to_exit one limit (bytes ++ rest) (kept_at desk' ks'.items) ends.0 ends.1 (subst (IsHeardOf false (bytes ++ rest)) things_fed (heard_fed tells short));
           }
+
+-- ---- A piece
+
+-- Of the piece a front was read, and this is the rest; what the reader told of it was answered.
+pub record IsFeeding {E : Type 0} (levels : E → List (List ℕ)) (table : E → List Node) (begins : E → List Term → Type 0) (first now : Session E) (piece rest : List ℕ) (old new : Option (List ℕ)) : Type 0 where
+  pub done : List ℕ
+  pub all : piece ≡ done ++ rest
+  pub serving : (limit : ℕ) (bytes : List ℕ) → Serves levels table begins limit first bytes → IsServing levels table begins limit now (bytes ++ done) rest
+  pub writes : Writes (kept_by first) (kept_by now) old new
+
+pub feeding_start : {E : Type 0} (levels : E → List (List ℕ)) (table : E → List Node) (begins : E → List Term → Type 0) (session : Session E) (piece : List ℕ) (held : Option (List ℕ))
+    → IsFeeding levels table begins session session piece piece held held
+feeding_start levels table begins session piece held =
+    record {
+      done = [];
+      all = refl;
+      serving = λ limit bytes serves.
+          record {
+            going = serves.going;
+            reads = λ short.
+                let whole : length ((bytes ++ []) ++ piece) ≡ length (bytes ++ []) + length piece = length-append (bytes ++ []) piece in
+                let same : length (bytes ++ []) ≡ length bytes = ap length (append-nil bytes) in
+                subst (λ (l : List ℕ). Fits script_limits session.reader l (things_of (kept_by session))) (sym (append-nil bytes)) (serves.read (omega (arith, short, whole, same))).reads;
+          };
+      writes = writes_nothing (kept_by session) held;
+    }
+
+-- how the session stands, where one thing was answered
+pub stands : (x y : Fed) → Some x ≡ Some y → x ≡ y
+stands x y e = cc
+
+pub one_of : (x y z : Fed) → (Some x ≡ Some y) ⊎ (Some x ≡ Some z) → (x ≡ y) ⊎ (x ≡ z)
+one_of x y z (inl e) = inl (stands x y e)
+one_of x y z (inr e) = inr (stands x z e)
+
+module _ {E : Type 0} (levels : E → List (List ℕ)) (table : E → List Node) (begins : E → List Term → Type 0) (first now : Session E) (piece rest : List ℕ) (a b : Option (List ℕ))
+    (feeding : IsFeeding levels table begins first now piece rest a b) where
+  -- what the session has read, and the rest
+  whole : (bytes : List ℕ) → (bytes ++ feeding.done) ++ rest ≡ bytes ++ piece
+  whole bytes = append_assoc bytes feeding.done rest ∙ ap (λ l. bytes ++ l) (sym feeding.all)
+
+  -- what holds of what was read and the rest, where the session has read on, holds of the whole
+  pub of_whole : (P : List ℕ → Type 0) (limit : ℕ) (bytes : List ℕ) → Serves levels table begins limit first bytes
+      → ((bytes : List ℕ) → IsServing levels table begins limit now bytes rest → P (bytes ++ rest)) → P (bytes ++ piece)
+  of_whole P limit bytes serves h = subst P (whole bytes) (h (bytes ++ feeding.done) (feeding.serving limit bytes serves))
+
+  -- the session goes on behind one answer
+  pub feeding_more : (next : Session E) (used : ℕ) (c : Option (List ℕ)) → AnswersOne (kept_by now) (kept_by next) b c
+      → ((limit : ℕ) (bytes : List ℕ) → IsServing levels table begins limit now bytes rest → IsServing levels table begins limit next (bytes ++ take used rest) (drop used rest))
+      → IsFeeding levels table begins first next piece (drop used rest) a c
+  feeding_more next used c answers serving =
+      record {
+        done = feeding.done ++ take used rest;
+        all = feeding.all ∙ ap (λ l. feeding.done ++ l) (sym (take-append-drop used rest)) ∙ sym (append_assoc feeding.done (take used rest) (drop used rest));
+        serving = λ limit bytes serves.
+            subst (λ (l : List ℕ). IsServing levels table begins limit next l (drop used rest)) (append_assoc bytes feeding.done (take used rest)) (serving limit (bytes ++ feeding.done) (feeding.serving limit bytes serves));
+        writes = writes_more (kept_by first) (kept_by now) (kept_by next) answers.0 a b c feeding.writes answers.1;
+      }
 
 -- ---- The end of the text
 

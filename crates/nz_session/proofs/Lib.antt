@@ -3,6 +3,7 @@ pub mod CheckedTerms
 pub mod Fronts
 pub mod InputPieces
 pub mod LegalWork
+pub mod ListedTerms
 pub mod LiveModels
 pub mod OppositeLiterals
 pub mod RightAnswers

@@ -17,7 +17,6 @@ use Rattle.nz_spec.specs.laws.Numerals.{NumeralsAreWhole}
 use Rattle.nz_spec.specs.clauses.Literal.{Literal, term_literal, is_at_most, is_below, are_same_sign, is_literal_true, AreTrueLiterals}
 use Rattle.nz_spec.specs.terms.Table.{Node, IsTable, TermOfNode, AssignsByNumber, term_in, is_node_of, listed_value, assignment_by}
 use Rattle.nz_spec.specs.search.Decide.{constants_of_head, asserted_terms, IsValueOf, AreModelValues}
-use Rattle.nz_spec.specs.search.Legal.{at_first, IsDeadEnd}
 use Rattle.nz_spec.specs.terms.Normal.{normal_of, NormalKeepsValue}
 use Rattle.nz_spec.specs.terms.OverConstants.{IsOver, AgreeOn, ConstantsTellValues}
 use Rattle.nz_spec.specs.terms.Model.{Binding, assignment_of, ValuesFit, IsAssignment, IsModel, AreModel, IsUnsatisfiable}
@@ -25,7 +24,6 @@ use Rattle.nz_script.specs.live.Live.{State, constants_of, assertions_of}
 use Rattle.nz_script.specs.laws.Sorts.{IsAssumable}
 use Rattle.nz_term.specs.declared.term_lits.TermLit.{TermLit}
 use Rattle.nz_term.specs.TermLits.{literal_of}
-use Rattle.nz_search.specs.Verdicts.{task_in}
 use Rattle.nz_sort.specs.declared.items.Accepted.{Accepted}
 use Rattle.nz_sort.specs.declared.levels.Level.{Level}
 use Rattle.nz_sort.specs.Items.{table_numbers}
@@ -265,12 +263,12 @@ values_in ns ps [] h = tt
 values_in ns ps (i ∷ is) h =
     within_append ns (valued_at ns ps i (slice_get ns i)) (completed_values ns ps is) (valued_within ns ps i (slice_get ns i) h.0) (values_in ns ps is h.1)
 
--- a dead end of a search before any decision is one of the live state, under what is assumed
+-- what the terms of the table can't be true of, the live assertions can't, under what is assumed
 pub no_live_model : NormalKeepsValue → (ns : List Node) (l : Standing) (s : State) (ls : List TermLit) (ms : List Literal) → IsLive ns l s → ((a : Assignment) → AreTrueLiterals a ms → AreTrueLiterals a (map (literal_of ns) ls))
-    → IsDeadEnd (task_in ns (asserted_by l) ls []) at_first → IsUnsatisfiable (assertions_of s) ms
+    → IsUnsatisfiable (asserted_terms ns (asserted_by l)) (map (literal_of ns) ls) → IsUnsatisfiable (assertions_of s) ms
 no_live_model keeps ns l s ls ms h told dead a m =
-    dead a (subst (λ ts. IsModel ts [] a) (sym h.terms) (normals_of_model keeps a (assertions_of s) [] (record { sorts = m.sorts; asserted_hold = m.asserted_hold; assumed_hold = tt })))
-    (told a m.assumed_hold) tt
+    let plain = subst (λ ts. IsModel ts [] a) (sym h.terms) (normals_of_model keeps a (assertions_of s) [] (record { sorts = m.sorts; asserted_hold = m.asserted_hold; assumed_hold = tt })) in
+    dead a (record { sorts = plain.sorts; asserted_hold = plain.asserted_hold; assumed_hold = told a m.assumed_hold })
 
 -- ---- Bindings, one after another
 

@@ -1,5 +1,5 @@
 -- What a session has read, kept and answered.
-use Rattle.std.specs.Prelude.{◌≡◌, ℕ, ◌<◌, ◌^◌, Bool, true, false, List, [], ◌∷◌, ◌++◌, length, take, Option}
+use Rattle.std.specs.Prelude.{◌≡◌, ℕ, ◌<◌, ◌^◌, Bool, true, false, List, [], ◌∷◌, ◌++◌, length, take, Option, None, Some}
 use Rattle.std.specs.Io.KnownBytes.{Appends}
 use Rattle.nz_script.specs.text.Text.{Heard, script_limits}
 use Rattle.nz_script.specs.live.Live.{start}
@@ -24,6 +24,11 @@ use Rattle.nz_session.specs.declared.session.Session.{Session}
 abbrev pub is_sink_fault : Fed → Bool
 is_sink_fault SinkFault = true
 is_sink_fault fed = false
+
+-- so where one thing was answered, or none
+abbrev pub fails_at : Option Fed → Bool
+fails_at None = false
+fails_at (Some fed) = is_sink_fault fed
 
 -- what was kept, by the table of a desk
 abbrev pub kept_at : {E : Type 0} → Desk E → List code.Kept → List Kept
@@ -59,6 +64,16 @@ IsShort bytes = length bytes < 2 ^ 64
 pub record Serves {E : Type 0} (levels : E → List (List ℕ)) (table : E → List Node) (begins : E → List Term → Type 0) (limit : ℕ) (session : Session E) (bytes : List ℕ) : Type 0 where
   pub going : IsGoing levels table begins limit session.desk session.kept.items
   pub read : IsShort bytes → HasRead session bytes
+
+-- Of these bytes and the rest the session has read the bytes; its replies are right, and while all of them aren't too many, they are those
+-- to what the reader told. The reader may owe a thing that is complete.
+pub record IsServing {E : Type 0} (levels : E → List (List ℕ)) (table : E → List Node) (begins : E → List Term → Type 0) (limit : ℕ) (session : Session E) (bytes rest : List ℕ) : Type 0 where
+  pub going : IsGoing levels table begins limit session.desk session.kept.items
+  pub reads : IsShort (bytes ++ rest) → Fits script_limits session.reader bytes (things_of (kept_by session))
+
+-- its reader owes a thing that is complete
+abbrev pub owes_thing : {E : Type 0} → Session E → Bool
+owes_thing session = owes session.reader
 
 -- more was kept, and its replies were written
 pub record Writes (old new : List Kept) (before after : Option (List ℕ)) : Type 0 where
@@ -105,6 +120,10 @@ pub record Answers (thing : Heard) (old new : List Kept) (before after : Option 
   pub kept : new ≡ old ++ one ∷ []
   pub heard : one.heard ≡ thing
   pub written : Appends before after (reply_text one.reply)
+
+-- One thing more was answered, whichever it was.
+abbrev pub AnswersOne : List Kept → List Kept → Option (List ℕ) → Option (List ℕ) → Type 0
+AnswersOne old new before after = (thing : Heard) × Answers thing old new before after
 
 -- One thing more was kept, and of its reply a front was written; or none was kept, and of the line for want of memory.
 pub record AnswersInPart (thing : Heard) (old new : List Kept) (before after : Option (List ℕ)) : Type 0 where

@@ -3,7 +3,8 @@ use Rattle.std.specs.Prelude.{◌≡◌, ℕ, List, Option, None, Some, IfSome, 
 use Rattle.nz_spec.specs.terms.Table.{Node}
 use Rattle.nz_spec.specs.terms.Term.{Term}
 use Rattle.nz_script.specs.live.Live as live_state
-use Rattle.nz_spec.specs.search.Legal.{Task, IsSpentLegally}
+use Rattle.nz_spec.specs.search.Search.{Task}
+use Rattle.nz_spec.specs.search.Legal.{IsSpentLegally}
 use Rattle.nz_spec.specs.search.Places.{IsStoppedLegally}
 use Rattle.nz_script.specs.replies.Reply.{Cause, spent, stopped}
 use Rattle.nz_spec.specs.search.Work.{WorkList}

@@ -1,5 +1,5 @@
 //! The session: pieces of a script in, replies out, and all of it kept.
-ghost use Rattle.std.specs.Prelude.{◌≡◌, ◌≤◌, ◌+◌, ℕ, List, [], ◌++◌, true, false, IfOk, IfSome, OnOk, OnErr, is_err, ◌⊎◌, vec_len, vec_capacity};
+ghost use Rattle.std.specs.Prelude.{◌≡◌, ◌≤◌, ◌+◌, ℕ, List, [], ◌++◌, length, take, drop, true, false, Some, None, IsSome, IfOk, IfSome, OnOk, OnErr, is_err, ◌⊎◌, vec_len, vec_capacity};
 ghost use Rattle.std.specs.Io.KnownBytes.{Appends};
 ghost use Rattle.nz_sexpr.specs.Packed.{packed_heard_view};
 ghost use Rattle.nz_sexpr.specs.View.{heard_view, what_view};
@@ -142,7 +142,7 @@ fn serve<E: Decide, K: Sink>(
 
 impl<E: Decide> Session<E> {
     ghost use Rattle.nz_reply.specs.Journals.{journal_of};
-    ghost use Rattle.nz_session.specs.Serve.{BreaksOff, HasEnded, HasExited, IsCut, Serves, Writes, WritesCut, kept_by, table_by};
+    ghost use Rattle.nz_session.specs.Serve.{AnswersOne, BreaksOff, HasEnded, HasExited, IsCut, IsServing, Serves, Writes, WritesCut, fails_at, kept_by, owes_thing, table_by};
 
     /// A session at the beginning of a script, over an engine that was told nothing yet, with this limit of units for each check. Any search may
     /// begin with what the engine keeps.
@@ -177,22 +177,56 @@ impl<E: Decide> Session<E> {
         ensures faults { K.faults sink.new ≡ counted K.last (is_sink_fault result) (K.faults sink.old) }
         ensures handed { (result ≡ Fed.SinkFault → ⊥) → K.handed sink.old ≡ K.held sink.old → K.handed sink.new ≡ K.held sink.new }
     {
-        one_reading();
-        reading_tells_first();
         let mut rest = piece;
         'heard: loop {
-            let (used, heard) = self.reader.feed(rest);
+            let (used, fed) = self.feed_one(rest, sink);
             rest = &rest[used..];
-            let heard = match heard {
+            let fed = match fed {
                 None => return Fed::Going,
-                Some(heard) => heard,
+                Some(fed) => fed,
             };
-            match serve(&mut self.desk, &mut self.kept, heard, sink) {
+            match fed {
                 Fed::Going => {}
                 Fed::Exited => return Fed::Exited,
                 Fed::SinkFault => return Fed::SinkFault,
                 Fed::Cut => return Fed::Cut,
             }
+        }
+    }
+
+    /// Reads a piece up to the first thing that is complete, which is answered, and its reply written and flushed: how many bytes were used, and
+    /// how the session stands then.
+    ///
+    /// `None` comes only where all bytes were used and nothing is left to answer. So call it until then, each time with the bytes that are left,
+    /// also where none are.
+    pub fn feed_one<K: Sink>(&mut self, piece: &[u8], sink: &mut K) -> (usize, Option<Fed>)
+        requires { (limit : ℕ) × (bytes : List ℕ) × IsServing E.levels E.table E.begins limit self.old bytes piece.now }
+        ensures used { result.0 ≤ length piece.now }
+        ensures all_used { result.1 ≡ None → (limit : ℕ) (bytes : List ℕ) → IsServing E.levels E.table E.begins limit self.old bytes piece.now → Serves E.levels E.table E.begins limit self.new (bytes ++ piece.now) }
+        ensures nothing_kept { result.1 ≡ None → kept_by self.new ≡ kept_by self.old }
+        ensures nothing_written { result.1 ≡ None → sink.new ≡ sink.old }
+        ensures going { result.1 ≡ Some Fed.Going → (limit : ℕ) (bytes : List ℕ) → IsServing E.levels E.table E.begins limit self.old bytes piece.now → IsServing E.levels E.table E.begins limit self.new (bytes ++ take result.0 piece.now) (drop result.0 piece.now) }
+        ensures exited { result.1 ≡ Some Fed.Exited → (limit : ℕ) (bytes : List ℕ) → IsServing E.levels E.table E.begins limit self.old bytes piece.now → HasExited limit (bytes ++ piece.now) (kept_by self.new) }
+        ensures answered { (result.1 ≡ Some Fed.Going) ⊎ (result.1 ≡ Some Fed.Exited) → AnswersOne (kept_by self.old) (kept_by self.new) (K.held sink.old) (K.held sink.new) }
+        ensures cut { result.1 ≡ Some Fed.Cut → (limit : ℕ) (bytes : List ℕ) → IsServing E.levels E.table E.begins limit self.old bytes piece.now → IsCut limit false (bytes ++ piece.now) (kept_by self.new) }
+        ensures cut_kept { result.1 ≡ Some Fed.Cut → kept_by self.new ≡ kept_by self.old }
+        ensures cut_written { result.1 ≡ Some Fed.Cut → Appends (K.held sink.old) (K.held sink.new) (reply_text (error out_of_memory)) }
+        ensures broken_off { result.1 ≡ Some Fed.SinkFault → (limit : ℕ) (bytes : List ℕ) → IsServing E.levels E.table E.begins limit self.old bytes piece.now → BreaksOff limit false (bytes ++ piece.now) (kept_by self.old) (kept_by self.new) (K.held sink.old) (K.held sink.new) }
+        ensures faults { K.faults sink.new ≡ counted K.last (fails_at result.1) (K.faults sink.old) }
+        // Nothing more is read before the reply was handed on.
+        ensures handed { IsSome result.1 → (result.1 ≡ Some Fed.SinkFault → ⊥) → K.handed sink.new ≡ K.held sink.new }
+        // Each answer brings the caller on, by a byte or by a thing that was owed.
+        ensures progress { IsSome result.1 → result.0 ≡ 0 → (owes_thing self.old ≡ true) × (owes_thing self.new ≡ false) }
+    {
+        one_reading();
+        reading_tells_first();
+        let (used, heard) = self.reader.feed(piece);
+        match heard {
+            None => (used, None),
+            Some(heard) => (
+                used,
+                Some(serve(&mut self.desk, &mut self.kept, heard, sink)),
+            ),
         }
     }
 

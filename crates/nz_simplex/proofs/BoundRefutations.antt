@@ -80,6 +80,7 @@ module _ (law : NoHelpRefutes) (ns : List Node) (s : State) (side : Side) (bound
   pub is_refuted : (why : List (ℕ × Fraction)) → why ≡ multipliers s i side row → IsRefuted ns (record s { why = why })
   is_refuted why e = record {
     broken = i;
+    basic = breaks.basic;
     side = side;
     bound = bound;
     row = row;

@@ -192,11 +192,11 @@ module _ {S : Type 0} (stands_for : S → Infinitesimal) (tab : Table) (trail : 
       row_told tableau ns over r (subst (λ (n : ℕ). r < n) (length-map tab.forms (parts_over ns)) inside) (sym (point_marks here sound r) ∙ basic)
 
   -- the operation at which the value of a basic form stops has its place
-  pub point_place : IsTableau tab → (ns : List Node) → IsOver ns here → (i : ℕ) → i < length tab.forms → nonbasic_in here i ≡ false → (w : Wide)
+  pub point_place : IsTableau tab → (ns : List Node) → IsOver ns here → (i : ℕ) → i < length tab.forms → nonbasic_in here i ≡ false → value_in here i ≡ None → (w : Wide)
       → first_wide (value_onto (rows_in tab i) (numbers_in stands_for values) zero_infinitesimal (nonbasic_numbers here)).operations ≡ Some (operation_of w)
       → IsNumber w.a → IsNumber w.b → IsPlace ns here (record { wide = w; site = sites.Value i })
-  point_place tableau ns over i inside basic w e left right = record {
-    site = (inside, basic);
+  point_place tableau ns over i inside basic unknown w e left right = record {
+    site = (inside, basic, unknown);
     left = left;
     right = right;
     rows = rows_in tab;

@@ -99,7 +99,7 @@ module _ {S : Type 0} (stands_for : S → Infinitesimal) (tab : Table) (trail : 
 
 -- ---- By what is shown of the simplex
 
-none_known : (o : Option Infinitesimal) → (IsSome o → ⊥) → o ≡ None
+pub none_known : (o : Option Infinitesimal) → (IsSome o → ⊥) → o ≡ None
 none_known None n = refl
 none_known (Some x) n = absurd (n refl)
 

@@ -196,6 +196,11 @@ module _ {S : Type 0} (stands_for : S → Infinitesimal) (order : S → S → Or
 
     -- ---- What comes of a bound
 
+    -- a bound that is to stand
+    pub stands_shown : (b : Asserted S) → (¬ IsImplied order list b) × (¬ IsExcluded order list b)
+        → (¬ IsImplied infinitesimal_cmp numbers (told stands_for b)) × (¬ IsExcluded infinitesimal_cmp numbers (told stands_for b))
+    stands_shown b p = (λ i. p.0 ((implied_same b).1 i), λ x. p.1 ((excluded_same b).1 x))
+
     pub outcome_shown : (b : Asserted S) (o : AssertOutcome) → (o ≡ Kept) ↔ IsImplied order list b → ((r : ℕ) → (s : ℕ) → (o ≡ Clash r s) ↔ ((r ≡ b.reason) × ClashesWith order list b s))
         → (o ≡ Tighter) ↔ ((¬ IsImplied order list b) × (¬ IsExcluded order list b)) → Tells numbers (told stands_for b) o
     outcome_shown b o kept clash tighter = record {
@@ -205,7 +210,7 @@ module _ {S : Type 0} (stands_for : S → Infinitesimal) (order : S → S → Or
         λ p. (clash r s).1 (p.0, (clash_same b s).1 p.1),
       );
       tighter = (
-        λ e. let there = tighter.0 e in (λ i. there.0 ((implied_same b).1 i), λ x. there.1 ((excluded_same b).1 x)),
+        λ e. stands_shown b (tighter.0 e),
         λ p. tighter.1 (λ i. p.0 ((implied_same b).0 i), λ x. p.1 ((excluded_same b).0 x)),
       );
     }

@@ -1,5 +1,5 @@
 -- What a check does and answers.
-use Rattle.std.specs.Prelude.{◌≡◌, ℕ, ◌<◌, false, List, [], ◌∷◌, length, flat_map, fold, pos, Option, Some, IsSome, Result, Ok, Err, if◌then◌else◌}
+use Rattle.std.specs.Prelude.{◌≡◌, ℕ, ◌<◌, false, List, [], ◌∷◌, length, flat_map, fold, pos, Option, Some, None, IsSome, Result, Ok, Err, if◌then◌else◌}
 use Rattle.nz_fractions.specs.Fraction.{Fraction, IsNumber, whole, first_wide, Operation}
 use Rattle.nz_spec.specs.numbers.Infinitesimal.{Infinitesimal}
 use Rattle.nz_spec.specs.terms.Term.{is_zero}
@@ -62,9 +62,10 @@ abbrev pub multipliers : State → ℕ → Side → Coefficients → List (ℕ �
 multipliers s i side row =
     (reason_in s.asserted side i, whole (pos 1)) ∷ flat_map (multiplier s.asserted side row) (numbers (length s.forms) (nonbasic_in s))
 
--- The row of a form refutes the bounds, and its multipliers are told.
+-- The row of a basic form refutes the bounds, and its multipliers are told.
 pub record IsRefuted (ns : List Node) (s : State) : Type 0 where
   pub broken : ℕ
+  pub basic : is_nonbasic (position_over ns s).point broken ≡ false
   pub side : Side
   pub bound : Infinitesimal
   pub row : Coefficients
@@ -80,10 +81,10 @@ site_operations s rows (Exchange leaves enters) = (exchange (length s.forms) (no
 site_operations s rows (Value form) = (row_value (length s.forms) (rows form) (point_in s)).operations
 site_operations s rows site = []
 
--- an exchange is that of the step that may be next; a value is that of a basic form
+-- an exchange is that of the step that may be next; a value is that of a basic form, and isn't known yet
 abbrev pub IsSite : List Node → State → Site → Type 0
 IsSite ns s (Exchange leaves enters) = MayPivot (position_over ns s) (pivot leaves enters)
-IsSite ns s (Value form) = (form < length s.forms) × (nonbasic_in s form ≡ false)
+IsSite ns s (Value form) = (form < length s.forms) × (nonbasic_in s form ≡ false) × (value_in s form ≡ None)
 IsSite ns s site = ⊥
 
 -- The operation is the first of the computation that leaves the numbers, and its operands are numbers.

@@ -10,3 +10,4 @@ pub mod Lists
 pub mod LiveItems
 pub mod LiveNames
 pub mod LiveStates
+pub mod MemoryWants

@@ -3,8 +3,8 @@ use Rattle.std.proofs.Common.{◌≡◌, ℕ, ◌<◌, List, ◌∷◌, length, 
 use Rattle.std.proofs.lemmas.List.Elements.{All-weaker, All-contains}
 use Rattle.nz_fractions.specs.Fraction.{Fraction, whole, ◌≤ℚ◌, ◌<ℚ◌}
 use Rattle.nz_spec.specs.numbers.Infinitesimal.{Infinitesimal, ◌≤δ◌, at, Pair, limits, IsLeastLimit, chosen_delta, AreOrdered, AreOrderedAt}
-use Rattle.nz_spec.specs.simplex.Bland.{Position, HasBasis, HasValue, Side, lower_side, upper_side, bound_on, IsOutside, NonbasicFormsFit, MeetsBounds}
-use Rattle.nz_spec.specs.search.Places.{IsWithinBounds, in_order, IsPairOf, IsChosen}
+use Rattle.nz_spec.specs.simplex.Bland.{Position, HasBasis, HasValue, Side, lower_side, upper_side, bound_on, IsOutside, NonbasicFormsFit, MeetsBounds, IsWithinBounds}
+use Rattle.nz_spec.specs.search.Places.{in_order, IsPairOf, IsChosen}
 use Rattle.nz_spec.specs.laws.ToldBounds.{IsWithinAt, AreWithinAt, AreNumbers, ChosenFractionsKeepBounds}
 use Rattle.nz_fractions.proofs.Laws.{<ℚ-≤ℚ_trans}
 use Rattle.nz_spec.proofs.InfinitesimalLaws.{chosen-above, chosen-keeps, chosen-least}

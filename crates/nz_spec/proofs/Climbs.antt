@@ -10,7 +10,8 @@ use Rattle.nz_spec.specs.terms.Form.{Part, unit_value}
 use Rattle.nz_spec.specs.simplex.Basis.{worth}
 use Rattle.nz_spec.specs.clauses.Literal as literals
 use Rattle.nz_spec.specs.clauses.Literal.{term_literal, is_at_most, is_below, is_literal_true}
-use Rattle.nz_spec.specs.simplex.Climb.{Line, Range, IsInRange, is_met, kept_literals, IsBetter, IsAsGood, goal_at, point_at, VerticesBoundGoal, RaysPassAll}
+use Rattle.nz_spec.specs.clauses.Goals.{IsBetter, IsAsGood}
+use Rattle.nz_spec.specs.simplex.Climb.{Line, Range, IsInRange, is_met, kept_literals, goal_at, point_at, VerticesBoundGoal, RaysPassAll}
 use Rattle.nz_fractions.proofs.Laws.{=ℚ_sym, ≤ℚ-from_eq, ≤ℚ_refl, <ℚ-≤ℚ_trans, ≤ℚ-<ℚ_trans}
 use Rattle.nz_fractions.proofs.Arithmetic.{*ℚ_comm}
 use Rattle.nz_spec.proofs.FormValues.{value_is_worth}

@@ -1,26 +1,28 @@
 -- Truths and numbers that meet the clauses of the tables are the values of the terms.
 use Rattle.std.proofs.Common.{◌≡◌, Bool, true, false, not, ◌&&◌, ◌⊎◌, inl, inr, List, [], ◌∷◌, map, Option, Some, pos, refl, sym, ap, subst, ◌∙◌, true≢false}
 use Rattle.std.specs.Prelude.{Contains, ⊤, if◌then◌else◌}
-use Rattle.std.specs.List.{AllByRecursion}
+use Rattle.std.specs.List.{list_any, AllByRecursion}
 use Rattle.std.proofs.lemmas.Bool.{and_parts}
 use Rattle.std.proofs.lemmas.Option.{same_Some}
 use Rattle.std.proofs.lemmas.List.Elements.{Contains-append_left, Contains-append_right, Contains-push}
+use Rattle.std.proofs.lemmas.List.Folds.{Any-from_list_any}
 use Rattle.nz_lists.proofs.Elements.{AllByRecursion-weaker}
 use Rattle.nz_fractions.specs.Fraction.{Fraction, whole, ◌=ℚ◌, ◌≤ℚ◌, ◌<ℚ◌, neg_ℚ, fraction_cmp, fraction_eq, Difference}
 use Rattle.nz_spec.specs.numbers.Computation.{Computation, in_turn}
-use Rattle.nz_spec.specs.terms.Term.{NumberSort, over_int, over_real, sort_over, bool_sort, real_sort, is_bool, Constant, Head, constant, integer, decimal_number, verum, falsum, negation, conjunction, disjunction, exclusion, equality, choice, less, at_most, sum, difference, product, quotient, to_real, Term, apply, Terms, no_terms, terms, Value, truth, Assignment, is_true, number_of, are_equal, decimal_value, value_of, values_of, sort_of, IsOfSort}
+use Rattle.nz_spec.specs.terms.Term.{NumberSort, over_int, over_real, sort_over, bool_sort, int_sort, real_sort, are_same_sort, is_bool, Constant, Head, constant, integer, decimal_number, verum, falsum, negation, conjunction, disjunction, exclusion, equality, choice, less, at_most, sum, difference, product, quotient, to_real, Term, apply, Terms, no_terms, terms, Value, truth, Assignment, is_true, number_of, are_equal, decimal_value, value_of, values_of, sort_of, IsOfSort}
 use Rattle.nz_spec.specs.terms.Linear.{constant_values, is_linear_node, is_linear, are_linear}
 use Rattle.nz_spec.specs.terms.Model.{IsAssignment}
-use Rattle.nz_spec.specs.terms.Order.{post_order, post_orders}
+use Rattle.nz_spec.specs.terms.Order.{post_order, post_orders, listing_order}
 use Rattle.nz_spec.specs.terms.Form.{Numbering, Form, unit_value}
-use Rattle.nz_spec.specs.terms.FormOf.{form_of, forms_of}
-use Rattle.nz_spec.specs.clauses.Literal.{Literal, Clause}
+use Rattle.nz_spec.specs.terms.FormOf.{form_of, forms_of, is_taken_whole}
+use Rattle.nz_spec.specs.clauses.Literal.{Literal, are_same_term, Clause}
 use Rattle.nz_spec.specs.clauses.Gates.{holds, fails, is_boolean_term, gate_clauses, IsRow}
 use Rattle.nz_spec.specs.clauses.Links.{minus, at_most_literal, below_literal, link_clauses}
 use Rattle.nz_spec.specs.clauses.Units.{unit_clauses}
 use Rattle.nz_spec.specs.simplex.Basis.{Valuation, worth}
 use Rattle.nz_spec.specs.terms.WellSorted.{AllAre, HaveOperands, IsWellSorted, AreWellSorted}
-use Rattle.nz_spec.specs.terms.Taken.{IsTakenHead, HasTakenHeads, HaveTakenHeads}
+use Rattle.nz_spec.specs.terms.Taken.{IsTakenHead, HasTakenHeads, HaveTakenHeads, IsTaken}
+use Rattle.nz_spec.specs.search.Branches.{is_integer_of}
 use Rattle.nz_spec.specs.laws.Deciding.{IsMet, HasMetLiteral, MeetsTables, TablesDecide}
 use Rattle.nz_fractions.proofs.Laws.{=ℚ_refl, =ℚ_sym, =ℚ_trans, =ℚ-from_same, ≤ℚ-from_eq, ≤ℚ_antisymm, <ℚ_irrefl}
 use Rattle.nz_fractions.proofs.Order.{same-fraction_eq, fraction_eq-same, lt_is, lt_is_not, le_is, le_is_not}
@@ -31,7 +33,9 @@ use Rattle.nz_spec.proofs.FormValues.{by_difference, form_worth, form_joined-wor
 use Rattle.nz_spec.proofs.GateDecisions.{SaysOne, says_one, others, alone, IsSettled, AreSettled, node_settled}
 use Rattle.nz_spec.proofs.LinkTruths.{moved_over, and-true, equal_numbers}
 use Rattle.nz_spec.proofs.OperandSorts.{operands_are}
-use Rattle.nz_spec.proofs.Sorted.{value_is}
+use Rattle.nz_spec.proofs.Same.{same_term}
+use Rattle.nz_spec.proofs.Sorted.{value_is, same_sorts}
+use Rattle.nz_spec.proofs.TakenTerms.{taken_terms_are_in_order}
 
 apart : (p q : Fraction) → (p =ℚ q → ⊥) → fraction_eq p q ≡ false
 apart p q n = by_test (fraction_eq p q) refl
@@ -311,10 +315,26 @@ module _ (number : Numbering) (a : Assignment) (truths : Term → Option Bool) (
             all_decided ts s.1 linear.1 k.1 (λ u at. within u (Contains-append_right (post_order t) (post_orders ts) u at)),
           )
 
+-- no more is listed than what a taken term is made of
+all_there : (t : Term) → IsTaken t → (u : Term) → Contains (post_order t) u → Contains (listing_order t) u
+all_there t k u at = subst (λ (us : List Term). Contains us u) (sym (taken_terms_are_in_order.listing t k)) at
+
+no_integers : (t u : Term) → IsTaken t → is_integer_of (listing_order t) u ≡ true → ⊥
+no_integers t u k e =
+    let unit = and_parts (is_taken_whole u) (are_same_sort (sort_of u) int_sort && list_any (are_same_term u) (listing_order t)) e in
+    let both = and_parts (are_same_sort (sort_of u) int_sort) (list_any (are_same_term u) (listing_order t)) unit.1 in
+    let place = Any-from_list_any (are_same_term u) (listing_order t) both.1 in
+    let at : Contains (listing_order t) place.1 = (place.0, place.2, place.3) in
+    let part : Contains (post_order t) u =
+    subst (Contains (post_order t)) (sym (same_term u place.1 place.4)) (subst (λ (us : List Term). Contains us place.1) (taken_terms_are_in_order.listing t k) at)
+    in
+    taken_terms_are_in_order.units u (taken_terms_are_in_order.parts t u k part) unit.0 (same_sorts (sort_of u) int_sort both.0)
+
 pub tables_decide : TablesDecide
 tables_decide = record {
   truths = λ number a truths v t sign k good m e has.
-      decided_as number a truths v t true e (decided number a truths v good (post_order t) m t k.sorted k.linear k.heads (λ u at. at)) sign has;
+      decided_as number a truths v t true e (decided number a truths v good (listing_order t) m t k.sorted k.linear k.heads (all_there t k)) sign has;
   numbers = λ number a truths v t k good m e.
-      =ℚ_sym (decided_as number a truths v t false e (decided number a truths v good (post_order t) m t k.sorted k.linear k.heads (λ u at. at)));
+      =ℚ_sym (decided_as number a truths v t false e (decided number a truths v good (listing_order t) m t k.sorted k.linear k.heads (all_there t k)));
+  integers = no_integers;
 }

@@ -1,4 +1,3 @@
-mod Uses
 pub mod BasisExchange
 pub mod BasisJoins
 pub mod BasisRows
@@ -15,22 +14,27 @@ pub mod BlandSteps
 pub mod BlandTells
 pub mod BlandValues
 pub mod BoundChanges
+pub mod BranchMarks
 pub mod ChosenFractions
 pub mod ClimbSteps
 pub mod Climbs
+mod ComparedGoals
 pub mod ConstantValues
 pub mod CutSums
 pub mod DecidedTerms
 pub mod Decimals
 pub mod Derivations
 pub mod Divisions
+mod FamilyLines
 pub mod FarkasSums
+mod FlatLists
 pub mod FormNumbers
 pub mod FormPlaces
 pub mod FormSums
 pub mod FormTerms
 pub mod FormValues
 pub mod FormWorth
+pub mod Gaps
 pub mod GateDecisions
 pub mod GateTruths
 pub mod InfinitesimalLaws
@@ -38,17 +42,25 @@ pub mod InfinitesimalMoves
 pub mod InfinitesimalOrder
 pub mod Instances
 pub mod IntegerSums
+mod JoinedForms
+mod KnownStarts
 pub mod LegalWork
 pub mod LinearLiterals
 pub mod LinkTruths
 pub mod Literals
+mod MoreTerms
+mod Negations
 pub mod Normal
 pub mod NormalGates
 pub mod NormalHeads
 pub mod NormalSorts
 pub mod OperandSorts
 pub mod PivotRuns
+mod PlainWork
 pub mod PositionMovesKeep
+mod RenumberedSteps
+mod RenumberedSums
+mod RenumberedTerms
 pub mod Same
 pub mod SameSorts
 pub mod Sorted
@@ -60,4 +72,10 @@ pub mod Tables
 pub mod TakenTerms
 pub mod ToldBounds
 pub mod UnitTruths
+mod Uses
 pub mod WorkedBases
+pub mod WorkedClimb
+mod WorkedFamilies
+pub mod WorkedPivot
+mod WorkedPlaces
+pub mod WorkedWork

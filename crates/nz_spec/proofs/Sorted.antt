@@ -41,7 +41,7 @@ all_of a s (terms t ts) e h =
     let second = (and_parts (has_sort s t) (all_terms (has_sort s) ts) e).1 in
     (subst (λ r. IsOfSort r (value_of a t)) (sym (same_sorts s (sort_of t) first)) h.0, all_of a s ts second h.1)
 
-default_is : (s : Sort) → IsOfSort s (default_value s)
+pub default_is : (s : Sort) → IsOfSort s (default_value s)
 default_is bool_sort = tt
 default_is int_sort = refl
 default_is real_sort = tt

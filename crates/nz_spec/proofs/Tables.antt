@@ -122,7 +122,7 @@ one_number ns table i j within there e = one_below ns table (suc i) i j (omega a
 
 -- ---- Assignments
 
-same_constant : (c d : Constant) → are_same_constant c d ≡ true → c ≡ d
+pub same_constant : (c d : Constant) → are_same_constant c d ≡ true → c ≡ d
 same_constant c d e =
     let named : c.name ≡ d.name = (bytes_eq-Decides c.name d.name).0 (and_parts (bytes_eq c.name d.name) (are_same_sort c.sort d.sort) e).0 in
     let sorted : c.sort ≡ d.sort = same_sorts c.sort d.sort (and_parts (bytes_eq c.name d.name) (are_same_sort c.sort d.sort) e).1 in

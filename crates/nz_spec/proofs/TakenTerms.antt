@@ -1,14 +1,16 @@
 -- Which terms are taken: normal terms of well sorted ones, and what taken terms are made of. What the tables ask of them.
-use Rattle.std.proofs.Common.{◌≡◌, true, false, ◌⊎◌, inl, inr, [], refl, sym, ap, ◌∙◌, subst, arith, Contains}
+use Rattle.std.proofs.Common.{◌≡◌, true, false, not, ◌⊎◌, inl, inr, List, [], ◌∷◌, ◌++◌, refl, sym, ap, ◌∙◌, subst, arith, true≢false, append-nil, Contains}
+use Rattle.std.specs.Prelude.{is_some}
 use Rattle.std.proofs.lemmas.Bool.{and_from, and_parts}
 use Rattle.std.proofs.lemmas.List.Elements.{Contains-append_cases, Contains-push_cases}
-use Rattle.nz_spec.specs.terms.Term.{Sort, bool_sort, is_bool, Head, constant, parameter, integer, decimal_number, equality, choice, Term, apply, Terms, no_terms, terms}
-use Rattle.nz_spec.specs.terms.Order.{post_order, post_orders}
-use Rattle.nz_spec.specs.terms.Linear.{is_linear, are_linear, is_linear_node, constant_values}
+use Rattle.nz_spec.specs.terms.Term.{Sort, bool_sort, int_sort, is_bool, is_int_sort, Head, constant, parameter, integer, decimal_number, equality, choice, sum, difference, product, integer_quotient, modulus, magnitude, to_int, is_int, Term, apply, Terms, no_terms, terms, sort_of}
+use Rattle.nz_spec.specs.terms.Order.{post_order, post_orders, companions, listing_order, listing_orders}
+use Rattle.nz_spec.specs.terms.Linear.{head_constant, is_linear, are_linear, is_linear_node, constant_values}
+use Rattle.nz_spec.specs.terms.FormOf.{is_opened, is_taken_whole}
 use Rattle.nz_spec.specs.terms.Operators.{Operator, true_operator, false_operator, not_operator, and_operator, or_operator, xor_operator, equals_operator, ite_operator, has_sort, all_terms, branches, operands_of, operator_head}
 use Rattle.nz_spec.specs.clauses.Gates.{gate_clauses, is_boolean_term, HasBooleanArguments}
 use Rattle.nz_spec.specs.terms.WellSorted.{AreOperands, IsSortedHead, AreWellSorted}
-use Rattle.nz_spec.specs.terms.Taken.{HaveTakenHeads, IsTaken, NormalTermsAreTaken, TakenTermsAreInOrder}
+use Rattle.nz_spec.specs.terms.Taken.{IsTakenHead, HasTakenHeads, HaveTakenHeads, IsTaken, NormalTermsAreTaken, TakenTermsAreInOrder}
 use Rattle.nz_spec.proofs.SortedArithmetic.{each_has, sorted_terms_are_arithmetic}
 use Rattle.nz_spec.proofs.NormalSorts.{of_sort, first_has, normal_stays_sorted}
 use Rattle.nz_spec.proofs.NormalHeads.{normal_heads}
@@ -96,10 +98,55 @@ in_order h ts i w = subst (λ (g : Head). IsInOrder (apply g ts)) (sym i.is) (by
 gates : (t : Term) → IsTaken t → IsInOrder t
 gates (apply h ts) k = in_order h ts k.sorted.0 k.sorted.1
 
+-- ---- What is listed with it
+
+no_companions : (h : Head) (ts : Terms) → IsTakenHead h ts → companions h ts ≡ []
+no_companions modulus ts k = absurd k
+no_companions is_int ts k = absurd k
+no_companions h ts k = refl
+
+mutual
+  listed : (t : Term) → HasTakenHeads t → listing_order t ≡ post_order t
+  listed (apply h ts) k =
+      ap (λ (us : List Term). listing_orders ts ++ us ++ apply h ts ∷ []) (no_companions h ts k.0)
+      ∙ ap (λ (us : List Term). us ++ apply h ts ∷ []) (append-nil (listing_orders ts) ∙ all_listed ts k.1)
+
+  all_listed : (ts : Terms) → HaveTakenHeads ts → listing_orders ts ≡ post_orders ts
+  all_listed no_terms k = refl
+  all_listed (terms t ts) k = ap (λ (us : List Term). us ++ listing_orders ts) (listed t k.0) ∙ ap (λ (us : List Term). post_order t ++ us) (all_listed ts k.1)
+
+-- ---- Units of sort Int
+
+-- a head over numbers is opened
+opened_again : (h : Head) (ts : Terms) → is_opened h ≡ true → is_taken_whole (apply h ts) ≡ true → ⊥
+opened_again h ts opened whole =
+    let closed = (and_parts (not (is_some (head_constant h (constant_values ts)))) (not (is_opened h)) whole).1 in
+    true≢false (sym closed ∙ ap not opened)
+
+no_integer : (h : Head) (ts : Terms) → IsTakenHead h ts → is_taken_whole (apply h ts) ≡ true → sort_of (apply h ts) ≡ int_sort → ⊥
+no_integer (constant c) no_terms k whole e = true≢false (sym (ap is_int_sort e) ∙ k)
+no_integer (constant c) (terms t ts) k whole e = absurd k
+no_integer (parameter i s) ts k whole e = absurd k
+no_integer (integer n) ts k whole e = true≢false (sym whole)
+no_integer (choice int_sort) ts k whole e = absurd k
+no_integer (sum s) ts k whole e = opened_again (sum s) ts refl whole
+no_integer (difference s) ts k whole e = opened_again (difference s) ts refl whole
+no_integer (product s) ts k whole e = opened_again (product s) ts refl whole
+no_integer integer_quotient ts k whole e = absurd k
+no_integer modulus ts k whole e = absurd k
+no_integer magnitude ts k whole e = absurd k
+no_integer to_int ts k whole e = absurd k
+no_integer h ts k whole e = cc
+
+unit : (t : Term) → IsTaken t → is_taken_whole t ≡ true → sort_of t ≡ int_sort → ⊥
+unit (apply h ts) k whole e = no_integer h ts k.heads.0 whole e
+
 pub taken_terms_are_in_order : TakenTermsAreInOrder
 taken_terms_are_in_order =
     record {
       parts = part_taken;
       arithmetic = λ t k. sorted_terms_are_arithmetic.tables t k.sorted k.linear;
       gates = gates;
+      listing = λ t k. listed t k.heads;
+      units = unit;
     }

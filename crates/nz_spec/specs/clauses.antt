@@ -1,6 +1,7 @@
 pub mod Cuts
 pub mod Farkas
 pub mod Gates
+pub mod Goals
 pub mod LinearLiteral
 pub mod Links
 pub mod Literal

@@ -2,5 +2,8 @@ pub mod BlandRuns
 pub mod Deciding
 pub mod FormPlace
 pub mod InfinitesimalMoves
+pub mod LegalWork
+pub mod MoreTerms
 pub mod Numerals
+pub mod Renumbering
 pub mod ToldBounds

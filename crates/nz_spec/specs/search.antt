@@ -1,5 +1,9 @@
+pub mod Atoms
+pub mod Beginnings
+pub mod Branches
 pub mod Decide
 pub mod Legal
 pub mod Notes
 pub mod Places
+pub mod Search
 pub mod Work

@@ -2,6 +2,7 @@
 ghost use Rattle.nz_spec.specs.clauses.Literal.{ClauseIsTrueTogether, NegationIsOther, ResolventIsTrue, TellsLiterals};
 ghost use Rattle.nz_spec.specs.clauses.Gates.{GatedTermsArePlain, GatesAreTrue, GatesDecide, NumberedGatesDecide, PlainTermsAreBoolean};
 ghost use Rattle.nz_spec.specs.clauses.Steps.{DerivationsGrow, DerivedClausesAreTrue, EmptyClauseRefutes};
+ghost use Rattle.nz_spec.specs.laws.Renumbering.{DerivationsRenumber};
 ghost use Rattle.nz_spec.specs.worked.WorkedSteps.{HasGateTable, HasRefutation, HasResolvents};
 
 /// Two literals are one where the test says so.
@@ -42,6 +43,11 @@ pub fn derived_clauses_are_true()
 /// A derivation goes on by a step in order, and when more is asserted.
 pub fn derivations_grow()
     ensures grow { DerivationsGrow }
+{}
+
+/// Where units are numbered anew, a derivation stays one, and fits where it fitted.
+pub fn derivations_renumber()
+    ensures renumber { DerivationsRenumber }
 {}
 
 /// Gates, resolvents and a refutation, by the definitions alone.

@@ -1,5 +1,9 @@
 //! Laws of work lists.
-ghost use Rattle.nz_spec.specs.search.Legal.{LegalWorkDoesNotRepeat, LegalWorkGoesOn, LegalWorkMayBegin, MoreTermsMayBegin, PivotsAreLegal};
+ghost use Rattle.nz_spec.specs.search.Branches.{BranchesAreFew};
+ghost use Rattle.nz_spec.specs.laws.LegalWork.{LegalBranchesAreFew, LegalWorkDoesNotRepeat, LegalWorkGoesOn, LegalWorkMayBegin, MoreTermsMayBegin, PivotsAreLegal, PlainWorkIsLegal};
+ghost use Rattle.nz_spec.specs.laws.MoreTerms.{MoreTermsEndLegally};
+ghost use Rattle.nz_spec.specs.worked.WorkedPlaces.{HasGreatWorth, HasScaling};
+ghost use Rattle.nz_spec.specs.worked.WorkedWork.{HasBranch, HasClimb, HasLaterCheck, HasPivot, HasRefusals, HasSearches, HasSpentUnits};
 
 /// A legal list goes on by a line that may follow.
 pub fn legal_work_goes_on()
@@ -21,7 +25,45 @@ pub fn legal_work_may_begin()
     ensures begins { LegalWorkMayBegin }
 {}
 
+/// A list of one search over terms and their tables, without goals, is legal where it leads somewhere.
+#[tactic(auto, using(crate::proofs::PlainWork::plain_work_is_legal))]
+pub fn plain_work_is_legal()
+    ensures legal { PlainWorkIsLegal }
+{}
+
 /// More terms allow what fewer do.
 pub fn more_terms_may_begin()
     ensures begins { MoreTermsMayBegin }
+{}
+
+/// What ends a check legally ends one that lists more terms.
+pub fn more_terms_end_legally()
+    ensures ends { MoreTermsEndLegally }
+{}
+
+/// Marks that stand for gaps or none are few where each gap is one of them at most, and of two neighbours one is a gap.
+pub fn branches_are_few()
+    ensures few { BranchesAreFew }
+{}
+
+/// A legal list has at most twice as many branches as asserted ranges have gaps, and one more.
+pub fn legal_branches_are_few()
+    ensures few { LegalBranchesAreFew }
+{}
+
+/// Lists of work that are legal line by line, and lines that may not follow.
+pub fn worked_work()
+    ensures searches { HasSearches }
+    ensures spent { HasSpentUnits }
+    ensures branch { HasBranch }
+    ensures climb { HasClimb }
+    ensures pivot { HasPivot }
+    ensures later { HasLaterCheck }
+    ensures refusals { HasRefusals }
+{}
+
+/// A list that ends where the value of a term leaves the numbers, and columns that are scaled to integers.
+pub fn worked_places()
+    ensures worth { HasGreatWorth }
+    ensures scaling { HasScaling }
 {}

@@ -1,16 +1,17 @@
 //! The search: what it is handed, what comes before it, and the search itself.
-ghost use Rattle.std.specs.Prelude.{◌≡◌, ℕ, [], List, None, IfErr, IfOk, IfSome, OnOk};
+ghost use Rattle.std.specs.Prelude.{◌≡◌, ℕ, [], List, None, IfErr, IfOk, IfSome, OnErr, OnOk};
 ghost use Rattle.nz_spec.specs.terms.Term as spec;
+ghost use Rattle.nz_spec.specs.search.Places.{AreAllTold};
 ghost use Rattle.nz_spec.specs.search.Work.{IsSpent};
 ghost use Rattle.nz_search.specs.declared.stop.Stop.TheVariants as stop;
 ghost use Rattle.nz_log.specs.Atoms.{AreAtoms};
 ghost use Rattle.nz_log.specs.Logs.{JoinsAtoms};
-ghost use Rattle.nz_search.specs.Standing.{Ends};
+ghost use Rattle.nz_search.specs.Standing.{Stands, search_after};
 ghost use Rattle.nz_term.specs.TermLits.{AreConsistent, AreNegations};
 ghost use Rattle.nz_search.specs.Verdicts.{OnSpent, task_in};
 ghost use Rattle.nz_cform.specs.Covering.{Covers};
 ghost use Rattle.nz_reals.specs.Stands.{IsAt};
-ghost use Rattle.nz_engine.specs.Checking.{AreHanded, EndsWith, HasFound, IsBegun, IsPosed, IsReady, MaySearch, Works};
+ghost use Rattle.nz_engine.specs.Checking.{AreHanded, EndsWith, HasFound, IsBegun, IsPlain, IsPosed, IsReady, MaySearch, NotesUnder, Works};
 ghost use Rattle.nz_engine.specs.Engines.{literals_in};
 ghost use Rattle.nz_engine.specs.SearchLaws.{SearchLaws};
 ghost use Rattle.nz_engine.specs.Preparing.{BeganExcluded};
@@ -27,7 +28,9 @@ use nz_reals::laws::theories_restart;
 use nz_search::{Note, Stop};
 use nz_spec::form::forms_are_sums;
 use nz_spec::term::operands_are_sorted;
+use nz_spec::work::legal_work_goes_on;
 use nz_term::{TermLit, Terms};
+use std::alloc::Global;
 
 /// The atoms of a search, and the literals that it assumes.
 #[derive(Debug, Drop)]
@@ -56,7 +59,11 @@ impl Prepared {
         ensures found { IfOk result (λ r. r ≡ None → HasFound terms.now assumed.now self.new) }
         ensures refuted { IfOk result (λ r. IfSome r (λ id. AreNegations assumed.now (literals_in self.new.log id))) }
         // Where a search may begin with the theory, it goes on legally, and leads to where the theory stands then.
-        ensures ends { (levels : List (List ℕ)) (ts : List spec.Term) → MaySearch terms.now levels assumed.now ts self.old → Ends (IsAt self.new.sat.theory terms.now) terms.now (task_in terms.now levels assumed.now ts) work.new result }
+        ensures stands { OnOk result ((levels : List (List ℕ)) (ts : List spec.Term) → MaySearch terms.now levels assumed.now ts self.old → Stands (IsAt self.new.sat.theory terms.now) terms.now (task_in terms.now levels assumed.now ts) work.new) }
+        ensures stopped { IfErr result (λ e. (levels : List (List ℕ)) (ts : List spec.Term) → MaySearch terms.now levels assumed.now ts self.old → EndsWith terms.now (task_in terms.now levels assumed.now ts) work.new e) }
+        ensures plain { (levels : List (List ℕ)) (ts : List spec.Term) → MaySearch terms.now levels assumed.now ts self.old → IsPlain (task_in terms.now levels assumed.now ts) (search_after terms.now work.new) }
+        // Where it found values, the theory was told of every bound.
+        ensures told { IfOk result (λ r. r ≡ None → AreAllTold (search_after terms.now work.new)) }
         ensures works { Works terms.now work.old work.new }
         ensures spent { IfErr result (λ s. OnSpent s (IsSpent work.new)) }
         ensures excluded { OnOk result (BeganExcluded terms.now self.new) }
@@ -67,7 +74,7 @@ impl Prepared {
     }
 
     /// Does all that comes before a search: names its atoms, which are noted behind the forms with which the theory begins, lets the sums that they bound
-    /// join, and holds the clauses for neighbouring bounds.
+    /// join, holds the clauses for neighbouring bounds, and notes what the search goes under.
     fn begin(
         &mut self,
         terms: &Terms,
@@ -78,6 +85,7 @@ impl Prepared {
         requires no_steps { work.old.lines ≡ [] }
         ensures begun { IfOk result (λ n. IsBegun terms.now assumed.now self.old self.new n.atoms.items n.literals.items work.new) }
         ensures stopped { IfErr result (λ e. (levels : List (List ℕ)) (ts : List spec.Term) → MaySearch terms.now levels assumed.now ts self.old → EndsWith terms.now (task_in terms.now levels assumed.now ts) work.new e) }
+        ensures plain { (levels : List (List ℕ)) (ts : List spec.Term) → MaySearch terms.now levels assumed.now ts self.old → IsPlain (task_in terms.now levels assumed.now ts) (search_after terms.now work.new) }
         ensures works { Works terms.now work.old work.new }
         ensures unspent { IfErr result (λ e. e ≡ stop.Spent → ⊥) }
     {
@@ -85,6 +93,7 @@ impl Prepared {
         let named = self.ready(terms, assumed)?;
         begin_anew(self.alloc, &mut self.sat, &self.log, &named.atoms, work)?;
         exclude(self.alloc, &mut self.sat, &mut self.log, &named.atoms)?;
+        go_under(self.alloc, assumed, work)?;
         Ok(named)
     }
 
@@ -118,6 +127,16 @@ impl Prepared {
     }
 }
 
+/// Notes that a search goes under these literals.
+fn go_under(alloc: Global, assumed: &[TermLit], work: &mut Work<Note>) -> Result<(), Memory>
+    ensures under { OnOk result (NotesUnder assumed.now work.old work.new) }
+    ensures unchanged { OnErr result (work.new ≡ work.old) }
+{
+    let literals = Vec::from_slice(alloc, assumed)?;
+    work.note(Note::Under(literals))?;
+    Ok(())
+}
+
 /// Says what a search over what is prepared rests on.
 fn search_laws()
     ensures laws { SearchLaws }
@@ -127,4 +146,5 @@ fn search_laws()
     forms_are_sums();
     operands_are_sorted();
     theories_restart();
+    legal_work_goes_on();
 }

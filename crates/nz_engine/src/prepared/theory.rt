@@ -1,6 +1,6 @@
 //! The theory of a search, which begins anew with the sums that its atoms bound.
 ghost use Rattle.std.specs.Prelude.{◌≡◌, [], All, List, IfErr, OnOk};
-ghost use Rattle.nz_spec.specs.search.Legal.{Task};
+ghost use Rattle.nz_spec.specs.search.Search.{Task};
 ghost use Rattle.nz_spec.specs.terms.Table.{Node};
 ghost use Rattle.nz_search.specs.declared.stop.Stop.TheVariants as stop;
 ghost use Rattle.nz_search.specs.Standing.{Stands};
@@ -19,6 +19,7 @@ use nz_reals::Reals;
 use nz_sat::Sat;
 use nz_search::{Note, Stop};
 use nz_spec::derivation::tells_literals;
+use nz_spec::work::legal_work_goes_on;
 use std::alloc::Global;
 
 /// Lets the sums that these atoms bound join a theory, which are noted.
@@ -62,6 +63,7 @@ fn begin_theory(
 {
     tells_lits();
     tells_literals();
+    legal_work_goes_on();
     theory.restart(work)?;
     note_atoms(alloc, log, atoms, work)?;
     join_sums(alloc, theory, log, atoms, work)
@@ -78,7 +80,8 @@ fn arrange(
     ensures over { (ns : List Node) → IsOver theory.old ns → All (IsAtomAt ns log.now.atoms) atoms.now → IsOver theory.new ns }
     ensures rest { (ns : List Node) (q : Task) → MayBegin theory.old ns q log.now.atoms atoms.now → MayBegin theory.new ns q log.now.atoms atoms.now }
 {
-    theory.arrange(log, atoms, truths)
+    theory.arrange(log, atoms, truths)?;
+    Ok(())
 }
 
 /// Begins the theory of a search anew, notes these atoms, and lets the sums that they bound join. Where it has none yet, those are arranged first: the

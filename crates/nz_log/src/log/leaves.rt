@@ -3,9 +3,9 @@ ghost use Rattle.std.specs.Prelude.{◌≡◌, ℕ, ◌<◌, [], List, length, A
 ghost use Rattle.nz_spec.specs.terms.Table.{Node, term_in};
 ghost use Rattle.nz_spec.specs.clauses.Gates.{HasBooleanArguments};
 ghost use Rattle.nz_spec.specs.clauses.Literal.{once};
-ghost use Rattle.nz_log.specs.Atoms.{AreAtoms, HasTerm};
+ghost use Rattle.nz_log.specs.Atoms.{AreAtoms, HasTerm, IsAtomOf, JoinOnly};
 ghost use Rattle.nz_log.specs.Lits.{are_same_lit};
-ghost use Rattle.nz_log.specs.Logs.{IsLeaf, JoinsAtoms, Puts, gate_entry, given_entry, made_entry};
+ghost use Rattle.nz_log.specs.Logs.{IsLeaf, JoinsAtoms, Puts, gate_entry, given_entry, literals_at, made_entry};
 ghost use Rattle.nz_log.specs.Sound.{IsLog, live_at};
 ghost use Rattle.nz_log.specs.Stored.{origin_of};
 ghost use Rattle.nz_rows.specs.GateRows.{gates_at};
@@ -29,6 +29,7 @@ impl Log {
         ensures made { IfOk result (λ id. Puts self.old id (given_entry self.new k term level) self.new) }
         ensures there { OnOk result (HasTerm self.new.atoms term) }
         ensures atoms { AreAtoms self.new.atoms }
+        ensures only { IfOk result (λ id. JoinOnly self.old.atoms self.new.atoms (IsAtomOf (literals_at self.new id))) }
         ensures unchanged { OnErr result (JoinsAtoms self.old self.new) }
         // Where the assertion is the one of this place that is live at the level, the log stays in order.
         ensures sound { (ns : List Node) (levels : List (List ℕ)) → term < length ns → slice_get (live_at levels level) k ≡ Some term → IsLog ns levels self.old → IsLog ns levels self.new }
@@ -54,6 +55,7 @@ impl Log {
         ensures made { IfOk result (λ id. Puts self.old id (gate_entry terms.now self.new term j) self.new) }
         ensures there { OnOk result (All (λ l. HasTerm self.new.atoms l.term) (unwrap_or (slice_get (gates_at terms.now term) j) [])) }
         ensures atoms { AreAtoms self.new.atoms }
+        ensures only { IfOk result (λ id. JoinOnly self.old.atoms self.new.atoms (IsAtomOf (literals_at self.new id))) }
         ensures unchanged { OnErr result (JoinsAtoms self.old self.new) }
         // Where the term is over Boolean ones, the log stays in order.
         ensures sound { (levels : List (List ℕ)) → HasBooleanArguments (term_in terms.now term) → IsLog terms.now levels self.old → IsLog terms.now levels self.new }

@@ -1,6 +1,6 @@
 //! Atoms of terms, and literals on them, as they join the log's atoms.
-ghost use Rattle.std.specs.Prelude.{◌≡◌, map, All, OnOk, IfOk};
-ghost use Rattle.nz_log.specs.Atoms.{AreAtoms, HasTerm, lit_of, lits_of, term_place};
+ghost use Rattle.std.specs.Prelude.{◌≡◌, map, All, Contains, OnOk, IfOk};
+ghost use Rattle.nz_log.specs.Atoms.{AreAtoms, HasTerm, IsAtomOf, JoinOnly, lit_of, lits_of, term_place};
 ghost use Rattle.nz_log.specs.Logs.{JoinsAtoms};
 
 use super::Log;
@@ -18,6 +18,7 @@ impl Log {
         ensures numbers { IfOk result (λ v. v.items ≡ map (term_place self.new.atoms) terms.now) }
         ensures there { OnOk result (All (HasTerm self.new.atoms) terms.now) }
         ensures joins { JoinsAtoms self.old self.new }
+        ensures only { IfOk result (λ v. JoinOnly self.old.atoms self.new.atoms (Contains v.items)) }
         ensures atoms { AreAtoms self.new.atoms }
     {
         self.atom_count();
@@ -39,6 +40,7 @@ impl Log {
         ensures literals { IfOk result (λ v. v.items ≡ lits_of self.new.atoms clause.now) }
         ensures there { OnOk result (All (λ l. HasTerm self.new.atoms l.term) clause.now) }
         ensures joins { JoinsAtoms self.old self.new }
+        ensures only { IfOk result (λ v. JoinOnly self.old.atoms self.new.atoms (IsAtomOf v.items)) }
         ensures atoms { AreAtoms self.new.atoms }
     {
         self.atom_count();
@@ -55,6 +57,7 @@ impl Log {
         ensures literal { IfOk result (λ l. l ≡ lit_of self.new.atoms literal) }
         ensures there { OnOk result (HasTerm self.new.atoms literal.term) }
         ensures joins { JoinsAtoms self.old self.new }
+        ensures only { IfOk result (λ l. JoinOnly self.old.atoms self.new.atoms (λ i. i ≡ l.atom)) }
         ensures atoms { AreAtoms self.new.atoms }
     {
         let atom = self.term_atom(literal.term)?;

@@ -1,7 +1,7 @@
 -- The limits of single commands.
 use Rattle.std.specs.Prelude.{ℕ, ◌+◌, ◌==◌, not, nat_lt, Bool, true, false, length, Option, Some, None}
 use Rattle.nz_script.specs.commands.Expression.{Numeric, written_integer, written_decimal}
-use Rattle.nz_script.specs.commands.Request.{Request, declares, wishes, pushes}
+use Rattle.nz_script.specs.commands.Request.{Request, declares, defines, asserts, wishes, seeks, checks, checks_assuming, pushes, pops, resets, resets_assertions, shows_model, shows_values, shows_objectives, shows_info, sets_option, sets_nothing, echoes, exits, other_request}
 use Rattle.nz_script.specs.live.Live.{State, constants_of, pushed_levels}
 
 -- the greatest number of live constants, and of pushed levels
@@ -28,6 +28,22 @@ is_zero_weight w = false
 -- The command goes beyond a limit, in its own way.
 abbrev pub passes_limit : State → Request → Bool
 passes_limit s (declares name arguments sort) = has_most_constants s
-passes_limit s (pushes n) = are_too_many s n
+passes_limit s (defines name parameters sort body) = false
+passes_limit s (asserts e) = false
 passes_limit s (wishes e a) = is_zero_weight a.weight
-passes_limit s r = false
+passes_limit s (seeks direction e) = false
+passes_limit s checks = false
+passes_limit s (checks_assuming xs) = false
+passes_limit s (pushes n) = are_too_many s n
+passes_limit s (pops n) = false
+passes_limit s resets = false
+passes_limit s resets_assertions = false
+passes_limit s shows_model = false
+passes_limit s (shows_values qs) = false
+passes_limit s shows_objectives = false
+passes_limit s (shows_info k) = false
+passes_limit s (sets_option o) = false
+passes_limit s sets_nothing = false
+passes_limit s (echoes text) = false
+passes_limit s exits = false
+passes_limit s other_request = false

@@ -9,7 +9,7 @@ use Rattle.nz_spec.specs.terms.Normal.{normal_of}
 use Rattle.nz_spec.specs.terms.Linear.{is_linear}
 use Rattle.nz_spec.specs.clauses.Literal.{Literal, term_literal}
 use Rattle.nz_script.specs.commands.Expression.{Expression, written_name, Expressions, no_expressions, expressions}
-use Rattle.nz_script.specs.commands.Request.{WrittenSort, named_sort, listed_sort, Parameter, Assumption, Question, lex_priority, Setting, success_setting, models_setting, priority_setting, InfoKey, name_key, version_key, authors_key, behavior_key, levels_key, reason_key, other_key, Request, declares, defines, asserts, checks, checks_assuming, pushes, pops, resets, resets_assertions, shows_model, shows_values, shows_info, sets_option, sets_nothing, echoes, exits}
+use Rattle.nz_script.specs.commands.Request.{WrittenSort, named_sort, listed_sort, Parameter, Assumption, Question, lex_priority, Setting, success_setting, models_setting, priority_setting, InfoKey, name_key, version_key, authors_key, behavior_key, levels_key, reason_key, other_key, Request, declares, defines, asserts, wishes, seeks, checks, checks_assuming, pushes, pops, resets, resets_assertions, shows_model, shows_values, shows_objectives, shows_info, sets_option, sets_nothing, echoes, exits, other_request}
 use Rattle.nz_script.specs.commands.Parse.{cons_onto, request_of}
 use Rattle.nz_script.specs.commands.Elaboration.{is_declared, sort_named, Scope, term_of, terms_of}
 use Rattle.nz_spec.specs.terms.Operators.{has_sort, placed}
@@ -184,6 +184,8 @@ abbrev pub outcome_by : State → Request → Outcome
 outcome_by s (declares name arguments sort) = declaration_of s name arguments sort
 outcome_by s (defines name parameters sort body) = definition_of s name parameters sort body
 outcome_by s (asserts e) = assertion_of s e
+outcome_by s (wishes e a) = not_taken
+outcome_by s (seeks direction e) = not_taken
 outcome_by s checks = if items_hold_integers (items_of s.levels) then not_taken else accepted (check_sat [])
 outcome_by s (checks_assuming xs) = check_under s xs
 outcome_by s (pushes n) = push_of n
@@ -192,12 +194,13 @@ outcome_by s resets = accepted reset
 outcome_by s resets_assertions = accepted reset_assertions
 outcome_by s shows_model = accepted get_model
 outcome_by s (shows_values qs) = values_asked s qs
+outcome_by s shows_objectives = not_taken
 outcome_by s (shows_info k) = info_asked k
 outcome_by s (sets_option o) = option_set o
 outcome_by s sets_nothing = accepted no_effect
 outcome_by s (echoes text) = accepted (echo text)
 outcome_by s exits = accepted exit
-outcome_by s r = not_taken
+outcome_by s other_request = not_taken
 
 -- The rules in their order: the limits, the width of numbers anywhere in the command, what the program takes, and then the
 -- names, the sorts and what is linear.

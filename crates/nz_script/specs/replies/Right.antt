@@ -1,19 +1,21 @@
 -- Which reply to a thing heard is right, and what it leaves (SMT-LIB 2.6, section 4.2).
-use Rattle.std.specs.Prelude.{◌≡◌, ℕ, List, [], ◌∷◌, ◌++◌, map, flat_map, drop, Option, Some, None, ◌⊎◌, if◌then◌else◌}
+use Rattle.std.specs.Prelude.{◌≡◌, ℕ, Bool, true, false, not, List, [], ◌∷◌, ◌++◌, map, filter, flat_map, drop, Option, Some, None, ◌⊎◌, if◌then◌else◌}
 use Rattle.std.specs.List.{repeat}
 use Rattle.nz_script.specs.text.Tree.{Tree}
 use Rattle.nz_spec.specs.terms.Term.{Term, Assignment}
-use Rattle.nz_spec.specs.terms.Normal.{normal_of}
+use Rattle.nz_spec.specs.terms.Normal.{negated, normal_of}
+use Rattle.nz_spec.specs.clauses.Gates.{is_boolean_term}
 use Rattle.nz_spec.specs.clauses.Literal.{Literal, term_literal, is_at_most, is_below}
-use Rattle.nz_spec.specs.terms.Form.{Part}
+use Rattle.nz_spec.specs.terms.Form.{Numbering, TellsApart, Part}
 use Rattle.nz_script.specs.text.Text.{What, intact, faulty, unclosed, unread}
 use Rattle.nz_spec.specs.outside.Error.{nothing_to_show, incomplete, out_of_memory}
 use Rattle.nz_spec.specs.terms.Model.{assignment_of, AreModel, IsUnsatisfiable}
 use Rattle.nz_script.specs.live.Live.{units_spent, number_left, declared, defined, asserted, LastAnswer, model_found, refutation, undecided, Options, State, start, constants_of, assertions_of, grown, pushed_levels}
-use Rattle.nz_script.specs.commands.Command.{Asked, Command, declare_const, define, assert_term, push_levels, pop_levels, reset, reset_assertions, check_sat, get_model, get_value, get_info, get_levels, get_reason, set_print_success, echo, exit, Outcome, accepted, refused, not_taken}
+use Rattle.nz_script.specs.commands.Command.{Asked, Command, declare_const, define, assert_term, push_levels, pop_levels, reset, reset_assertions, check_sat, get_model, get_value, get_info, get_levels, get_reason, set_print_success, no_effect, echo, exit, Outcome, accepted, refused, not_taken}
 use Rattle.nz_script.specs.commands.Script.{outcome_of}
 use Rattle.nz_script.specs.live.TermList.{terms_added}
-use Rattle.nz_spec.specs.search.Legal.{Task, IsSpentLegally}
+use Rattle.nz_spec.specs.search.Search.{Task}
+use Rattle.nz_spec.specs.search.Legal.{IsSpentLegally}
 use Rattle.nz_spec.specs.search.Places.{IsStoppedLegally}
 use Rattle.nz_script.specs.replies.Reply.{Shown, term_shown, Reply, quiet, success, sat, unsat, unknown, model, values, info, levels, reason, echoed, unsupported, error, Cause, plain, spent, stopped}
 
@@ -28,9 +30,10 @@ pub record Context : Type 0 where
 abbrev pub beginning : ℕ → Context
 beginning limit = record { limit = limit; earlier = []; state = start }
 
--- the normal terms that a literal is of: its term, or the units of its sum
+-- the normal terms of a literal: the one that it makes true, which is a negation where it is negated; or the units of its sum
 abbrev pub normals_in : Literal → List Term
-normals_in (term_literal t sign) = normal_of t ∷ []
+normals_in (term_literal t true) = normal_of t ∷ []
+normals_in (term_literal t false) = negated (normal_of t) ∷ []
 normals_in (is_at_most ps b) = map (λ (p : Part). normal_of p.unit) ps
 normals_in (is_below ps b) = map (λ (p : Part). normal_of p.unit) ps
 
@@ -38,9 +41,30 @@ normals_in (is_below ps b) = map (λ (p : Part). normal_of p.unit) ps
 abbrev pub listed_under : State → List Literal → List Term
 listed_under s assumed = terms_added s (flat_map normals_in assumed)
 
--- what a check under these assumed literals asks a search
-abbrev pub task_of : Context → List Literal → Task
-task_of c assumed = record { asserted = assertions_of c.state; assumed = assumed; listed = listed_under c.state assumed; earlier = c.earlier }
+-- the literal, on normal terms
+abbrev pub normal_part : Part → Part
+normal_part p = record p { unit = normal_of p.unit }
+
+abbrev pub normal_literal : Literal → Literal
+normal_literal (term_literal t sign) = term_literal (normal_of t) sign
+normal_literal (is_at_most ps b) = is_at_most (map normal_part ps) b
+normal_literal (is_below ps b) = is_below (map normal_part ps) b
+
+-- what a check under these assumed literals asks a search: whether the normal terms can be true, where units of sums stand in the order of these numbers
+abbrev pub task_of : Numbering → Context → List Literal → Task
+task_of number c assumed = record {
+  asserted = map normal_of (assertions_of c.state);
+  assumed = map normal_literal assumed;
+  goals = [];
+  listed = listed_under c.state assumed;
+  numbering = number;
+  earlier = c.earlier;
+  earlier_goals = [];
+}
+
+-- the terms that aren't of sort Bool, among which units of sums are
+abbrev pub numeric_among : List Term → List Term
+numeric_among ts = filter (λ (t : Term). not (is_boolean_term t)) ts
 
 -- An answer to a check under these assumed literals.
 abbrev pub IsRightCheck : Context → List Literal → Reply → Cause → Type 0
@@ -49,10 +73,10 @@ IsRightCheck c assumed unsat cause = IsUnsatisfiable (assertions_of c.state) ass
 -- Each unit of the limit was used, step by step as a search may.
 IsRightCheck c assumed (unknown r) plain = ⊥
 IsRightCheck c assumed (unknown r) (spent list) =
-    (r ≡ units_spent c.limit) × (list.limit ≡ c.limit) × IsSpentLegally (task_of c assumed) list
+    (r ≡ units_spent c.limit) × (list.limit ≡ c.limit) × (number : Numbering) × TellsApart number (numeric_among (listed_under c.state assumed)) × IsSpentLegally (task_of number c assumed) list
 -- An operation left the numbers, at its place.
 IsRightCheck c assumed (unknown r) (stopped place list) =
-    (r ≡ number_left place.operation) × (list.limit ≡ c.limit) × IsStoppedLegally (task_of c assumed) list place
+    (r ≡ number_left place.operation) × (list.limit ≡ c.limit) × (number : Numbering) × TellsApart number (numeric_among (listed_under c.state assumed)) × IsStoppedLegally (task_of number c assumed) list place
 IsRightCheck c assumed reply cause = ⊥
 
 -- what the last answer shows, where it has something to show
@@ -77,29 +101,66 @@ abbrev pub done : Options → Reply
 done o = if o.prints_success then success else quiet
 
 abbrev pub IsRightCommand : Context → Command → Reply → Cause → Type 0
+IsRightCommand c (declare_const k) reply cause = (reply ≡ done c.state.options) × (cause ≡ plain)
+IsRightCommand c (define d) reply cause = (reply ≡ done c.state.options) × (cause ≡ plain)
+IsRightCommand c (assert_term t) reply cause = (reply ≡ done c.state.options) × (cause ≡ plain)
+IsRightCommand c (push_levels n) reply cause = (reply ≡ done c.state.options) × (cause ≡ plain)
+IsRightCommand c (pop_levels n) reply cause = (reply ≡ done c.state.options) × (cause ≡ plain)
+IsRightCommand c reset reply cause = (reply ≡ done start.options) × (cause ≡ plain)
+IsRightCommand c reset_assertions reply cause = (reply ≡ done c.state.options) × (cause ≡ plain)
 IsRightCommand c (check_sat assumed) reply cause = IsRightCheck c assumed reply cause
 IsRightCommand c get_model reply cause = IsRightModel c.state.last reply × (cause ≡ plain)
 IsRightCommand c (get_value xs) reply cause = AreRightValues c.state.last xs reply × (cause ≡ plain)
 IsRightCommand c (get_info i) reply cause = (reply ≡ info i) × (cause ≡ plain)
 IsRightCommand c get_levels reply cause = (reply ≡ levels (pushed_levels c.state)) × (cause ≡ plain)
 IsRightCommand c get_reason reply cause = IsRightReason c.state.last reply × (cause ≡ plain)
-IsRightCommand c (echo bs) reply cause = (reply ≡ echoed bs) × (cause ≡ plain)
 IsRightCommand c (set_print_success b) reply cause = (reply ≡ done (record { prints_success = b })) × (cause ≡ plain)
-IsRightCommand c reset reply cause = (reply ≡ done start.options) × (cause ≡ plain)
-IsRightCommand c k reply cause = (reply ≡ done c.state.options) × (cause ≡ plain)
+IsRightCommand c no_effect reply cause = (reply ≡ done c.state.options) × (cause ≡ plain)
+IsRightCommand c (echo bs) reply cause = (reply ≡ echoed bs) × (cause ≡ plain)
+IsRightCommand c exit reply cause = (reply ≡ done c.state.options) × (cause ≡ plain)
 
 abbrev pub IsRightOutcome : Context → Outcome → Reply → Cause → Type 0
 IsRightOutcome c (accepted k) reply cause = IsRightCommand c k reply cause
 IsRightOutcome c (refused e) reply cause = (reply ≡ error e) × (cause ≡ plain)
 IsRightOutcome c not_taken reply cause = (reply ≡ unsupported) × (cause ≡ plain)
 
+-- a command that takes no memory once it is accepted
+abbrev pub always_answered : Command → Bool
+always_answered (declare_const c) = false
+always_answered (define d) = false
+always_answered (assert_term t) = false
+always_answered (push_levels n) = false
+always_answered (pop_levels n) = true
+always_answered reset = false
+always_answered reset_assertions = false
+always_answered (check_sat assumed) = false
+always_answered get_model = false
+always_answered (get_value xs) = false
+always_answered (get_info i) = false
+always_answered get_levels = false
+always_answered get_reason = false
+always_answered (set_print_success b) = false
+always_answered no_effect = false
+always_answered (echo bs) = true
+always_answered exit = true
+
+-- a command of which this becomes may be answered with want of memory
+abbrev pub may_want_memory : Outcome → Bool
+may_want_memory (accepted k) = not (always_answered k)
+may_want_memory (refused e) = true
+may_want_memory not_taken = true
+
 -- the reply to want of memory
 abbrev pub IsOutOfMemory : Reply → Cause → Type 0
 IsOutOfMemory reply cause = (reply ≡ error out_of_memory) × (cause ≡ plain)
 
--- The reply to a thing told; a command may be answered with want of memory in place of any other reply.
+-- that reply in place of any other
+abbrev pub IsWantOfMemory : Outcome → Reply → Cause → Type 0
+IsWantOfMemory o reply cause = (may_want_memory o ≡ true) × IsOutOfMemory reply cause
+
+-- The reply to a thing told.
 abbrev pub IsRight : Context → What → Reply → Cause → Type 0
-IsRight c (intact t) reply cause = IsRightOutcome c (outcome_of c.state t) reply cause ⊎ IsOutOfMemory reply cause
+IsRight c (intact t) reply cause = IsRightOutcome c (outcome_of c.state t) reply cause ⊎ IsWantOfMemory (outcome_of c.state t) reply cause
 IsRight c (faulty e) reply cause = (reply ≡ error e) × (cause ≡ plain)
 IsRight c unclosed reply cause = (reply ≡ error incomplete) × (cause ≡ plain)
 IsRight c unread reply cause = IsOutOfMemory reply cause
@@ -123,8 +184,15 @@ effect s (pop_levels n) reply = record s { levels = drop n s.levels; last = None
 effect s reset reply = start
 effect s reset_assertions reply = record start { options = s.options }
 effect s (check_sat assumed) reply = record s { last = last_after reply }
+effect s get_model reply = s
+effect s (get_value xs) reply = s
+effect s (get_info i) reply = s
+effect s get_levels reply = s
+effect s get_reason reply = s
 effect s (set_print_success b) reply = record s { options = record { prints_success = b } }
-effect s c reply = s
+effect s no_effect reply = s
+effect s (echo bs) reply = s
+effect s exit reply = s
 
 abbrev pub effect_of : State → Outcome → Reply → State
 effect_of s (accepted c) reply = effect s c reply
@@ -143,9 +211,29 @@ IsExit s (intact t) reply = (outcome_of s t ≡ accepted exit) × (reply ≡ don
 IsExit s what reply = ⊥
 
 -- the terms that a command asks a search of
+abbrev pub searched_by : State → Command → List Term
+searched_by s (declare_const c) = []
+searched_by s (define d) = []
+searched_by s (assert_term t) = []
+searched_by s (push_levels n) = []
+searched_by s (pop_levels n) = []
+searched_by s reset = []
+searched_by s reset_assertions = []
+searched_by s (check_sat assumed) = listed_under s assumed
+searched_by s get_model = []
+searched_by s (get_value xs) = []
+searched_by s (get_info i) = []
+searched_by s get_levels = []
+searched_by s get_reason = []
+searched_by s (set_print_success b) = []
+searched_by s no_effect = []
+searched_by s (echo bs) = []
+searched_by s exit = []
+
 abbrev pub asked_of : State → Outcome → List Term
-asked_of s (accepted (check_sat assumed)) = listed_under s assumed
-asked_of s o = []
+asked_of s (accepted c) = searched_by s c
+asked_of s (refused e) = []
+asked_of s not_taken = []
 
 -- the terms that searches were asked of, when this is told
 abbrev pub earlier_after : Context → What → List Term

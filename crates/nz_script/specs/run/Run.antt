@@ -34,22 +34,22 @@ status_of cut kept = if cut || list_any is_memory_error kept then 5 else (if lis
 abbrev pub buffer_size : ℕ
 buffer_size = 4096
 
--- The replies end by an accepted exit, which is complete only in the bytes of the last read.
+-- The exit that ends the replies isn't complete in the bytes before the last read, which brought none where it is heard as the text ends.
 pub record ExitsInTime (bytes : List ℕ) (kept : List Kept) : Type 0 where
-  pub exits : EndsByExit start kept
   pub earlier : List ℕ
   pub last : List ℕ
   pub split : bytes ≡ earlier ++ last
   pub short : length last ≤ buffer_size
   pub incomplete : (heard : List Heard) → AreToldAs (things_of kept) heard → AreComplete script_limits earlier heard → ⊥
 
--- A run that came to its end: the input's front was read, to its end or to an accepted exit; what was kept is the transcript
--- of these bytes; and the texts of its replies were written.
+-- A run that came to its end: the input's front was read, to its end or to an accepted exit, and behind an exit no further; what
+-- was kept is the transcript of these bytes; and the texts of its replies were written.
 pub record IsAnswered (limit : ℕ) (input rest before after : Option (List ℕ)) (kept : List Kept) : Type 0 where
   pub read : List ℕ
   pub taken : Consumes input rest read
   pub transcript : IsTranscript limit read kept
-  pub whole : IsAtEnd rest ⊎ ExitsInTime read kept
+  pub whole : IsAtEnd rest ⊎ EndsByExit start kept
+  pub in_time : EndsByExit start kept → ExitsInTime read kept
   pub written : Appends before after (texts_of kept)
 
 -- A run that want of memory cut short: what was kept is a front of what is complete in the bytes read, or of what is heard in

@@ -10,7 +10,7 @@ use Rattle.nz_script.specs.commands.Script.{outcome_of}
 use Rattle.nz_script.specs.text.Text.{intact}
 use Rattle.nz_script.specs.replies.Reply.{Reply, quiet, success, unsat, values, error, unsupported}
 use Rattle.nz_spec.specs.outside.Error as fault
-use Rattle.nz_script.specs.replies.Right.{after}
+use Rattle.nz_script.specs.replies.Right.{may_want_memory, after}
 use Rattle.nz_spec.specs.worked.TruthTables.{of_three}
 use Rattle.nz_spec.specs.worked.TermSamples.{constant_of_sort, alone, over_one, a_term, x_term, u_term, numeral_term, real_of, sample_constants}
 use Rattle.nz_script.specs.worked.Samples.{half, above, below, tree_in, state_with, outcome_in}
@@ -166,6 +166,12 @@ answered = state_with (declared (constant_of_sort bool_sort (codes "a")) ∷ [])
 abbrev pub left_by : State → List ℕ → Reply → State
 left_by s text reply = after s (intact (tree_in text)) reply
 
+-- what may be answered with want of memory: all but `pop`, `echo` and `exit` where they are accepted
+abbrev pub answerable_texts : List (List ℕ)
+answerable_texts =
+    codes "(pop 0)" ∷ codes "(echo \"a\")" ∷ codes "(exit)" ∷ codes "(pop 1)" ∷ codes "(echo a)" ∷ codes "(exit 1)" ∷ codes "(push 0)" ∷ codes "(reset)" ∷
+    codes "(get-model)" ∷ codes "(assert a)" ∷ codes "(frob)" ∷ []
+
 -- An accepted addition stands last, and ends the answer; what shows the answer leaves it, and so does whatever is refused.
 pub record HasEffects : Type 0 where
   pub declares : left_by start (codes "(declare-const x Int)") quiet ≡ state_with (declared (constant_of_sort int_sort (codes "x")) ∷ []) None
@@ -175,6 +181,7 @@ pub record HasEffects : Type 0 where
   pub refuses : left_by answered (codes "(assert q)") (error fault.unknown_symbol) ≡ answered
   pub passes : left_by answered (codes "(frob)") unsupported ≡ answered
   pub lacks_memory : left_by answered (codes "(assert a)") (error fault.out_of_memory) ≡ answered
+  pub wants_memory : map may_want_memory (outcomes_in answerable_texts) ≡ false ∷ false ∷ false ∷ true ∷ true ∷ true ∷ true ∷ true ∷ true ∷ true ∷ true ∷ []
   pub denies : left_by answered (codes "(check-sat)") unsat ≡ record answered { last = Some refutation }
   pub sets : left_by answered (codes "(set-option :print-success true)") success ≡ record answered { options = record { prints_success = true } }
 

@@ -4,7 +4,8 @@ ghost use Rattle.nz_script.specs.text.Text.{intact};
 ghost use Rattle.nz_spec.specs.terms.Term as term;
 ghost use Rattle.nz_spec.specs.clauses.Literal.{Literal, AreTrueLiterals};
 ghost use Rattle.nz_spec.specs.search.Decide.{IsFrontOfTable, AreModelValues, asserted_numbers, asserted_terms};
-ghost use Rattle.nz_spec.specs.search.Legal.{IsDeadEnd, at_first, terms_known};
+ghost use Rattle.nz_spec.specs.search.Search.{terms_known};
+ghost use Rattle.nz_spec.specs.terms.Model.{IsUnsatisfiable};
 ghost use Rattle.nz_script.specs.live.Live.{items_of, items_hold_integers};
 ghost use Rattle.nz_script.specs.replies.Right.{Context};
 ghost use Rattle.nz_spec.specs.terms.Order.{HasCompanions};
@@ -99,7 +100,7 @@ fn decide<E: Decide>(
     ensures told { IsTold (E.levels engine.new) told.new (asserted_by live.now) }
     ensures sat { IfOk result (λ v. IfSat v (AreModelValues terms.now (asserted_terms terms.now (asserted_by live.now)) [])) }
     ensures sat_assumed { IfOk result (λ v. IfSat v (λ ps. AreTrueLiterals (assignment_by terms.now ps) (map (literal_of terms.now) assumed.now))) }
-    ensures unsat { IfOk result (λ v. OnUnsat v (IsDeadEnd (task_in terms.now (asserted_by live.now) assumed.now []) at_first)) }
+    ensures unsat { IfOk result (λ v. OnUnsat v (IsUnsatisfiable (asserted_terms terms.now (asserted_by live.now)) (map (literal_of terms.now) assumed.now))) }
     ensures undecided { (ts : List term.Term) → E.begins engine.old ts → IfErr result (λ s. IfUndecided s (IsUndecided terms.now (asserted_by live.now) assumed.now ts limit work.new)) }
     ensures front { IsFrontOfTable (E.table engine.new) terms.now }
     ensures begins { (ts : List term.Term) → BeginsOver E.begins engine.old ts → BeginsOver E.begins engine.new (terms_known (task_in terms.now (asserted_by live.now) assumed.now ts)) }

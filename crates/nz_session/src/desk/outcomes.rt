@@ -23,11 +23,12 @@ use nz_place::Place;
 use nz_reply::{Cause, Reason, Reply, Stopped, WorkDone};
 use nz_script::transcript::{assertions_are_over, assumptions_are_taken};
 use nz_search::Decide;
+use nz_spec::form::term_has_its_number;
 use nz_spec::table::term_of_node;
 use nz_spec::term::{
     constants_tell_values, decimals_are_numbers, normal_keeps_value, numerals_are_whole,
 };
-use nz_spec::work::more_terms_may_begin;
+use nz_spec::work::more_terms_end_legally;
 use nz_term::{Assign, known_table};
 use std::alloc::{AllocError, Global};
 use std::rc::Rc;
@@ -52,8 +53,10 @@ impl<E: Decide> Desk<E> {
         ensures right { (c : Context) (tree : script.Tree) (assumed : List TermLit) (ls : List Literal) → Holds E.levels E.table E.begins self.old (asked_in c tree) → outcome_of c.state tree ≡ accepted (check_sat ls) → AreAssumed self.old.terms assumed ls → IsUndecided self.old.terms (asserted_by self.old.live) assumed c.earlier self.old.limit self.old.work place → IsAnswer E.levels E.table E.begins c (intact tree) result self.new }
         ensures terms { table_of self.new ≡ table_of self.old }
     {
-        more_terms_may_begin();
-        normal_keeps_value();
+        more_terms_end_legally();
+        known_table(&self.terms);
+        term_of_node();
+        term_has_its_number();
         let Ok((reason, shown)) = reasons_at(self.alloc, self.limit, &place) else {
             return said(Reply::Error(Error::OutOfMemory));
         };

@@ -1,5 +1,5 @@
 //! Bounds of forms, asserted and taken back.
-ghost use Rattle.std.specs.Prelude.{◌≡◌, ◌≢◌, ◌↔◌, ◌<◌, ◌≤◌, ℕ, IfOk, Ok, length, take};
+ghost use Rattle.std.specs.Prelude.{◌≡◌, ◌≢◌, ◌↔◌, ◌<◌, ◌≤◌, ℕ, IfOk, Ok, OnErr, length, take};
 ghost use Rattle.nz_simplex.specs.Moves.{IsBounded};
 ghost use Rattle.nz_spec.specs.numbers.Infinitesimal.{infinitesimal_cmp};
 ghost use Rattle.nz_trail.specs.Bounds.{ClashesWith, IsExcluded, IsImplied, asserted};
@@ -52,6 +52,10 @@ impl<S: Coordinate> Simplex<S> {
             IfOk result (λ o. (o ≡ AssertOutcome.Tighter) ↔ ((¬ IsImplied infinitesimal_cmp self.old.asserted b) × (¬ IsExcluded infinitesimal_cmp self.old.asserted b))) }
         ensures bounded { result ≡ Ok AssertOutcome.Tighter → IsBounded self.old self.new (asserted var side (S.stands_for value) reason) }
         ensures unchanged { result ≢ Ok AssertOutcome.Tighter → self.new ≡ self.old }
+
+        // Only a bound that is to stand takes memory.
+        ensures memory { let b = asserted var side (S.stands_for value) reason in
+            OnErr result ((¬ IsImplied infinitesimal_cmp self.old.asserted b) × (¬ IsExcluded infinitesimal_cmp self.old.asserted b)) }
     {
         moves_keep_ready();
         sum_moves();

@@ -84,10 +84,11 @@ impl<S: Coordinate> Simplex<S> {
         Ok(())
     }
 
-    /// The value of a basic form from its row.
+    /// The value of a basic form, which isn't known yet, from its row.
     fn computed(&self, var: Var) -> Result<S, SimplexStop>
         requires known { var < length self.now.forms }
         requires basic { nonbasic_in self.now var ≡ false }
+        requires unknown { value_in self.now var ≡ None }
         ensures value { IfOk result (λ x. (ns : List Node) → IsOver ns self.now → HasValue (position_over ns self.now) var (S.stands_for x)) }
         ensures stops { (ns : List Node) → IsOver ns self.now → IfErr result (λ e. StopsAt ns self.now e) }
     {

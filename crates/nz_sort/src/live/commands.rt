@@ -1,11 +1,12 @@
 //! Commands, carried out by their kinds: the rules in their order, and what is kept where one is broken.
-ghost use Rattle.std.specs.Prelude.{◌≡◌, length, take, OnErr, IfOk, IfErr, IfSome};
+ghost use Rattle.std.specs.Prelude.{◌≡◌, true, length, take, Some, IsErrOf, OnErr, IfOk, IfErr, IfSome};
 ghost use Rattle.nz_sexpr.specs.View.{view};
 ghost use Rattle.nz_script.specs.commands.Parse.{request_of};
 ghost use Rattle.nz_script.specs.live.Live.{State};
 ghost use Rattle.nz_script.specs.commands.Command.{refused};
 ghost use Rattle.nz_script.specs.commands.Script.{outcome_of, outcome_requested, outcome_by};
-ghost use Rattle.nz_command.specs.Requests.{request};
+ghost use Rattle.nz_script.specs.replies.Right.{may_want_memory};
+ghost use Rattle.nz_command.specs.Requests.{may_take_memory, request};
 ghost use Rattle.nz_sort.specs.Live.{IsLive, IsCarriedOut, IfSkipped, Moves, asserted_by};
 ghost use Rattle.nz_sort.specs.Acts.{asked, rule_of};
 ghost use Rattle.nz_sort.specs.Changes.{Comes, ComesBy};
@@ -24,13 +25,14 @@ impl Live {
     ///
     /// # Errors
     ///
-    /// That of the first rule that the command breaks, and `OutOfMemory`. Then the live state and the table are as before, and so they are
-    /// after `Unsupported`.
+    /// That of the first rule that the command breaks, and `OutOfMemory`, but for an accepted `pop`, `echo` or `exit`. Then the live state and
+    /// the table are as before, and so they are after `Unsupported`.
     #[tactic(auto, using(crate::proofs::LiveStates::cut_back, crate::proofs::LiveStates::kept_where_same))]
     pub fn command(&mut self, terms: &mut Terms, tree: &Tree) -> Result<Act, Error>
         requires live { (s : State) × IsLive terms.old self.old s }
         ensures accepted { IfOk result (λ act. (s : State) → IsLive terms.old self.old s → IsCarriedOut s (view tree.now) (asked act) terms.new self.new) }
         ensures refused { IfErr result (λ refusal. IfSome (rule_of refusal) (λ e. (s : State) → IsLive terms.old self.old s → outcome_of s (view tree.now) ≡ refused e)) }
+        ensures memory { IsErrOf result Error.OutOfMemory → (s : State) → may_want_memory (outcome_of s (view tree.now)) ≡ true }
         ensures kept { take (length terms.old) terms.new ≡ terms.old }
         ensures unchanged_terms { OnErr result (terms.new ≡ terms.old) }
         ensures unchanged { OnErr result (self.new ≡ self.old) }
@@ -53,6 +55,7 @@ impl Live {
     fn carried_out(&mut self, terms: &mut Terms, tree: &Tree) -> Result<Act, Error>
         requires live { (s : State) × IsLive terms.old self.old s }
         ensures comes { ComesBy terms.old terms.new self.old self.new (view tree.now) (request_of (view tree.now)) result }
+        ensures memory { IsErrOf result Error.OutOfMemory → may_take_memory (request_of (view tree.now)) ≡ true }
     {
         match parse(self.alloc, tree)? {
             Some(command) => self.ruled(terms, tree, &command),
@@ -64,6 +67,7 @@ impl Live {
     fn ruled(&mut self, terms: &mut Terms, tree: &Tree, command: &Command) -> Result<Act, Error>
         requires live { (s : State) × IsLive terms.old self.old s }
         ensures comes { Comes terms.old terms.new self.old self.new (request command.now) (λ s. outcome_requested s (view tree.now) (request command.now)) result }
+        ensures memory { IsErrOf result Error.OutOfMemory → may_take_memory (Some (request command.now)) ≡ true }
     {
         let faults = number_faults(tree);
         if faults.long || passes_limit(self.top.constant_count, self.below.len(), command) {
@@ -79,6 +83,7 @@ impl Live {
     fn requested(&mut self, terms: &mut Terms, command: &Command) -> Result<Act, Error>
         requires live { (s : State) × IsLive terms.old self.old s }
         ensures comes { Comes terms.old terms.new self.old self.new (request command.now) (λ s. outcome_by s (request command.now)) result }
+        ensures memory { IsErrOf result Error.OutOfMemory → may_take_memory (Some (request command.now)) ≡ true }
     {
         match command {
             Command::Declare(name, sorts, sort) => {

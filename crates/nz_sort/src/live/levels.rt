@@ -1,5 +1,5 @@
 //! Levels, pushed, popped and cleared.
-ghost use Rattle.std.specs.Prelude.{◌≡◌, ◌<◌, ◌≤◌, ◌+◌, vec_len, vec_capacity, ℕ, List, length, take, OnOk, OnErr, false};
+ghost use Rattle.std.specs.Prelude.{◌≡◌, ◌<◌, ◌≤◌, ◌+◌, vec_len, vec_capacity, ℕ, List, length, take, IsErrOf, OnOk, OnErr, false};
 ghost use Rattle.nz_spec.specs.terms.Table.{Node};
 ghost use Rattle.nz_script.specs.commands.Request as requests;
 ghost use Rattle.nz_script.specs.commands.Script.{push_of, pop_of};
@@ -49,9 +49,10 @@ impl Live {
         Ok(())
     }
 
-    /// Takes levels off, where so many were pushed.
+    /// Takes levels off, where so many were pushed. Takes no memory.
     pub(super) fn pop_counted(&mut self, count: LevelCount) -> Result<Act, Error>
         ensures comes { (ns : List Node) → Comes ns ns self.old self.new (requests.pops (count_view count)) (λ s. pop_of s (count_view count)) result }
+        ensures memory { IsErrOf result Error.OutOfMemory → ⊥ }
     {
         let LevelCount::Within(count) = count else {
             return Err(Error::TooWide);

@@ -7,14 +7,16 @@ use Rattle.nz_fractions.specs.Fraction.{◌=ℚ◌, ◌≤ℚ◌, ◌<ℚ◌, �
 use Rattle.nz_spec.specs.numbers.Computation.{Computation}
 use Rattle.nz_spec.specs.terms.Term.{Constant, constant, Term, apply, no_terms, truth, Assignment, value_of}
 use Rattle.nz_spec.specs.terms.Model.{IsAssignment}
-use Rattle.nz_spec.specs.terms.Order.{post_order}
+use Rattle.nz_spec.specs.terms.Order.{listing_order}
 use Rattle.nz_spec.specs.terms.Form.{Numbering, unit_value}
 use Rattle.nz_spec.specs.terms.FormOf.{form_of}
+use Rattle.nz_spec.specs.clauses.LinearLiteral.{is_whole}
 use Rattle.nz_spec.specs.clauses.Literal.{Literal, term_literal, is_at_most, is_below, Clause}
 use Rattle.nz_spec.specs.clauses.Gates.{is_boolean_term, gate_clauses}
 use Rattle.nz_spec.specs.clauses.Links.{link_clauses}
 use Rattle.nz_spec.specs.clauses.Units.{unit_clauses}
 use Rattle.nz_spec.specs.simplex.Basis.{Valuation, worth}
+use Rattle.nz_spec.specs.search.Branches.{is_integer_of}
 use Rattle.nz_spec.specs.terms.Taken.{IsTaken}
 
 module _ (truths : Term → Option Bool) (v : Valuation) where
@@ -28,7 +30,8 @@ module _ (truths : Term → Option Bool) (v : Valuation) where
   abbrev pub HasMetLiteral : Clause → Type 0
   HasMetLiteral c = (l : Literal) × Contains c l × IsMet l
 
-  -- Each clause of these terms has a literal that is met, and the assignment gives the constants among them their truths and numbers.
+  -- Each clause of these terms has a literal that is met, their units of sort Int are worth integers, and the assignment gives the constants among them their
+  -- truths and numbers.
   pub record MeetsTables (number : Numbering) (a : Assignment) (parts : List Term) : Type 0 where
     pub gates : (u : Term) → Contains parts u → AllByRecursion HasMetLiteral (gate_clauses u)
     pub links : (u : Term) → Contains parts u → AllByRecursion (λ (c : Computation Clause). HasMetLiteral c.result) (link_clauses number u)
@@ -37,13 +40,15 @@ module _ (truths : Term → Option Bool) (v : Valuation) where
     pub constants : (c : Constant) (sign : Bool) → Contains parts (apply (constant c) no_terms) → truths (apply (constant c) no_terms) ≡ Some sign → a c ≡ truth sign
     pub numbers : (c : Constant) → Contains parts (apply (constant c) no_terms) → is_boolean_term (apply (constant c) no_terms) ≡ false
         → unit_value a (apply (constant c) no_terms) =ℚ v (apply (constant c) no_terms)
+    pub integral : (u : Term) → is_integer_of parts u ≡ true → is_whole (v u) ≡ true
 
 -- ---- Laws
 
--- The value of a Boolean term is its truth, and that of a number is what its form is worth.
+-- The value of a Boolean term is its truth, and that of a number is what its form is worth. What is listed with a taken term has no unit of sort Int.
 pub record TablesDecide : Type 0 where
   pub truths : (number : Numbering) (a : Assignment) (truths : Term → Option Bool) (v : Valuation) (t : Term) (sign : Bool) → IsTaken t → IsAssignment a
-      → MeetsTables truths v number a (post_order t) → is_boolean_term t ≡ true → truths t ≡ Some sign → value_of a t ≡ truth sign
+      → MeetsTables truths v number a (listing_order t) → is_boolean_term t ≡ true → truths t ≡ Some sign → value_of a t ≡ truth sign
   pub numbers : (number : Numbering) (a : Assignment) (truths : Term → Option Bool) (v : Valuation) (t : Term) → IsTaken t → IsAssignment a
-      → MeetsTables truths v number a (post_order t) → is_boolean_term t ≡ false
+      → MeetsTables truths v number a (listing_order t) → is_boolean_term t ≡ false
       → unit_value a t =ℚ (worth v (form_of number t).result.parts +ℚ (form_of number t).result.offset)
+  pub integers : (t u : Term) → IsTaken t → is_integer_of (listing_order t) u ≡ true → ⊥

@@ -7,8 +7,8 @@ use Rattle.nz_spec.specs.terms.Term.{Term}
 use Rattle.nz_spec.specs.terms.Form.{Part}
 use Rattle.nz_spec.specs.clauses.Literal.{Literal}
 use Rattle.nz_spec.specs.simplex.BasisMoves.{AreNumbered}
-use Rattle.nz_spec.specs.simplex.Bland.{Point, Position, HasBasis, HasValue, Side, lower_side, upper_side, bound_on, NonbasicFormsFit, MeetsBounds}
-use Rattle.nz_spec.specs.search.Places.{IsWithinBounds, IsChosen}
+use Rattle.nz_spec.specs.simplex.Bland.{Point, Position, HasBasis, HasValue, Side, lower_side, upper_side, bound_on, NonbasicFormsFit, MeetsBounds, IsWithinBounds}
+use Rattle.nz_spec.specs.search.Places.{IsChosen}
 use Rattle.nz_spec.specs.clauses.Farkas.{bound_of}
 use Rattle.nz_spec.specs.simplex.LiteralBounds.{bound_said, position_under}
 use Rattle.nz_spec.specs.laws.Deciding.{IsMet}

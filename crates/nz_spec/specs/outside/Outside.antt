@@ -1,6 +1,6 @@
 -- What a program knows of the outside: a source of bytes that it reads, and a sink of bytes that it writes.
 -- Either may tell its bytes or not, and each counts its own faults.
-use Rattle.std.specs.Prelude.{◌≡◌, ℕ, suc, ◌-◌, ◌^◌, ◌<◌, ◌≤◌, min, Bool, false, ◌&&◌, nat_eq, nat_lt, if◌then◌else◌, List, ◌++◌, length, take, drop, Option, is_some, Result, Ok, Err, IfOk, MatchResult}
+use Rattle.std.specs.Prelude.{◌≡◌, ℕ, suc, ◌-◌, ◌^◌, ◌≤◌, min, Bool, false, ◌&&◌, ◌||◌, IsTrue, nat_eq, nat_lt, if◌then◌else◌, List, ◌++◌, length, take, drop, Option, is_some, Result, Ok, Err, MatchResult}
 use Rattle.std.specs.List.{list_any}
 use Rattle.std.specs.Io.KnownBytes.{Keeps, Appends, Consumes, IsAtEnd}
 
@@ -29,9 +29,14 @@ TellsAlike old new = is_some new ≡ is_some old
 abbrev pub GivesFront : {E : Type 0} → Option (List ℕ) → Option (List ℕ) → Result ℕ E → List ℕ → Type 0
 GivesFront old new result buffer = MatchResult result (λ n. Consumes old new (take n buffer)) (λ _. Keeps old new)
 
--- a read that answered 0 though the buffer has room found the end: no byte is left
+-- a read that finds the end: it answered 0, and the buffer has room
+abbrev pub finds_end : {E : Type 0} → Result ℕ E → List ℕ → Bool
+finds_end (Ok n) buffer = nat_eq n 0 && nat_lt 0 (length buffer)
+finds_end (Err _) buffer = false
+
+-- where a read found the end, no byte is left
 abbrev pub EndsAtZero : {E : Type 0} → Option (List ℕ) → Result ℕ E → List ℕ → Type 0
-EndsAtZero new result buffer = IfOk result (λ n. n ≡ 0 → 0 < length buffer → IsAtEnd new)
+EndsAtZero new result buffer = IsTrue (finds_end result buffer) → IsAtEnd new
 
 -- a write that answered n added the first n bytes of the piece to those held; one that failed added none
 abbrev pub TakesFront : {E : Type 0} → Option (List ℕ) → Option (List ℕ) → Result ℕ E → List ℕ → Type 0
@@ -46,27 +51,53 @@ abbrev pub is_refusal : {E : Type 0} → Result ℕ E → List ℕ → Bool
 is_refusal (Ok n) piece = nat_eq n 0 && nat_lt 0 (length piece)
 is_refusal (Err _) piece = false
 
+-- ---- what a source's reads found so far
+
+-- whether one has found the end, and whether one was made after that
+pub record Reads : Type 0 where
+  pub has_ended : Bool
+  pub read_late : Bool
+
+-- after one more read, which found the end or didn't
+abbrev pub one_more : Reads → Bool → Reads
+one_more reads found = record { has_ended = reads.has_ended || found; read_late = reads.read_late || reads.has_ended }
+
 -- ---- readers and writers of std
 
--- a reader or a writer, and whether it has failed
-pub record Stream (S : Type 0) : Type 0 where
-  pub inner : S
+-- a reader, whether it has failed, and what its reads found
+pub record InputStream (R : Type 0) : Type 0 where
+  pub inner : R
+  pub has_failed : Bool
+  pub reads : Reads
+
+-- a writer, and whether it has failed
+pub record OutputStream (W : Type 0) : Type 0 where
+  pub inner : W
   pub has_failed : Bool
 
 -- ---- sources and sinks in memory
 
--- the bytes that are left to read, and the most that one read gives
+-- the bytes that are left to read, the most that one read gives, and what the reads found
 pub record MemoryInput : Type 0 where
   pub left : List ℕ
   pub piece : ℕ
+  pub reads : Reads
 
 -- how many bytes a read with a buffer of this length gives
 abbrev pub given_count : MemoryInput → ℕ → ℕ
 given_count input room = min (min (length input.left) input.piece) room
 
+-- a read with a buffer of this length finds the end
+abbrev pub ends : MemoryInput → ℕ → Bool
+ends input room = nat_eq (given_count input room) 0 && nat_lt 0 room
+
 -- the input after that read
 abbrev pub after_read : MemoryInput → ℕ → MemoryInput
-after_read input room = record input { left = drop (given_count input room) input.left }
+after_read input room = record input { left = drop (given_count input room) input.left; reads = one_more input.reads (ends input room) }
+
+-- the input after a read that failed
+abbrev pub after_failed_read : MemoryInput → MemoryInput
+after_failed_read input = record input { reads = one_more input.reads false }
 
 -- that buffer after that read: the bytes given, and what stood behind them
 abbrev pub read_buffer : MemoryInput → List ℕ → List ℕ
@@ -128,7 +159,7 @@ pub record FaultyInput : Type 0 where
 abbrev pub after_faulty_read : FaultyInput → ℕ → FaultyInput
 after_faulty_read source room =
     record {
-      input = if fails_next source.plan then source.input else after_read source.input room;
+      input = if fails_next source.plan then after_failed_read source.input else after_read source.input room;
       plan = after_call source.plan;
       faults = counted last_count (fails_next source.plan) source.faults;
     }

@@ -1,5 +1,6 @@
 -- The work list of one check: what the search did, step by step, and how many of its steps count.
 use Rattle.std.specs.Prelude.{◌≡◌, ℕ, Bool, true, false, List, [], ◌∷◌, ◌++◌, count_by}
+use Rattle.nz_fractions.specs.Fraction.{Fraction}
 
 -- A step that counts as one unit of work. Atoms and forms are named by their numbers.
 pub data WorkEntry : Type 0 where
@@ -9,6 +10,10 @@ pub data WorkEntry : Type 0 where
   LearnedEntry : (keep : ℕ) (lits : List (ℕ × Bool)) → WorkEntry
   -- a basic form leaves the basis, and a nonbasic one enters it
   PivotEntry : (leaves enters : ℕ) → WorkEntry
+  -- the search branches on this atom: a sum of integers is at most an integer, or at least the next one
+  BranchEntry : (atom : ℕ) → WorkEntry
+  -- a goal has this value, which is better than those before
+  FoundEntry : (goal : ℕ) (value : Fraction) → WorkEntry
 
 -- A line of the list: a step that counts, or a note that doesn't.
 pub data WorkLine (T : Type 0) : Type 0 where

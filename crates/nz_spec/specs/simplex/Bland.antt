@@ -131,6 +131,10 @@ pub record Breaks (s : Position) (side : Side) (bound : Infinitesimal) (i : ℕ)
   pub has : HasValue s i value
   pub outside : IsOutside side bound value
 
+-- No basic form breaks a bound.
+abbrev pub IsWithinBounds : Position → Type 0
+IsWithinBounds s = (side : Side) (bound : Infinitesimal) (i : ℕ) → Breaks s side bound i → ⊥
+
 -- A form doesn't stand at its bound of this side, or has none.
 abbrev pub HasRoom : Position → Side → ℕ → Type 0
 HasRoom s side j = (bound : Infinitesimal) → bound_on side s j ≡ Some bound → IsInside side bound (value_in s.point j)
@@ -249,7 +253,7 @@ pub record PositionsHaveValues : Type 0 where
   pub one : (s : Position) (k : ℕ) (x y : Infinitesimal) → HasBasis s → k < length s.forms → HasValue s k x → HasValue s k y → x =δ y
   pub fit : (s : Position) (y : ℕ → Infinitesimal) (e : Fraction) → HasBasis s → ((k : ℕ) → k < length s.forms → HasValue s k (y k)) → IsSolution s.forms (is_nonbasic s.point) (λ k. at (y k) e)
   pub feasible : (s : Position) (y : ℕ → Infinitesimal) → HasBasis s → ((k : ℕ) → k < length s.forms → HasValue s k (y k)) → NonbasicFormsFit s
-      → ((side : Side) (bound : Infinitesimal) (i : ℕ) → Breaks s side bound i → ⊥) → MeetsBounds s y
+      → IsWithinBounds s → MeetsBounds s y
   pub longer : (n m : ℕ) (c : Coefficients) (x y : ℕ → Infinitesimal) → n ≤ m → ((k : ℕ) → k < n → y k ≡ x k) → ((k : ℕ) → n ≤ k → y k ≡ zero_infinitesimal)
       → sum_at m c y =δ sum_at n c x
 

@@ -1,7 +1,7 @@
 -- Climbs: from a model towards better values of a goal, along lines on which the literals that are true at the model stay true.
 -- Sources: Bjørner, Phan and Fleckenstein, νZ - An Optimizing SMT Solver, TACAS 2015 (objectives); Dutertre and de Moura, A Fast
 -- Linear-Arithmetic Solver for DPLL(T), CAV 2006, section 5 (what is strict, by a number above 0 that is as small as need be).
-use Rattle.std.specs.Prelude.{◌≡◌, ℕ, Bool, true, false, IsTrue, List, [], ◌∷◌, ◌++◌, map, flat_map, filter, Contains, pos, if◌then◌else◌}
+use Rattle.std.specs.Prelude.{◌≡◌, ℕ, Bool, true, IsTrue, List, [], ◌∷◌, ◌++◌, map, flat_map, filter, Contains, pos, if◌then◌else◌}
 use Rattle.std.specs.List.{AllByRecursion}
 use Rattle.nz_fractions.specs.Fraction.{Fraction, whole, ◌=ℚ◌, ◌≤ℚ◌, ◌<ℚ◌, fraction_le, fraction_lt, ◌+ℚ◌, ◌*ℚ◌, reduce}
 use Rattle.nz_spec.specs.numbers.Computation.{Computation}
@@ -13,6 +13,7 @@ use Rattle.nz_spec.specs.simplex.Basis.{Valuation, worth}
 use Rattle.nz_spec.specs.clauses.Literal.{Literal, term_literal, is_at_most, is_below, Clause, is_literal_true, AreTrueLiterals}
 use Rattle.nz_spec.specs.clauses.LinearLiteral.{parts_of}
 use Rattle.nz_spec.specs.clauses.Farkas.{is_linear_literal}
+use Rattle.nz_spec.specs.clauses.Goals.{IsBetter, IsAsGood}
 use Rattle.nz_spec.specs.clauses.Links.{link_clauses}
 use Rattle.nz_spec.specs.clauses.Units.{unit_clauses}
 
@@ -111,14 +112,6 @@ pub record Keeps (r : Route) (v : Valuation) : Type 0 where
   pub units : AllByRecursion (λ (u : Term). v u =ℚ unit_value r.model u) (kept_units r)
 
 -- ---- What a climb finds
-
-abbrev pub IsBetter : (up : Bool) → Fraction → Fraction → Type 0
-IsBetter true p q = q <ℚ p
-IsBetter false p q = p <ℚ q
-
-abbrev pub IsAsGood : (up : Bool) → Fraction → Fraction → Type 0
-IsAsGood true p q = q ≤ℚ p
-IsAsGood false p q = p ≤ℚ q
 
 abbrev pub goal_at : Route → Valuation → Fraction
 goal_at r v = worth v r.goal.parts +ℚ r.goal.offset

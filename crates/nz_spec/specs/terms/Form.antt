@@ -1,7 +1,7 @@
 -- Linear forms: units with coefficients, and a number that is added. What a form stands for, and how forms are added and scaled.
 -- Sources: SMT-LIB 2.6, logics LIRA and QF_LRA (linear terms); Dutertre and de Moura, A Fast Linear-Arithmetic Solver for
 -- DPLL(T), CAV 2006, section 3 (sums of variables with coefficients). The order of the operations is this solver's own.
-use Rattle.std.specs.Prelude.{◌≡◌, ℕ, ◌≤◌, nat_lt, false, List, [], ◌∷◌, map, pos, if◌then◌else◌, ⊤}
+use Rattle.std.specs.Prelude.{◌≡◌, ℕ, ◌≤◌, nat_lt, false, List, [], ◌∷◌, map, Contains, pos, if◌then◌else◌, ⊤}
 use Rattle.std.specs.List.{AllByRecursion}
 use Rattle.nz_fractions.specs.Fraction.{Fraction, whole, neg_ℚ, ◌+ℚ◌, ◌*ℚ◌, Arithmetic, Difference}
 use Rattle.nz_spec.specs.numbers.Computation.{Computation, operated, at_once, turned_into, and_then}
@@ -11,6 +11,10 @@ use Rattle.nz_spec.specs.terms.Same.{are_same_term}
 -- The units of a form stand in the order of their numbers.
 abbrev pub Numbering : Type 0
 Numbering = Term → ℕ
+
+-- no two of these terms have one number
+abbrev pub TellsApart : Numbering → List Term → Type 0
+TellsApart number ts = (t u : Term) → Contains ts t → Contains ts u → number t ≡ number u → t ≡ u
 
 -- a unit, which is a term whose value arithmetic takes as it is, with its coefficient
 pub record Part : Type 0 where

@@ -1,7 +1,7 @@
 -- The form of a normal linear term, and the operations that it takes: those of the arguments, from the left, and then its own.
 -- Sources: SMT-LIB 2.6, theory Reals_Ints (+, -, *, / and to_real); which terms are units, and the order of the operations, is
 -- this solver's own.
-use Rattle.std.specs.Prelude.{◌≡◌, Contains, ℕ, suc, ◌<◌, Bool, true, false, IsTrue, List, [], ◌∷◌, length, fold, Option, Some, None, pos, if◌then◌else◌}
+use Rattle.std.specs.Prelude.{◌≡◌, Contains, ℕ, suc, ◌<◌, Bool, true, false, not, ◌&&◌, IsTrue, List, [], ◌∷◌, length, fold, Option, Some, None, is_some, pos, if◌then◌else◌}
 use Rattle.std.specs.List.{AllByRecursion}
 use Rattle.nz_fractions.specs.Fraction.{Fraction, whole, ◌=ℚ◌, Sum, Difference, Product, Quotient, Operation, first_wide}
 use Rattle.nz_spec.specs.numbers.Computation.{Computation, operated, at_once, turned_into, and_then}
@@ -20,6 +20,10 @@ is_opened (product s) = true
 is_opened quotient = true
 is_opened to_real = true
 is_opened h = false
+
+-- Arithmetic takes the term's value as it is: it isn't constant, and its operator isn't opened.
+abbrev pub is_taken_whole : Term → Bool
+is_taken_whole (apply h ts) = not (is_some (head_constant h (constant_values ts))) && not (is_opened h)
 
 -- ---- Products and quotients
 

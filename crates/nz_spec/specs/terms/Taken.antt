@@ -1,10 +1,11 @@
 -- Terms that checks take: over Bool and Real, where each head has its rows in the tables of clauses, or is a number or is arithmetic.
 -- Source: SMT-LIB 2.6, theories Core and Reals, and logic QF_LRA.
 use Rattle.std.specs.Prelude.{◌≡◌, true, false, ⊤, IsTrue, [], ◌⊎◌, Contains}
-use Rattle.nz_spec.specs.terms.Term.{Head, constant, integer, decimal_number, verum, falsum, negation, conjunction, disjunction, exclusion, equality, choice, bool_sort, real_sort, less, at_most, sum, difference, product, quotient, to_real, is_int_sort, Term, apply, Terms, no_terms, terms, holds_integer}
+use Rattle.nz_spec.specs.terms.Term.{Head, constant, integer, decimal_number, verum, falsum, negation, conjunction, disjunction, exclusion, equality, choice, bool_sort, int_sort, real_sort, less, at_most, sum, difference, product, quotient, to_real, is_int_sort, Term, apply, Terms, no_terms, terms, sort_of, holds_integer}
 use Rattle.nz_spec.specs.terms.Normal.{normal_of}
-use Rattle.nz_spec.specs.terms.Order.{post_order}
+use Rattle.nz_spec.specs.terms.Order.{post_order, listing_order}
 use Rattle.nz_spec.specs.terms.Linear.{is_linear}
+use Rattle.nz_spec.specs.terms.FormOf.{is_taken_whole}
 use Rattle.nz_spec.specs.clauses.Gates.{is_boolean_term, gate_clauses, HasBooleanArguments}
 use Rattle.nz_spec.specs.clauses.Links.{IsArithmetic}
 use Rattle.nz_spec.specs.terms.WellSorted.{IsWellSorted}
@@ -58,8 +59,11 @@ pub record IsTakenBoolean (t : Term) : Type 0 where
 abbrev pub NormalTermsAreTaken : Type 0
 NormalTermsAreTaken = (t : Term) → IsWellSorted [] t → IsTrue (is_linear (normal_of t)) → holds_integer (normal_of t) ≡ false → IsTaken (normal_of t)
 
--- What a taken term is made of is taken. It is arithmetic, and where it has gates its arguments are Boolean.
+-- What a taken term is made of is taken, and no more is listed with it. It is arithmetic, it is no unit of sort Int, and where it has gates its arguments are
+-- Boolean.
 pub record TakenTermsAreInOrder : Type 0 where
   pub parts : (t u : Term) → IsTaken t → Contains (post_order t) u → IsTaken u
   pub arithmetic : (t : Term) → IsTaken t → IsArithmetic t
   pub gates : (t : Term) → IsTaken t → (gate_clauses t ≡ []) ⊎ HasBooleanArguments t
+  pub listing : (t : Term) → IsTaken t → listing_order t ≡ post_order t
+  pub units : (t : Term) → IsTaken t → is_taken_whole t ≡ true → sort_of t ≡ int_sort → ⊥

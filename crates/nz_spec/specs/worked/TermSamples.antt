@@ -20,8 +20,11 @@ over_one h t = apply h (terms t no_terms)
 abbrev pub a_term : Term
 a_term = alone (constant (constant_of_sort bool_sort (codes "a")))
 
+abbrev pub x_constant : Constant
+x_constant = constant_of_sort int_sort (codes "x")
+
 abbrev pub x_term : Term
-x_term = alone (constant (constant_of_sort int_sort (codes "x")))
+x_term = alone (constant x_constant)
 
 abbrev pub y_term : Term
 y_term = alone (constant (constant_of_sort int_sort (codes "y")))

@@ -14,7 +14,7 @@ use Rattle.nz_spec.specs.clauses.Gates.{holds, fails}
 use Rattle.nz_spec.specs.clauses.Links.{link_clauses}
 use Rattle.nz_spec.specs.clauses.Units.{unit_clauses}
 use Rattle.nz_spec.specs.clauses.Farkas.{Multiple}
-use Rattle.nz_spec.specs.clauses.Steps.{Step, given_step, link_step, farkas_step, branch_step, cut_step, resolve_step, step_clause, step_operations, IsDerivation}
+use Rattle.nz_spec.specs.clauses.Steps.{asserting, Step, given_step, link_step, farkas_step, branch_step, cut_step, resolve_step, step_clause, step_operations, IsDerivation}
 
 -- x comes first, then y, then u, and then every other unit
 abbrev pub sample_order : Numbering
@@ -106,7 +106,7 @@ abbrev pub one_half : Fraction
 one_half = over (pos 1) 2
 
 abbrev pub clause_of_step : Step → Option Clause
-clause_of_step s = step_clause sample_order [] [] s
+clause_of_step s = step_clause sample_order (asserting []) [] s
 
 -- A sum is a contradiction where no unit is left and the limit is below 0, or 0 with a strict bound among the literals.
 pub record HasSums : Type 0 where
@@ -133,11 +133,11 @@ pub record HasCuts : Type 0 where
 
 -- The first operation of a step that leaves the numbers is where it stops.
 pub record HasWideSteps : Type 0 where
-  pub product : first_wide (step_operations sample_order (farkas_step (times below_two (whole (pos largest)) ∷ [])))
+  pub product : first_wide (step_operations sample_order (asserting []) (farkas_step (times below_two (whole (pos largest)) ∷ [])))
       ≡ Some (record { operator = Product; left = whole (pos largest); right = whole (pos 2) })
-  pub next : first_wide (step_operations sample_order (branch_step (part (pos 1) x_term ∷ []) (whole (pos largest))))
+  pub next : first_wide (step_operations sample_order (asserting []) (branch_step (part (pos 1) x_term ∷ []) (whole (pos largest))))
       ≡ Some (record { operator = Difference; left = whole (negsuc 170141183460469231731687303715884105726); right = whole (pos 1) })
-  pub none : first_wide (step_operations sample_order (cut_step (times below_two one_half ∷ []))) ≡ None
+  pub none : first_wide (step_operations sample_order (asserting []) (cut_step (times below_two one_half ∷ []))) ≡ None
 
 -- ---- A refutation
 
@@ -173,4 +173,4 @@ gap_clauses =
 
 -- The last step gives the empty clause.
 abbrev pub HasGap : Type 0
-HasGap = IsDerivation sample_order (low_term ∷ high_term ∷ []) gap_steps (gap_clauses ++ [] ∷ [])
+HasGap = IsDerivation sample_order (asserting (low_term ∷ high_term ∷ [])) gap_steps (gap_clauses ++ [] ∷ [])

@@ -6,7 +6,7 @@ use Rattle.nz_spec.specs.worked.TermSamples.{a_term}
 use Rattle.nz_spec.specs.worked.TruthTables.{b_term, c_term, of_three}
 use Rattle.nz_spec.specs.clauses.Literal.{Literal, Clause, clause_of, resolvent}
 use Rattle.nz_spec.specs.clauses.Gates.{holds, fails, gate_clauses}
-use Rattle.nz_spec.specs.clauses.Steps.{Step, given_step, gate_step, resolve_step, IsDerivation}
+use Rattle.nz_spec.specs.clauses.Steps.{asserting, Step, given_step, gate_step, resolve_step, IsDerivation}
 
 abbrev pub a_true : Literal
 a_true = holds a_term
@@ -73,4 +73,4 @@ refuting_clauses =
 
 -- The last step gives the empty clause.
 abbrev pub HasRefutation : Type 0
-HasRefutation = IsDerivation (λ t. 0) opposites refuting_steps (refuting_clauses ++ [] ∷ [])
+HasRefutation = IsDerivation (λ t. 0) (asserting opposites) refuting_steps (refuting_clauses ++ [] ∷ [])

@@ -8,7 +8,7 @@ use Rattle.nz_cform.specs.Covering.{HasRowsOf, table_axiom, table_rows}
 use Rattle.nz_cform.proofs.TableClauses.{none_adding, not_put, one_adding, was_put}
 use Rattle.nz_cform.proofs.RowsPut.{row_more}
 use Rattle.nz_cform.proofs.RowClauses.{row_of}
-use Rattle.nz_cform.proofs.TableRows.{all_rows, count_rows, next_row, nothing_left, one_longer, row_stops}
+use Rattle.nz_cform.proofs.TableRows.{all_rows, count_rows, next_row, nothing_left, one_longer, row_stops, table_fits}
 use Rattle.nz_cform.proofs.rows.add_rows.Goals as goal
 use Rattle.nz_cform.proofs.rows.add_rows.Goals.{After-put_row, After-len}
 
@@ -32,6 +32,9 @@ sound_here c levels order =
 
 pub returns-in-Err-clause-stop : goal.returns-in-Err-clause-stop
 returns-in-Err-clause-stop c = row_stops c.args.terms.now c.args.term c.requires.within c.args.table c.in-Err.stop c.of.result c.in-Err.ensures.rows c.of.ensures.stop
+
+pub returns-clause-fits : goal.returns-clause-fits
+returns-clause-fits c = table_fits c.args.table c.args.terms.now (term_in c.args.terms.now c.args.term) c.in-Ok.rows.items c.in-Ok.ensures.rows
 
 pub loop-row-init : goal.loop-row-init
 loop-row-init c =

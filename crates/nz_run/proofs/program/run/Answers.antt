@@ -42,6 +42,11 @@ returns-clause-reads g c =
     λ e. (let ks = journal_of c.into_kept-journal.result.1 c.into_kept-journal.result.0 in
     c.serve-end.ensures.reads (reads_told c.serve-end.result ks (sym (c.status_at-status.ensures.status c.into_kept-journal.result.1) ∙ e)))
 
+pub returns-clause-unended : goal.returns-clause-unended
+returns-clause-unended g c =
+    λ e. (let ks = journal_of c.into_kept-journal.result.1 c.into_kept-journal.result.0 in
+    c.serve-end.ensures.unended (reads_told c.serve-end.result ks (sym (c.status_at-status.ensures.status c.into_kept-journal.result.1) ∙ e)))
+
 pub returns-clause-input_faults : goal.returns-clause-input_faults
 returns-clause-input_faults g c =
     let ks = journal_of c.into_kept-journal.result.1 c.into_kept-journal.result.0 in

@@ -22,5 +22,5 @@ returns-clause-comes g c =
     (λ (o : Option ℕ). Consults (theory c.args.theory.now) (theory c.tell.new.theory) c.args.log.now c.tell.new.log c.args.atoms.now c.args.bounds.now c.tell.new.bounds c.args.trail.now
     c.args.work.now c.tell.new.work (Ok o))
     none c.in_ok-clash.ensures.comes in
-    consults_checked c.pivots_are_legal.ensures.legal {m₂ = theory c.check.new.self} told (record { over = c.check.ensures.over; of = c.check.ensures.of }) c.check.ensures.pivots c.check.result
+    consults_checked c.pivots_are_legal.ensures.legal c.legal_work_goes_on.ensures.goes_on {m₂ = theory c.check.new.self} told (record { over = c.check.ensures.over; of = c.check.ensures.of }) c.check.ensures.pivots c.check.result
     c.check.ensures.told c.check.ensures.clash c.check.ensures.grows c.check.ensures.sound c.check.ensures.leads

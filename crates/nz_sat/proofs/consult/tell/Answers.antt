@@ -35,14 +35,22 @@ pub returns-in_err-clash-clause-comes : goal.returns-in_err-clash-clause-comes
 returns-in_err-clash-clause-comes g c =
     let same : Err c.in_err-clash.field-0.0 ≡ c.from_residual.result = search rules in
     consults_same same
-    (consults_err c.loop-bounds.invariant c.entry.result c.entry.ensures.entry c.in_err-clash.ensures.comes c.tells_lits.ensures.tells c.clauses_are_true.ensures.clauses
-    c.negation_is_other.ensures.other)
+    (consults_err c.loop-bounds.invariant c.entry.result c.entry.ensures.entry c.in_err-clash.ensures.comes (record {
+      tells = c.tells_lits.ensures.tells;
+      clauses = c.clauses_are_true.ensures.clauses;
+      other = c.negation_is_other.ensures.other;
+      repeats = c.legal_work_does_not_repeat.ensures.repeats;
+    }))
 
 pub returns-then-is_some-clause-comes : goal.returns-then-is_some-clause-comes
 returns-then-is_some-clause-comes g c =
     let some : is_some c.in_ok-clash.clash ≡ true = search rules in
-    consults_clash c.loop-bounds.invariant c.entry.result c.entry.ensures.entry c.in_ok-clash.clash some c.in_ok-clash.ensures.comes c.tells_lits.ensures.tells c.clauses_are_true.ensures.clauses
-    c.negation_is_other.ensures.other
+    consults_clash c.loop-bounds.invariant c.entry.result c.entry.ensures.entry c.in_ok-clash.clash some c.in_ok-clash.ensures.comes (record {
+      tells = c.tells_lits.ensures.tells;
+      clauses = c.clauses_are_true.ensures.clauses;
+      other = c.negation_is_other.ensures.other;
+      repeats = c.legal_work_does_not_repeat.ensures.repeats;
+    })
 
 pub loop-bounds-smaller : goal.loop-bounds-smaller
 loop-bounds-smaller g c =
@@ -69,7 +77,13 @@ loop-bounds-preserved g c =
           subst (λ (o : Option ℕ). TellsOne (theory c.loop-bounds.theory) (theory t) c.loop-bounds.log log c.args.atoms.now e.literal c.loop-bounds.work work (Ok o)) none
           w.in_ok-clash.ensures.comes in
           let made : F log t work =
-          consults_more c.loop-bounds.invariant e at one c.tells_lits.ensures.tells c.clauses_are_true.ensures.clauses c.negation_is_other.ensures.other marked in
+          consults_more c.loop-bounds.invariant e at one
+          (record {
+            tells = c.tells_lits.ensures.tells;
+            clauses = c.clauses_are_true.ensures.clauses;
+            other = c.negation_is_other.ensures.other;
+            repeats = c.legal_work_does_not_repeat.ensures.repeats;
+          }) marked in
           subst (λ (x : LogState). F x c.if-has.theory c.if-has.work) (sym w.log-is)
           (subst (λ (x : g.row.T.Denot). F log x c.if-has.work) (sym w.theory-is) (subst (λ (x : WorkList Note). F log t x) (sym w.work-is) made))
       | else-has w ↦

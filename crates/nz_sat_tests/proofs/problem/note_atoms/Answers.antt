@@ -1,11 +1,16 @@
-use Rattle.std.proofs.Common.{◌≡◌, ◌+◌, ◌∷◌, ◌++◌, [], take, sym, ap, ◌∙◌, subst}
+use Rattle.std.proofs.Common.{◌≡◌, ◌+◌, ◌∷◌, ◌++◌, [], List, take, refl, sym, ap, ◌∙◌, subst}
 use Rattle.std.proofs.lemmas.List.{take_more}
 use Rattle.std.specs.Prelude.{Some}
-use Rattle.nz_spec.specs.search.Work.{WorkList}
+use Rattle.nz_spec.specs.search.Work.{WorkLine, WorkList}
 use Rattle.nz_search.specs.declared.note.Note.{Note}
-use Rattle.nz_sat.specs.Numbers.{AreBeginnings, AreNotedIn}
-use Rattle.nz_sat_tests.proofs.NotedAtoms.{beginnings_push, noted_one, term_note}
+use Rattle.nz_sat.specs.Numbers.{AreNotedIn}
+use Rattle.nz_sat_tests.specs.Problems.{NamesAlone}
+use Rattle.nz_sat_tests.proofs.NotedAtoms.{names_none, names_push, noted_one, term_note}
 use Rattle.nz_sat_tests.proofs.problem.note_atoms.Goals as goal
+
+pub loop-atom-init : goal.loop-atom-init
+loop-atom-init c =
+    (subst (λ (lines : List (WorkLine Note)). AreNotedIn c.args.log.now.atoms lines []) (sym c.requires.empty) refl, names_none c.args.work.now c.requires.empty)
 
 pub loop-atom-preserved : goal.loop-atom-preserved
 loop-atom-preserved c =
@@ -18,5 +23,5 @@ loop-atom-preserved c =
     let one = noted_one c.args.log.now.atoms old (take i atoms) _ t (c.atom.ensures.atom ∙ ap Some c.in-Term.is) so_far.0 in (
       subst (λ ls. AreNotedIn c.args.log.now.atoms ls (take (i + 1) atoms)) (sym lines)
           (subst (AreNotedIn c.args.log.now.atoms (old ++ term_note t ∷ [])) (sym (take_more atoms i _ c.loop-atom-test.true)) one),
-      subst AreBeginnings (sym lines) (beginnings_push old t so_far.1),
+      subst NamesAlone (sym c.in_ok-note-in-Term.ensures.ok) (names_push c.loop-atom.work t so_far.1),
     )

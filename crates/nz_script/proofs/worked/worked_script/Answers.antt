@@ -13,6 +13,6 @@ returns c =
       refusals = record { syntax = refl; limits = refl; width = refl; others = refl; unknown = refl; known = refl; sorts = refl; linear = refl };
       additions = record { constants = refl; functions = refl; sort_names = refl; halves = refl; over_constant = refl; parameters_hide = refl; widened = refl; hides_definition = refl; asserts = refl; vanishes = refl; greatest = refl; most_places = refl };
       asking = record { shows = refl; models = refl; names = refl; levels = refl; reasons = refl; echoes = refl; reports = refl; is_quiet = refl; unheeded = refl; ends = refl };
-      effects = record { declares = refl; asserts = refl; shows = refl; refuses = refl; passes = refl; lacks_memory = refl; denies = refl; sets = refl };
+      effects = record { declares = refl; asserts = refl; shows = refl; refuses = refl; passes = refl; lacks_memory = refl; wants_memory = refl; denies = refl; sets = refl };
       levels = record { pushes = refl; pops = refl; takes_off = refl; wide = refl; resets = refl; assumes = refl; none = refl; unknown = refl; sorts = refl; reals = refl; integers = refl; live_integers = refl; begins = refl; ends = refl; stays = refl; starts_anew = refl; keeps_options = refl };
     }

@@ -1,14 +1,18 @@
 -- The level is told, the term is listed, its clauses are put, and then their bounds are listed.
-use Rattle.std.proofs.Common.{◌≡◌, ℕ, List, length, take, drop, ◌-◌, sym, subst, rules, All}
+use Rattle.std.proofs.Common.{◌≡◌, ℕ, List, length, take, drop, ◌-◌, Err, IfErr, sym, subst, rules, All}
 use Rattle.std.proofs.lemmas.List.Elements.{All-weaker}
+use Rattle.nz_spec.specs.terms.Table.{term_in}
 use Rattle.nz_log.specs.Sound.{IsLog}
+use Rattle.nz_cform.specs.declared.stop.FormStop.{FormStop}
 use Rattle.nz_cform.specs.Listings as listings
 use Rattle.nz_cform.specs.Listings.{Takes}
 use Rattle.nz_cform.specs.Forms.{FormState, Grows}
 use Rattle.nz_cform.specs.Covering.{AddsRows, AreBoundsListed, AreBoundsOf, GoesOn, HasRows, IsOnAtoms, IsRowAt}
+use Rattle.nz_cform.specs.Stops.{IsStopIn, OnWide}
 use Rattle.nz_cform.proofs.Added.{adds_from_same, adds_twice, goes_twice, rest_is}
 use Rattle.nz_cform.proofs.CoveredTerms.{bounds_listed, rows_covered}
 use Rattle.nz_cform.proofs.Listed.{grows_itself, takes_grow}
+use Rattle.nz_cform.proofs.TableRows.{links_stop, units_stop}
 use Rattle.nz_cform.proofs.form.ClauseForm.cover.Goals as goal
 use Rattle.nz_cform.proofs.form.ClauseForm.cover.Goals.{In_ok-put, In_ok-add_rows-2, In_ok-list_bounds, After-deref}
 
@@ -66,6 +70,20 @@ returns-in_err-put-clause-sound c levels order = c.in_ok-place.ensures.sound c.a
 
 pub returns-in_err-add_gates-clause-sound : goal.returns-in_err-add_gates-clause-sound
 returns-in_err-add_gates-clause-sound c levels order = c.add_gates.ensures.goes.sound levels (c.in_ok-place.ensures.sound c.args.terms.now levels order)
+
+pub returns-in_err-add_rows-clause-stop : goal.returns-in_err-add_rows-clause-stop
+returns-in_err-add_rows-clause-stop c =
+    let same : c.from_residual-in_err-add_rows.result ≡ Err c.in_err-add_rows.field-0.0 = search rules in
+    let stop : FormStop = c.in_err-add_rows.field-0.0 in
+    subst (λ r. IfErr r (λ (e : FormStop). OnWide e (IsStopIn c.args.terms.now (term_in c.args.terms.now c.args.term)))) (sym same)
+    (links_stop c.args.terms.now c.args.term c.requires.within stop c.in_err-add_rows.ensures.stop)
+
+pub returns-in_err-add_rows-2-clause-stop : goal.returns-in_err-add_rows-2-clause-stop
+returns-in_err-add_rows-2-clause-stop c =
+    let same : c.from_residual-in_err-add_rows-2.result ≡ Err c.in_err-add_rows-2.field-0.0 = search rules in
+    let stop : FormStop = c.in_err-add_rows-2.field-0.0 in
+    subst (λ r. IfErr r (λ (e : FormStop). OnWide e (IsStopIn c.args.terms.now (term_in c.args.terms.now c.args.term)))) (sym same)
+    (units_stop c.args.terms.now c.args.term c.requires.within c.in_ok-add_rows.ensures.fits stop c.in_err-add_rows-2.ensures.stop)
 
 pub returns-in_err-add_rows-clause-grown : goal.returns-in_err-add_rows-clause-grown
 returns-in_err-add_rows-clause-grown c = listed_alone (goal.at.returns-in_err-add_rows-clause-grown c).In_ok-put

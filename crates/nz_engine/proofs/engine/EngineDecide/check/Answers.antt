@@ -1,6 +1,8 @@
-use Rattle.std.proofs.Common.{rules, ◌≡◌, List, [], Err, IfErr, sym, subst}
+use Rattle.std.proofs.Common.{rules, ◌≡◌, List, [], map, Err, IfErr, sym, subst}
 use Rattle.nz_spec.specs.search.Decide.{AreInTable, AreModelValues, IsFrontOfTable, asserted_numbers, asserted_terms}
-use Rattle.nz_spec.specs.search.Legal.{AreLegal, IsDeadEnd, at_first, terms_known}
+use Rattle.nz_spec.specs.search.Search.{terms_known}
+use Rattle.nz_spec.specs.search.Legal.{AreLegal, IsSpentLegally}
+use Rattle.nz_spec.specs.terms.Model.{IsUnsatisfiable}
 use Rattle.nz_spec.specs.search.Places.{IsStoppedLegally}
 use Rattle.nz_spec.specs.terms.Table.{Node, term_in}
 use Rattle.nz_spec.specs.terms.Term.{Term}
@@ -10,18 +12,19 @@ use Rattle.nz_search.specs.declared.stop.Stop.{Stop}
 use Rattle.nz_search.specs.Notes.{noted_list}
 use Rattle.nz_place.specs.Places.{place_of}
 use Rattle.nz_search.specs.Places.{OnWide}
-use Rattle.nz_search.specs.Verdicts.{IfSat, OnUnsat, task_in}
+use Rattle.nz_term.specs.TermLits.{literal_of}
+use Rattle.nz_search.specs.Verdicts.{IfSat, OnSpent, OnUnsat, task_in}
 use Rattle.nz_reals.specs.Starts.{MayRestart}
 use Rattle.nz_engine.specs.Engines.{Begins, EngineState, table_of, theory_of}
 use Rattle.nz_engine.proofs.RefutedAssumptions.{assumed_of, negations_told, sat_of, unsat_of}
-use Rattle.nz_engine.proofs.KeptTheory.{rests_here, stop_legal_all}
+use Rattle.nz_engine.proofs.KeptTheory.{on_spent_fewer, rests_here, stop_legal_all}
 use Rattle.nz_engine.proofs.engine.EngineDecide.check.Goals as goal
 
 pub returns-clause-unsat : goal.returns-clause-unsat
 returns-clause-unsat c =
     let ns = c.args.terms.now in
     let found = c.in_ok-verdict.field-0 in
-    subst (λ (e : EngineState). OnUnsat found.verdict (IsDeadEnd (task_in ns e.levels c.args.assumed.now []) at_first)) c.self.view_is
+    subst (λ (e : EngineState). OnUnsat found.verdict (IsUnsatisfiable (asserted_terms ns e.levels) (map (literal_of ns) c.args.assumed.now))) c.self.view_is
     (unsat_of ns c.self.inside.levels c.args.assumed.now found.prepared.log found.verdict c.in_ok-verdict.ensures.answer)
 
 pub returns-clause-sat : goal.returns-clause-sat
@@ -69,6 +72,21 @@ returns-in_err-verdict-clause-stopped c =
     subst (λ (x : EngineState). IfErr c.from_residual.result (λ (s : Stop). OnWide s (λ p. (ts : List Term) → May ts → IsStoppedLegally (task_in ns x.levels assumed ts) (noted_list ns work) (place_of ns p)))) c.self.view_is
     (subst (λ r. IfErr r (λ (s : Stop). OnWide s (λ p. (ts : List Term) → May ts → IsStoppedLegally (task_in ns c.self.inside.levels assumed ts) (noted_list ns work) (place_of ns p)))) same
     (stop_legal_all ns (task_in ns c.self.inside.levels assumed) work (MayRestart (theory_of c.take_kept-kept.result) ns) May at e c.in_err-verdict.ensures.stopped))
+
+pub returns-in_err-verdict-clause-spent : goal.returns-in_err-verdict-clause-spent
+returns-in_err-verdict-clause-spent c =
+    let e = c.in_err-verdict.field-0.0 in
+    let same : Err e ≡ c.from_residual.result = search rules in
+    let ns = c.args.terms.now in
+    let assumed = c.args.assumed.now in
+    let work = c.decide.new.work in
+    let May : List Term → Type 0 = Begins c.args.self.now in
+    let at : (ts : List Term) → Begins c.args.self.now ts → MayRestart (theory_of c.take_kept-kept.result) ns ts = λ ts may.
+    rests_here c.theories_restart.ensures.restart (table_of c.self.inside.seen) ns c.self.inside.levels c.self.inside.kept c.take_kept-kept.result
+    (subst (λ (e : EngineState). IsFrontOfTable e.table ns) (sym c.self.view_is) c.requires.grown) c.self.invariant c.take_kept-kept.ensures.taken ts (subst (λ (e : EngineState). Begins e ts) (sym c.self.view_is) may) in
+    subst (λ (x : EngineState). IfErr c.from_residual.result (λ (s : Stop). OnSpent s ((ts : List Term) → May ts → IsSpentLegally (task_in ns x.levels assumed ts) (noted_list ns work)))) c.self.view_is
+    (subst (λ r. IfErr r (λ (s : Stop). OnSpent s ((ts : List Term) → May ts → IsSpentLegally (task_in ns c.self.inside.levels assumed ts) (noted_list ns work)))) same
+    (on_spent_fewer (MayRestart (theory_of c.take_kept-kept.result) ns) May (λ ts. IsSpentLegally (task_in ns c.self.inside.levels assumed ts) (noted_list ns work)) at e c.in_err-verdict.ensures.spent))
 
 pub returns-clause-legal : goal.returns-clause-legal
 returns-clause-legal c =

@@ -1,6 +1,7 @@
 use Rattle.std.proofs.Common.{◌≡◌, List, Some, IfOk, rules, sym, ap, ◌∙◌, subst}
 use Rattle.nz_spec.specs.search.Decide.{asserted_terms}
-use Rattle.nz_spec.specs.clauses.Steps.{Derives}
+use Rattle.nz_spec.specs.terms.FormOf.{number_in}
+use Rattle.nz_spec.specs.clauses.Steps.{Derives, asserting}
 use Rattle.nz_term.specs.declared.term_lits.TermLit.{TermLit}
 use Rattle.nz_log.specs.Spelling.{steps_of}
 use Rattle.nz_term.specs.TermLits.{clause_of_terms}
@@ -20,5 +21,5 @@ returns c =
     let own : EngineState = record { levels = levels; table = table; log = prepared.log; theory = prepared.sat.theory } in
     let same : own ≡ c.args.self.now = ap (λ k. let e : EngineState = record { levels = levels; table = table; log = log_of k; theory = theory_of k } in e) (sym is) ∙ c.self.view_is in
     record {
-      derives = subst (λ (e : EngineState). IfOk c.steps.result (λ steps. (d : List TermLit) → clause_at e c.args.id ≡ Some d → Derives (asserted_terms e.table e.levels) (steps_of e.table steps.items) (clause_of_terms e.table d))) same all;
+      derives = subst (λ (e : EngineState). IfOk c.steps.result (λ steps. (d : List TermLit) → clause_at e c.args.id ≡ Some d → Derives (number_in e.table) (asserting (asserted_terms e.table e.levels)) (steps_of e.table steps.items) (clause_of_terms e.table d))) same all;
     }

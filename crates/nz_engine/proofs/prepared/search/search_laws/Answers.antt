@@ -8,5 +8,6 @@ returns c = record {
     atoms = c.atoms_of_terms.ensures.atoms;
     covers = c.covers_stay.ensures.stay;
     restart = c.theories_restart.ensures.restart;
+    goes_on = c.legal_work_goes_on.ensures.goes_on;
   };
 }

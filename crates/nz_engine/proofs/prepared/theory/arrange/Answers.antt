@@ -9,3 +9,8 @@ pub returns-clause-rest : goal.returns-clause-rest
 returns-clause-rest c =
     may_arranged c.args.log.now.atoms c.args.atoms.now c.args.theory.now c.arrange.new.self (λ ns was within. c.arrange.ensures.over ns within was)
     (λ ns ts within tabled was may. c.arrange.ensures.restarts ns ts within tabled was may)
+
+pub returns-in_err-arrange-clause-rest : goal.returns-in_err-arrange-clause-rest
+returns-in_err-arrange-clause-rest c =
+    may_arranged c.args.log.now.atoms c.args.atoms.now c.args.theory.now c.arrange.new.self (λ ns was within. c.arrange.ensures.over ns within was)
+    (λ ns ts within tabled was may. c.arrange.ensures.restarts ns ts within tabled was may)

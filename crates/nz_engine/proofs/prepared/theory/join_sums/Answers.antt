@@ -2,7 +2,7 @@ use Rattle.std.proofs.Common.{rules, ◌≡◌, ◌<◌, ◌≤◌, List, Err, I
 use Rattle.std.specs.Prelude.{All}
 use Rattle.std.proofs.lemmas.List.{take_all}
 use Rattle.std.proofs.lemmas.List.Elements.{Contains-get_or}
-use Rattle.nz_spec.specs.search.Legal.{Task}
+use Rattle.nz_spec.specs.search.Search.{Task}
 use Rattle.nz_spec.specs.terms.Table.{Node}
 use Rattle.nz_search.specs.declared.stop.Stop.{Stop}
 use Rattle.nz_search.specs.Standing.{Stands}
@@ -11,7 +11,7 @@ use Rattle.nz_sat.specs.Numbers.{IsAtomAt}
 use Rattle.nz_engine.specs.Checking.{AreNumbered, EndsWith}
 use Rattle.nz_engine.specs.Joining.{AreNumbersBelow}
 use Rattle.nz_engine.proofs.TheoryAtoms.{atoms_at, begins, forms_after, learns, may_learn, of_all, stops}
-use Rattle.nz_engine.proofs.AtomNotes.{ends_stopped}
+use Rattle.nz_engine.proofs.AtomNotes.{joins_stopped}
 use Rattle.nz_engine.proofs.prepared.theory.join_sums.Goals as goal
 
 pub loop-number-init : goal.loop-number-init
@@ -74,7 +74,7 @@ returns-in_err-add_atom-clause-stopped c =
     → Stands (IsAt c.args.theory.now ns) ns q c.args.work.now → EndsWith ns q c.add_atom.new.work s)) same
     (stops c.args.log.now.atoms ids places i c.args.theory.now c.args.work.now c.loop-number.work c.loop-number.theory c.loop-number.invariant listed c.loop-number-test.true
     (get_or places i 0) (get_or ids (get_or places i 0) 0) refl refl c.add_atom.new.self c.add_atom.new.work c.add_atom.ensures.lines e
-    (λ ns q within number stands. ends_stopped (Unit {0}) (IsAt c.add_atom.new.self ns) ns q c.add_atom.new.work e (c.in_err-add_atom.ensures.ends ns q within number stands)))
+    (λ ns q within number stands. joins_stopped (Unit {0}) (IsAt c.add_atom.new.self ns) ns q c.add_atom.new.work e (c.in_err-add_atom.ensures.ends ns q within number stands)))
 
 pub returns-clause-of : goal.returns-clause-of
 returns-clause-of c =

@@ -1,7 +1,8 @@
 -- The two literals are made, and then their clause is put.
-use Rattle.std.proofs.Common.{◌≡◌, ℕ, List, ◌++◌, Result, Err, sym, ap, subst, ◌∙◌}
+use Rattle.std.proofs.Common.{◌≡◌, ℕ, List, [], ◌∷◌, ◌++◌, Result, Ok, Err, refl, sym, ap, subst, ◌∙◌}
 use Rattle.std.specs.Prelude.{IfErr}
 use Rattle.std.proofs.lemmas.Result.{err_from_is_err_and}
+use Rattle.nz_base.specs.declared.errors.Memory.{Memory}
 use Rattle.nz_spec.specs.clauses.Steps.{IsSortedStep, branch_step}
 use Rattle.nz_spec.specs.terms.Table.{Node, IsTable}
 use Rattle.nz_term.specs.declared.stops.ArithmeticStop.{ArithmeticStop}
@@ -20,6 +21,7 @@ use Rattle.nz_log.proofs.IntegerBranches.{both_in, branch_over, branch_sorted, b
 use Rattle.nz_log.proofs.DroppedLevels.{joined_in_order}
 use Rattle.nz_log.proofs.LiteralPreservation.{atom_wider}
 use Rattle.nz_log.proofs.JoinedAtoms.{joins_twice, puts_after}
+use Rattle.nz_log.proofs.OnlyJoined.{clause_only, last_joins, lit_more}
 use Rattle.nz_log.proofs.ArithmeticRules.{put_over_all}
 use Rattle.nz_log.proofs.log.Log.branch.Goals as goal
 use Rattle.nz_log.proofs.log.Log.branch.Goals.{In_ok-put_axiom}
@@ -77,6 +79,17 @@ returns-in_err-put_axiom-clause-sound c ns levels units sorted order =
     let joined = joins_twice c.args.self.now c.bound_literal.new.self c.bound_literal-2.new.self c.in_ok-first.ensures.joins c.in_ok-second.ensures.joins in
     subst (λ (s : LogState). IsLog ns levels s) (sym c.in_err-put_axiom.ensures.unchanged)
     (joined_in_order c.args.self.now c.bound_literal-2.new.self joined.entries joined.atoms c.in_ok-second.ensures.atoms ns levels order)
+
+pub returns-clause-only : goal.returns-clause-only
+returns-clause-only c =
+    let here = (goal.at.returns-clause-only c).In_ok-put_axiom in
+    let old = c.args.self.now.atoms in
+    let first = c.in_ok-first.first in
+    let second = c.in_ok-second.second in
+    let result : Result ℕ Memory = Ok c.in_ok-put_axiom.field-0 in
+    let only = lit_more old (m1 here) (m2 here) (first ∷ []) second (last_joins old (m1 here) [] first c.in_ok-first.ensures.only) c.in_ok-second.ensures.only in
+    clause_only old c.bound_literal-2.new.self c.put_axiom.new.self c.args.self.now (first ∷ second ∷ []) (axiom_entry c.put_axiom.new.self (branch_of first) (lits here)) result only
+    c.in_ok-put_axiom.ensures.atoms refl (put here)
 
 pub returns-clause-made : goal.returns-clause-made
 returns-clause-made c =

@@ -1,7 +1,8 @@
 -- The sum is made and rounded, and then the clause is put.
-use Rattle.std.proofs.Common.{◌≡◌, ℕ, List, [], ◌∷◌, ◌++◌, Result, Err, refl, sym, ap, subst, ◌∙◌, rules}
+use Rattle.std.proofs.Common.{◌≡◌, ℕ, List, [], ◌∷◌, ◌++◌, Result, Ok, Err, refl, sym, ap, subst, ◌∙◌, rules}
 use Rattle.std.specs.Prelude.{IfErr}
 use Rattle.std.proofs.lemmas.Result.{err_from_is_err_and}
+use Rattle.nz_base.specs.declared.errors.Memory.{Memory}
 use Rattle.nz_spec.specs.clauses.Literal.{once}
 use Rattle.nz_spec.specs.clauses.Steps.{cut_step}
 use Rattle.nz_spec.specs.terms.Table.{Node, IsTable}
@@ -22,6 +23,7 @@ use Rattle.nz_log.proofs.IntegerCuts.{cut_is, cut_limit_stops, cut_sorted, cut_s
 use Rattle.nz_log.proofs.DroppedLevels.{joined_in_order}
 use Rattle.nz_log.proofs.LiteralPreservation.{axiom_in_stays, axiom_in_wider}
 use Rattle.nz_log.proofs.JoinedAtoms.{puts_after}
+use Rattle.nz_log.proofs.OnlyJoined.{clause_only, last_joins}
 use Rattle.nz_log.proofs.ArithmeticRules.{put_over_all}
 use Rattle.nz_log.proofs.log.Log.cut.Goals as goal
 use Rattle.nz_log.proofs.log.Log.cut.Goals.{In_ok-put_axiom}
@@ -90,6 +92,17 @@ returns-in_err-put_axiom-clause-sound c ns levels within sorted order =
     let joins = c.in_ok-last.ensures.joins in
     subst (λ (s : LogState). IsLog ns levels s) (sym c.in_err-put_axiom.ensures.unchanged)
     (joined_in_order c.args.self.now c.bound_literal.new.self joins.entries joins.atoms c.in_ok-last.ensures.atoms ns levels order)
+
+pub returns-clause-only : goal.returns-clause-only
+returns-clause-only c =
+    let here = (goal.at.returns-clause-only c).In_ok-put_axiom in
+    let old = c.args.self.now.atoms in
+    let mid = c.bound_literal.new.self in
+    let negated = negated_lits c.args.multiples.now in
+    let last = c.in_ok-last.last in
+    let result : Result ℕ Memory = Ok c.in_ok-put_axiom.field-0 in
+    clause_only old mid c.put_axiom.new.self c.args.self.now (negated ++ last ∷ []) (axiom_entry c.put_axiom.new.self (cut_of c.args.multiples.now) (lits here)) result
+    (last_joins old mid.atoms negated last c.in_ok-last.ensures.only) c.in_ok-put_axiom.ensures.atoms refl (put here)
 
 pub returns-clause-made : goal.returns-clause-made
 returns-clause-made c =

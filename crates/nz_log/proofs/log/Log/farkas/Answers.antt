@@ -18,7 +18,7 @@ use Rattle.nz_log.specs.Axioms.{AreMultiplesIn, IsAxiom, IsClauseOf, farkas_of, 
 use Rattle.nz_log.specs.Lits.{are_same_lit}
 use Rattle.nz_log.specs.Logs.{Puts, axiom_entry}
 use Rattle.nz_log.proofs.LiteralAgreement.{literals_agree}
-use Rattle.nz_log.proofs.Axiomatic.{axiom_grows, axiom_in_order, axiom_made, farkas_gives, farkas_is, farkas_operations, refuted_within}
+use Rattle.nz_log.proofs.Axiomatic.{axiom_grows, axiom_in_order, axiom_made, farkas_is, farkas_operations, refuted_within}
 use Rattle.nz_log.proofs.log.Log.farkas.Goals as goal
 use Rattle.nz_log.proofs.log.Log.farkas.Goals.{In_ok-put_axiom}
 
@@ -77,8 +77,9 @@ returns-clause-sound c =
     let is : IsAxiom ns s.atoms (farkas_of ms) d =
     axiom_made c.term_stays.ensures.stays ns s.atoms (farkas_of ms) d within tt inside
     (λ more longer there all.
-    farkas_gives (ns ++ more) s.atoms (literals_agree c.tells_literals.ensures.tells c.one_number.ensures.one (ns ++ more) longer s.atoms order.atoms) ms there
-    (c.requires.multiples (ns ++ more) longer there) (c.requires.contradiction (ns ++ more) longer there)) in
+    farkas_is (ns ++ more) s.atoms (literals_agree c.tells_literals.ensures.tells c.one_number.ensures.one (ns ++ more) longer s.atoms order.atoms) ms there
+    (c.requires.multiples (ns ++ more) longer there) (c.requires.contradiction (ns ++ more) longer there) (bound_over (ns ++ more) c.in_ok-_sum._sum)
+    (c.in_ok-_sum.ensures.sum (ns ++ more) longer there).0) in
     let result : Result ℕ Memory = Ok c.in_ok-put_axiom.field-0 in
     let back = sym c.put_axiom.ensures.atoms in
     axiom_in_order s r (farkas_of ms) d result (put_entry (goal.at.returns-clause-sound c).In_ok-put_axiom) tt (subst AreAtoms back order.atoms) ns levels

@@ -1,5 +1,5 @@
 -- The atoms of the clause's terms join, and then the clause is put.
-use Rattle.std.proofs.Common.{◌≡◌, List, [], All, ap, sym, subst, ◌∙◌, rules}
+use Rattle.std.proofs.Common.{◌≡◌, List, [], All, ap, refl, sym, subst, ◌∙◌, rules}
 use Rattle.std.specs.Prelude.{IfOk, slice_get, unwrap_or}
 use Rattle.std.proofs.lemmas.Option.{slice_get_within}
 use Rattle.nz_spec.specs.clauses.Literal.{once}
@@ -13,6 +13,7 @@ use Rattle.nz_rows.specs.GateRows.{gates_at}
 use Rattle.nz_log.proofs.DroppedLevels.{joined_in_order}
 use Rattle.nz_log.proofs.GatesInOrder.{gate_in_order}
 use Rattle.nz_log.proofs.JoinedAtoms.{err_joins, puts_made}
+use Rattle.nz_log.proofs.OnlyJoined.{clause_only}
 use Rattle.nz_log.proofs.Soundness.{rule_in_order}
 use Rattle.nz_log.proofs.log.Log.gate.Goals as goal
 use Rattle.nz_log.proofs.log.Log.gate.Goals.{After-put_leaf}
@@ -37,6 +38,14 @@ put_entry c =
 
 pub returns-clause-made : goal.returns-clause-made
 returns-clause-made c = put_entry (goal.at.returns-clause-made c).After-put_leaf
+
+pub returns-clause-only : goal.returns-clause-only
+returns-clause-only c =
+    let m = c.lits_of.new.self in
+    let ls : List Lit = c.in_ok-literals.literals.items in
+    let e = made_entry m 0 (once are_same_lit ls) (gate_of c.args.term c.args.j) in
+    let made : IfOk c.put_leaf.result (λ id. Puts m id e c.put_leaf.new.self) = search rules in
+    clause_only c.args.self.now.atoms m c.put_leaf.new.self m ls e c.put_leaf.result c.in_ok-literals.ensures.only c.put_leaf.ensures.atoms refl made
 
 pub returns-clause-unchanged : goal.returns-clause-unchanged
 returns-clause-unchanged c =

@@ -1,5 +1,5 @@
 -- The atom of the term joins, and then the clause is put.
-use Rattle.std.proofs.Common.{◌≡◌, List, [], ◌∷◌, ap, sym, subst, ◌∙◌, rules}
+use Rattle.std.proofs.Common.{◌≡◌, List, [], ◌∷◌, ap, refl, sym, subst, ◌∙◌, rules}
 use Rattle.std.specs.Prelude.{IfOk}
 use Rattle.nz_spec.specs.clauses.Literal.{once}
 use Rattle.nz_log.specs.declared.atoms.Atom.{Atom}
@@ -10,6 +10,7 @@ use Rattle.nz_log.specs.Logs.{assertion_of, given_entry, made_entry, Puts}
 use Rattle.nz_term.specs.TermLits.{yes}
 use Rattle.nz_log.proofs.DroppedLevels.{joined_in_order}
 use Rattle.nz_log.proofs.JoinedAtoms.{err_joins, puts_made}
+use Rattle.nz_log.proofs.OnlyJoined.{clause_only, last_joins}
 use Rattle.nz_log.proofs.Soundness.{given_in_order, level_grows, rule_in_order}
 use Rattle.nz_log.proofs.log.Log.given.Goals as goal
 use Rattle.nz_log.proofs.log.Log.given.Goals.{After-put_leaf}
@@ -27,6 +28,15 @@ put_entry c =
 
 pub returns-clause-made : goal.returns-clause-made
 returns-clause-made c = put_entry (goal.at.returns-clause-made c).After-put_leaf
+
+pub returns-clause-only : goal.returns-clause-only
+returns-clause-only c =
+    let m = c.term_lit.new.self in
+    let l = c.in_ok-literal.literal in
+    let e = made_entry m c.args.level (once are_same_lit (l ∷ [])) (assertion_of c.args.k) in
+    let made : IfOk c.put_leaf.result (λ id. Puts m id e c.put_leaf.new.self) = search rules in
+    clause_only c.args.self.now.atoms m c.put_leaf.new.self m (l ∷ []) e c.put_leaf.result (last_joins c.args.self.now.atoms m.atoms [] l c.in_ok-literal.ensures.only)
+    c.put_leaf.ensures.atoms refl made
 
 pub returns-clause-unchanged : goal.returns-clause-unchanged
 returns-clause-unchanged c =

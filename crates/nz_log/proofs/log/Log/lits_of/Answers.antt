@@ -1,10 +1,21 @@
 -- One literal more.
-use Rattle.std.proofs.Common.{◌≡◌, ◌∷◌, [], ◌++◌, get_or, false, rules}
+use Rattle.std.proofs.Common.{◌≡◌, ◌∷◌, [], ◌++◌, List, get_or, false, sym, subst, rules}
 use Rattle.nz_term.specs.declared.term_lits.TermLit.{TermLit}
-use Rattle.nz_log.specs.Atoms.{HasTerm, lit_of}
+use Rattle.nz_log.specs.declared.lits.Lit.{Lit}
+use Rattle.nz_log.specs.Atoms.{HasTerm, IsAtomOf, JoinOnly, lit_of}
 use Rattle.nz_log.proofs.AtomLiterals.{lits_more}
 use Rattle.nz_log.proofs.JoinedAtoms.{joins_twice}
+use Rattle.nz_log.proofs.OnlyJoined.{lit_more, none_joins}
 use Rattle.nz_log.proofs.log.Log.lits_of.Goals as goal
+
+pub loop-literal-init : goal.loop-literal-init
+loop-literal-init c = record {
+  so_far = search rules;
+  there = search rules;
+  joins = search rules;
+  atoms = search rules;
+  only = none_joins c.args.self.now.atoms (IsAtomOf c.new-literals.result.items);
+}
 
 pub loop-literal-preserved : goal.loop-literal-preserved
 loop-literal-preserved c =
@@ -22,4 +33,6 @@ loop-literal-preserved c =
       there = more.1;
       joins = joins_twice c.args.self.now old new c.loop-literal.invariant.joins c.term_lit.ensures.joins;
       atoms = c.term_lit.ensures.atoms;
+      only = subst (λ (ls : List Lit). JoinOnly c.args.self.now.atoms new.atoms (IsAtomOf ls)) (sym c.in_ok-push.ensures.items)
+          (lit_more c.args.self.now.atoms old.atoms new.atoms c.loop-literal.literals.items c.in_ok-next.next c.loop-literal.invariant.only c.in_ok-next.ensures.only);
     }

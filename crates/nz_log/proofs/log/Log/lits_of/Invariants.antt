@@ -1,7 +1,7 @@
 use Rattle.std.proofs.Common.{◌≡◌, take}
 use Rattle.std.specs.List.{AllByRecursion}
 use Rattle.nz_term.specs.declared.term_lits.TermLit.{TermLit}
-use Rattle.nz_log.specs.Atoms.{AreAtoms, HasTerm, lits_of}
+use Rattle.nz_log.specs.Atoms.{AreAtoms, HasTerm, IsAtomOf, JoinOnly, lits_of}
 use Rattle.nz_log.specs.Logs.{JoinsAtoms}
 use Rattle.nz_log.proofs.log.Log.lits_of.Given as goal
 
@@ -13,4 +13,5 @@ invariant-loop-literal l =
       there : AllByRecursion (λ (k : TermLit). HasTerm l.self.atoms k.term) (take l.literal-index l.clause);
       joins : JoinsAtoms l.fn.self l.self;
       atoms : AreAtoms l.self.atoms;
+      only : JoinOnly l.fn.self.atoms l.self.atoms (IsAtomOf l.literals.items);
     }

@@ -6,8 +6,10 @@ use Rattle.nz_spec.specs.terms.Table.{Node}
 use Rattle.nz_log.specs.declared.lits.Lit.{Lit}
 use Rattle.nz_rows.specs.declared.rows.RowLiteral.{RowLiteral}
 use Rattle.nz_rows.specs.Rows.{AreRowLiteralsIn}
+use Rattle.nz_log.specs.Atoms.{IsAtomOf, JoinOnly}
 use Rattle.nz_log.specs.Logs.{AreLitsOf}
 use Rattle.nz_log.proofs.JoinedAtoms.{joins_twice, nothing_joins}
+use Rattle.nz_log.proofs.OnlyJoined.{lit_more, none_joins}
 use Rattle.nz_log.proofs.RowLiterals.{no_lits, nothing_left, one_said}
 use Rattle.nz_log.proofs.log.Log.row_lits.Goals as goal
 
@@ -23,6 +25,7 @@ loop-said-init c =
       made = λ ns all. subst (AreLitsOf ns c.args.self.now.atoms []) (sym c.new-literals.ensures.items) (no_lits ns c.args.self.now.atoms);
       joins = nothing_joins c.args.self.now;
       atoms = c.atom_count.ensures.atoms;
+      only = none_joins c.args.self.now.atoms (IsAtomOf c.new-literals.result.items);
     }
 
 pub loop-said-preserved : goal.loop-said-preserved
@@ -47,6 +50,8 @@ loop-said-preserved c =
           (one_said old.atoms new.atoms c.in_ok-literal.ensures.joins.atoms xs x ls l c.loop-said.invariant.made c.in_ok-literal.ensures.literal c.in_ok-literal.ensures.within);
       joins = joins_twice c.args.self.now old new c.loop-said.invariant.joins c.in_ok-literal.ensures.joins;
       atoms = c.in_ok-literal.ensures.atoms;
+      only = subst (λ (ms : List Lit). JoinOnly c.args.self.now.atoms new.atoms (IsAtomOf ms)) (sym c.in_ok-push.ensures.items)
+          (lit_more c.args.self.now.atoms old.atoms new.atoms ls l c.loop-said.invariant.only c.in_ok-literal.ensures.only);
     }
 
 pub returns-clause-literals : goal.returns-clause-literals

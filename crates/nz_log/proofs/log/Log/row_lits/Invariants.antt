@@ -1,6 +1,6 @@
 use Rattle.std.proofs.Common.{◌≡◌, ◌++◌, List, length}
 use Rattle.nz_spec.specs.terms.Table.{Node}
-use Rattle.nz_log.specs.Atoms.{AreAtoms}
+use Rattle.nz_log.specs.Atoms.{AreAtoms, IsAtomOf, JoinOnly}
 use Rattle.nz_log.specs.Logs.{AreLitsOf, JoinsAtoms}
 use Rattle.nz_rows.specs.Rows.{AreRowLiteralsIn}
 use Rattle.nz_log.proofs.log.Log.row_lits.Given as goal
@@ -16,4 +16,5 @@ invariant-loop-said l =
       made : (ns : List Node) → AreRowLiteralsIn ns l.yielded → AreLitsOf ns l.self.atoms l.yielded l.literals.items;
       joins : JoinsAtoms l.fn.self l.self;
       atoms : AreAtoms l.self.atoms;
+      only : JoinOnly l.fn.self.atoms l.self.atoms (IsAtomOf l.literals.items);
     }

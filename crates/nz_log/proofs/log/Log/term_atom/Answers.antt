@@ -1,5 +1,7 @@
 -- The atom has one place.
-use Rattle.std.proofs.Common.{subst}
+use Rattle.std.proofs.Common.{◌≡◌, subst}
+use Rattle.std.specs.Prelude.{IfOk}
+use Rattle.nz_log.specs.Atoms.{JoinOnly}
 use Rattle.nz_log.specs.Logs.{JoinsAtoms, LogState}
 use Rattle.nz_log.specs.Stored.{log_of}
 use Rattle.nz_log.proofs.AtomLiterals.{log_joins, numbered, term_there}
@@ -19,3 +21,7 @@ pub returns-clause-joins : goal.returns-clause-joins
 returns-clause-joins c =
     subst (λ (s : LogState). JoinsAtoms s (log_of c.self.inside.clauses.items c.self.inside.told.items c.put.new.self)) c.self.view_is
     (log_joins c.self.inside.clauses.items c.self.inside.told.items c.self.inside.atoms c.put.new.self c.put.ensures.stay)
+
+pub returns-clause-only : goal.returns-clause-only
+returns-clause-only c =
+    subst (λ (s : LogState). IfOk c.put.result (λ id. JoinOnly s.atoms c.put.new.self (λ i. i ≡ id))) c.self.view_is c.put.ensures.only

@@ -1,9 +1,20 @@
 -- One atom more.
-use Rattle.std.proofs.Common.{◌≡◌, ◌∷◌, [], ◌++◌, get_or, rules}
-use Rattle.nz_log.specs.Atoms.{HasTerm, term_place}
+use Rattle.std.proofs.Common.{◌≡◌, ◌∷◌, [], ◌++◌, ℕ, List, get_or, sym, subst, rules}
+use Rattle.std.specs.Prelude.{Contains}
+use Rattle.nz_log.specs.Atoms.{HasTerm, JoinOnly, term_place}
 use Rattle.nz_log.proofs.KeptAtoms.{places_more}
 use Rattle.nz_log.proofs.JoinedAtoms.{joins_twice}
+use Rattle.nz_log.proofs.OnlyJoined.{none_joins, number_more}
 use Rattle.nz_log.proofs.log.Log.term_atoms.Goals as goal
+
+pub loop-term-init : goal.loop-term-init
+loop-term-init c = record {
+  so_far = search rules;
+  there = search rules;
+  joins = search rules;
+  all = search rules;
+  only = none_joins c.args.self.now.atoms (Contains c.new-atoms.result.items);
+}
 
 pub loop-term-preserved : goal.loop-term-preserved
 loop-term-preserved c =
@@ -20,4 +31,6 @@ loop-term-preserved c =
       there = more.1;
       joins = joins_twice c.args.self.now old new c.loop-term.invariant.joins c.term_atom.ensures.joins;
       all = c.term_atom.ensures.atoms;
+      only = subst (λ (ids : List ℕ). JoinOnly c.args.self.now.atoms new.atoms (Contains ids)) (sym c.in_ok-push.ensures.items)
+          (number_more c.args.self.now.atoms old.atoms new.atoms c.loop-term.atoms.items c.in_ok-atom.atom c.loop-term.invariant.only c.in_ok-atom.ensures.only);
     }

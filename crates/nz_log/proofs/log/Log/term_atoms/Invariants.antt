@@ -1,6 +1,7 @@
 use Rattle.std.proofs.Common.{◌≡◌, map, take}
+use Rattle.std.specs.Prelude.{Contains}
 use Rattle.std.specs.List.{AllByRecursion}
-use Rattle.nz_log.specs.Atoms.{AreAtoms, HasTerm, term_place}
+use Rattle.nz_log.specs.Atoms.{AreAtoms, HasTerm, JoinOnly, term_place}
 use Rattle.nz_log.specs.Logs.{JoinsAtoms}
 use Rattle.nz_log.proofs.log.Log.term_atoms.Given as goal
 
@@ -12,4 +13,5 @@ invariant-loop-term l =
       there : AllByRecursion (HasTerm l.self.atoms) (take l.term-index l.terms);
       joins : JoinsAtoms l.fn.self l.self;
       all : AreAtoms l.self.atoms;
+      only : JoinOnly l.fn.self.atoms l.self.atoms (Contains l.atoms.items);
     }

@@ -2,7 +2,7 @@ use Rattle.std.proofs.Common.{rules, ◌≡◌, ◌<◌, ℕ, Some, Err, length,
 use Rattle.std.specs.Prelude.{slice_get, ⊤}
 use Rattle.std.proofs.lemmas.Option.{slice_get_within}
 use Rattle.nz_search.specs.declared.stop.Stop.TheVariants.{Memory}
-use Rattle.nz_search.specs.Standing.{Ends}
+use Rattle.nz_reals.specs.Joins.{EndsJoining}
 use Rattle.nz_simplex.specs.State as simplex
 use Rattle.nz_simplex.specs.State.{State}
 use Rattle.nz_reals.specs.declared.reals.MarkedLiteral.{MarkedLiteral}
@@ -34,7 +34,7 @@ returns-in_err-var-clause-ends c = λ ns q lit known stands.
     let named = named_sum ns c.args.log.now.atoms c.args.id c.args.number c.args.work.now c.in-AtMost.bound c.in_ok-sum.sum l.at normal l.is known in
     let e = c.in_err-var.field-0.0 in
     let stop : c.from_residual-in_err-var.result ≡ Err e = search rules in
-    subst (λ r. Ends (IsAt c.form_for.new.self ns) ns q c.form_for.new.work r) (sym stop)
+    subst (λ r. EndsJoining (IsAt c.form_for.new.self ns) ns q c.form_for.new.work r) (sym stop)
     (ends_err ℕ ⊤ (IsAt c.form_for.new.self ns) ns q c.form_for.new.work e (c.in_err-var.ensures.ends ns q units named stands))
 
 pub keep-requires-clause-form : goal.keep-requires-clause-form
@@ -55,7 +55,7 @@ returns-in_err-keep-clause-ends c = λ ns q lit known stands.
     let normal = normal_at c.args.log.now.atoms c.args.id c.in-AtMost.bound c.atom_count.ensures.atoms l.at in
     let named = named_sum ns c.args.log.now.atoms c.args.id c.args.number c.args.work.now c.in-AtMost.bound c.in_ok-sum.sum l.at normal l.is known in
     let stop : c.from_residual-in_err-keep.result ≡ Err Memory = search rules in
-    subst (λ r. Ends (IsAt c.keep.new.self ns) ns q c.form_for.new.work r) (sym stop)
+    subst (λ r. EndsJoining (IsAt c.keep.new.self ns) ns q c.form_for.new.work r) (sym stop)
     (stands_legal (IsAt c.form_for.new.self ns) ns q c.form_for.new.work (c.in_ok-var.ensures.ends ns q units named stands))
 
 pub returns-clause-of : goal.returns-clause-of

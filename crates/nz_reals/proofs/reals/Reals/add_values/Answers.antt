@@ -1,16 +1,10 @@
-use Rattle.std.proofs.Common.{rules, ◌≡◌, ◌<◌, List, Result, Err, length, ap, arith, subst, sym}
+use Rattle.std.proofs.Common.{rules, ◌≡◌, ◌<◌, Result, Err, length, ap, arith, subst, sym}
 use Rattle.std.specs.Prelude.{IfErr, ⊤}
-use Rattle.nz_spec.specs.simplex.Bland.{Point}
-use Rattle.nz_spec.specs.terms.Form as spec
-use Rattle.nz_spec.specs.clauses.Literal.{Literal}
-use Rattle.nz_place.specs.declared.place.Place.{Place}
 use Rattle.nz_search.specs.declared.stop.Stop.{Stop}
-use Rattle.nz_place.specs.Places.{IsPlaceIn}
 use Rattle.nz_search.specs.Places.{OnWide}
-use Rattle.nz_reals.specs.Stands.{IsAt}
 use Rattle.nz_reals.specs.State.{Theory}
 use Rattle.nz_reals.proofs.ConstantValues.{adds_values, puts_more}
-use Rattle.nz_reals.proofs.InfinitesimalLimits.{has_values, limit_stands, model_stands}
+use Rattle.nz_reals.proofs.InfinitesimalLimits.{StandsOfValues, has_values, limit_stands, model_stands}
 use Rattle.nz_reals.proofs.Worths.{has_worths}
 use Rattle.nz_reals.proofs.reals.Reals.add_values.Goals as goal
 
@@ -20,22 +14,21 @@ delta-requires c = record {
 }
 
 pub returns-in-Err-clause-place : goal.returns-in-Err-clause-place
-returns-in-Err-clause-place c =
-    limit_stands c.infinitesimals_are_ordered.ensures.ordered c.args.self.now c.args.terms.now c.requires.over c.stored.ensures.sound (c.requires.feasible c.args.terms.now c.requires.over) c.in-Err.place c.in-Err.ensures.place
+returns-in-Err-clause-place c = λ ts among.
+    limit_stands c.infinitesimals_are_ordered.ensures.ordered c.args.self.now c.args.terms.now c.requires.over c.stored.ensures.sound (c.requires.feasible c.args.terms.now c.requires.over) ts c.in-Err.place c.in-Err.ensures.place
 
 pub add_value-requires-clause-values : goal.add_value-requires-clause-values
 add_value-requires-clause-values c = has_values c.args.self.now c.args.terms.now c.requires.over c.stored.ensures.sound c.infinitesimals_are_ordered.ensures.ordered (c.requires.feasible c.args.terms.now c.requires.over)
 
 pub returns-in_err-add_value-clause-place : goal.returns-in_err-add_value-clause-place
-returns-in_err-add_value-clause-place c =
+returns-in_err-add_value-clause-place c = λ ts among.
     let t = c.args.self.now in
     let ns = c.args.terms.now in
     let e = c.in_err-add_value.field-0.0 in
     let stop : c.from_residual.result ≡ Err e = search rules in
-    subst
-    (λ (r : Result ⊤ Stop). IfErr r (λ (e : Stop). OnWide e (λ (p : Place). (fs : List (List spec.Part)) (ls : List Literal) (x : Point) → IsAt t ns fs ls x → IsPlaceIn ns fs ls x p))) (sym stop)
-    (model_stands c.infinitesimals_are_ordered.ensures.ordered t ns c.requires.over c.stored.ensures.sound (c.requires.feasible ns c.requires.over) c.positions_have_values.ensures.values c.in-Ok.ensures.numbers c.in-Ok.delta c.in-Ok.ensures.least e
-    c.in_err-add_value.ensures.place)
+    subst (λ (r : Result ⊤ Stop). IfErr r (λ (e : Stop). OnWide e (StandsOfValues t ns ts))) (sym stop)
+    (model_stands c.infinitesimals_are_ordered.ensures.ordered t ns c.requires.over c.stored.ensures.sound (c.requires.feasible ns c.requires.over) ts c.positions_have_values.ensures.values c.term_of_node.ensures.node c.units_are_forms.ensures.forms c.args.is_listed.now among
+    c.in-Ok.ensures.numbers c.in-Ok.delta c.in-Ok.ensures.least e c.in_err-add_value.ensures.place)
 
 pub loop-var-preserved : goal.loop-var-preserved
 loop-var-preserved c =
@@ -44,7 +37,7 @@ loop-var-preserved c =
     let inside : c.loop-var.var < length t.simplex.forms = omega (arith, c.loop-var-test.true, c.len-var-end.ensures.count, seen) in
     record {
       puts =
-          puts_more t c.args.terms.now c.requires.over c.stored.ensures.forms c.units_are_forms.ensures.forms c.in-Ok.delta c.args.values.now c.loop-var.var c.loop-var.values c.add_value.new.values inside
+          puts_more t c.args.terms.now c.requires.over c.stored.ensures.forms c.units_are_forms.ensures.forms c.args.is_listed.now c.in-Ok.delta c.args.values.now c.loop-var.var c.loop-var.values c.add_value.new.values inside
           c.loop-var.invariant.puts c.in_ok-add_value.ensures.puts;
     }
 
@@ -54,11 +47,11 @@ returns-clause-values c =
     let ns = c.args.terms.now in
     let seen = ap (λ (x : Theory). length x.simplex.forms) c.self.view_is in
     let end : c.loop-var.var ≡ length t.simplex.forms = omega (arith, c.loop-var-test.false, c.loop-var.auto.var-end, c.len-var-end.ensures.count, seen) in
-    adds_values t ns c.requires.over c.stored.ensures.forms c.units_are_forms.ensures.forms c.in-Ok.delta c.args.values.now c.stored.ensures.sound c.positions_have_values.ensures.values
+    adds_values t ns c.requires.over c.stored.ensures.forms c.units_are_forms.ensures.forms c.args.is_listed.now c.in-Ok.delta c.args.values.now c.stored.ensures.sound c.positions_have_values.ensures.values
     (has_values t ns c.requires.over c.stored.ensures.sound c.infinitesimals_are_ordered.ensures.ordered (c.requires.feasible ns c.requires.over)) c.in-Ok.ensures.numbers c.in-Ok.ensures.least c.loop-var.var c.loop-var.values end c.loop-var.invariant.puts
 
 pub returns-clause-worths : goal.returns-clause-worths
 returns-clause-worths c =
     has_worths c.told_bounds_are_met.ensures.met c.chosen_fractions_keep_bounds.ensures.keep c.term_has_its_number.ensures.number c.tells_literals.ensures.tells c.one_number.ensures.one
-    c.units_are_forms.ensures.forms c.args.self.now c.args.terms.now c.requires.over c.stored.ensures.forms c.stored.ensures.sound c.requires.feasible c.args.values.now c.loop-var.values
+    c.units_are_forms.ensures.forms c.args.self.now c.args.terms.now c.requires.over c.stored.ensures.forms c.stored.ensures.sound c.requires.feasible c.args.is_listed.now c.args.values.now c.loop-var.values
     (returns-clause-values c)

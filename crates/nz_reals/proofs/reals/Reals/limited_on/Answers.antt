@@ -2,7 +2,8 @@ use Rattle.std.proofs.Common.{◌++◌, [], ◌∷◌, Option, refl, subst, sym}
 use Rattle.std.specs.Prelude.{if◌then◌else◌}
 use Rattle.std.proofs.lemmas.List.Elements.{All-from_recursion}
 use Rattle.nz_fractions.specs.Fraction.{Fraction, fraction_lt}
-use Rattle.nz_spec.specs.numbers.Infinitesimal.{IsLeastLimit, Pair, ◌≤δ◌}
+use Rattle.nz_fractions.proofs.FirstOperations.{first_wide-is}
+use Rattle.nz_spec.specs.numbers.Infinitesimal.{IsLeastLimit, Pair, ◌≤δ◌, limit_operations}
 use Rattle.nz_delta.specs.Pairs.{pair_of}
 use Rattle.nz_place.specs.declared.place.Place.{Place}
 use Rattle.nz_place.specs.declared.place.Site.TheVariants.{Limit}
@@ -35,7 +36,8 @@ returns-in-Err-clause-place c =
       pair = pair_of c.in_order.result;
       is = one_pair c.args.self.now c.args.var c.args.side c.in-Some.bound c.value-value.result c.in_order.result c.in-Some.ensures.bound c.value-value.ensures.value c.in_order.ensures.pair;
       numbers = (c.value-value.ensures.standard, c.value-value.ensures.coefficient);
-      of = found.0;
-      leaves = record { left = c.new.ensures.left; right = c.new.ensures.right; wide = found.1 };
+      limits = found.0;
+      first = found.1;
+      leaves = record { left = c.new.ensures.left; right = c.new.ensures.right; wide = (first_wide-is (limit_operations (pair_of c.in_order.result)) _ found.1).1 };
     } in
     subst (IsLimitPlace c.args.self.now) (sym c.new.ensures.place) there

@@ -12,4 +12,4 @@ pub returns-clause-stands : goal.returns-clause-stands
 returns-clause-stands c = λ ns q over may.
     let t = c.args.self.now in
     let notes = notes_start t c.args.work.now c.note.new.self c.in_ok-start.start c.in_ok-start.ensures.start c.in_ok-note.ensures.ok in
-    subst (λ (u : Theory). Stands (IsAt u ns) ns q c.note.new.self) (sym c.forget.ensures.forgotten) (starts_there ns q t c.args.work.now c.note.new.self c.requires.no_steps notes over may)
+    subst (λ (u : Theory). Stands (IsAt u ns) ns q c.note.new.self) (sym c.forget.ensures.forgotten) (starts_there c.more_terms_may_begin.ensures.begins ns q t c.args.work.now c.note.new.self c.requires.no_steps notes over may)

@@ -2,9 +2,9 @@ use Rattle.std.specs.Prelude.{Contains}
 use Rattle.nz_log.specs.declared.lits.Lit.{Lit}
 use Rattle.nz_reals.specs.Known.{known_of}
 use Rattle.nz_reals.specs.State.{told_lits}
-use Rattle.nz_reals.specs.Tells.{AreKnown, Clashes, Refutes, both}
+use Rattle.nz_reals.specs.Tells.{AreKnown, AreOnTwoSides, Clashes, Refutes, both}
 use Rattle.nz_reals.proofs.BoundClashes.{clash_told}
-use Rattle.nz_reals.proofs.Tolds.{clash_handed, clash_has}
+use Rattle.nz_reals.proofs.Tolds.{clash_handed, clash_has, clash_sides}
 use Rattle.nz_reals.proofs.reals.Reals.tell.Goals as goal
 
 pub returns-clause-among : goal.returns-clause-among
@@ -13,6 +13,13 @@ returns-clause-among c =
     let l = c.args.literal in
     let k = known_of c.known-bounded.result in
     clash_handed (Clashes t l k) (Contains (told_lits t)) (clash_has t l k) c.assert_said.result c.assert_said.ensures.clash
+
+pub returns-clause-sides : goal.returns-clause-sides
+returns-clause-sides c =
+    let t = c.args.self.now in
+    let l = c.args.literal in
+    let k = known_of c.known-bounded.result in
+    clash_handed (Clashes t l k) (AreOnTwoSides t l) (λ o. clash_sides t l k o c.stored.ensures.tolds c.known-bounded.ensures.known) c.assert_said.result c.assert_said.ensures.clash
 
 pub returns-clause-refutes : goal.returns-clause-refutes
 returns-clause-refutes c = λ atoms ids of.

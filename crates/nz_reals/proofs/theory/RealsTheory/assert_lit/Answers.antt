@@ -7,11 +7,11 @@ use Rattle.nz_search.specs.declared.stop.Stop.{Stop}
 use Rattle.nz_log.specs.Atoms.{literal_in}
 use Rattle.nz_log.specs.Axioms.{AreMultiplesIn}
 use Rattle.nz_log.specs.Leveled.{AreTold}
-use Rattle.nz_place.specs.Places.{IsPlaceIn}
 use Rattle.nz_search.specs.Places.{OnWide}
+use Rattle.nz_search.specs.Theories.{IsPlaceOfStep}
 use Rattle.nz_reals.specs.Stands.{IsOver}
 use Rattle.nz_reals.specs.State.{Theory, told_lits}
-use Rattle.nz_reals.specs.Tells.{AreKnown, AreOf, IsSumPlace, IsTold, Refutes, both, literals_of}
+use Rattle.nz_reals.specs.Tells.{AreKnown, AreOf, AreOnTwoSides, IsSumPlace, IsTold, Refutes, both, literals_of}
 use Rattle.nz_reals.proofs.Contradictions.{some_known}
 use Rattle.nz_reals.proofs.KnownAtoms.{is_known, of_kept}
 use Rattle.nz_reals.proofs.WidePlaces.{both_in, both_of, both_told, clash_stops}
@@ -51,8 +51,10 @@ returns-in_err-clause-in-Some-clause-place c = λ ns fs ls x at.
     let place : OnWide e (IsSumPlace ns t (both l c.in-Some.other)) =
     subst (λ (s : Theory). IsOver s ns → OnWide e (IsSumPlace ns s (both l c.in-Some.other))) same
     (subst (λ (ms : List LitMultiple). IsOver c.tell.new.self ns → OnWide e (IsSumPlace ns c.tell.new.self ms)) c.both_once.ensures.both (c.in_err-clause-in-Some.ensures.place ns)) at.over in
-    subst (λ r. IfErr r (λ (y : Stop). OnWide y (IsPlaceIn ns fs (ls ++ m ∷ []) (moved_by fs m x)))) (sym stop)
-    (clash_stops t c.args.log.now.atoms c.requires.known.0 ns fs ls x l c.in-Some.other k.0 e c.requires.known.1 at c.stored.ensures.sound c.stored.ensures.tolds k.1 has place)
+    let two : AreOnTwoSides t l c.in-Some.other = subst (λ o. IfSome o (AreOnTwoSides t l)) c.in-Some.is c.in_ok-tell.ensures.sides in
+    subst (λ r. IfErr r (λ (y : Stop). OnWide y (IsPlaceOfStep ns fs (ls ++ m ∷ []) (moved_by fs m x)))) (sym stop)
+    (clash_stops t c.args.log.now.atoms c.requires.known.0 ns fs ls x l c.in-Some.other k.0 e c.one_number.ensures.one c.tells_literals.ensures.tells c.requires.known.1 at c.stored.ensures.forms c.stored.ensures.sound
+    c.stored.ensures.tolds k.1 has two place)
 
 pub returns-in_err-clause-in-Some-clause-grows : goal.returns-in_err-clause-in-Some-clause-grows
 returns-in_err-clause-in-Some-clause-grows c = λ ls told are.

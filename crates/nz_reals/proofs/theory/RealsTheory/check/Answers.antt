@@ -7,7 +7,8 @@ use Rattle.nz_search.specs.Places.{OnWide}
 use Rattle.nz_reals.specs.Stands.{IsOver}
 use Rattle.nz_reals.specs.Tells.{AreKnown, AreOf, IsSumPlace, Refutes, multiple_at}
 use Rattle.nz_reals.proofs.KnownAtoms.{of_kept}
-use Rattle.nz_reals.proofs.WidePlaces.{in_of_each, leads_on, leads_to_place, leads_to_stop, sum_in_check, there, told_of_each, why_known, why_of, why_told}
+use Rattle.nz_reals.proofs.WhyForms.{why_apart}
+use Rattle.nz_reals.proofs.WidePlaces.{in_of_each, leads_on, leads_to_place, leads_to_stop, leads_to_sum, sum_in_check, there, told_of_each, why_known, why_of, why_told}
 use Rattle.nz_reals.proofs.BoundClashes.{check_refutes}
 use Rattle.nz_reals.specs.declared.reals.MarkedLiteral.{MarkedLiteral}
 use Rattle.nz_reals.proofs.theory.RealsTheory.check.Goals as goal
@@ -20,6 +21,7 @@ returns-in_err-seek-clause-leads c = λ ns fs ls x at.
     let e = c.in_err-seek.field-0.0 in
     let stop : c.from_residual.result ≡ Err e = search rules in
     leads_to_place c.args.self.now c.seek.new.self c.args.work.now c.seek.new.work ns fs ls x c.seek.ensures.moved at e c.from_residual.result stop (c.in_err-seek.ensures.place ns)
+    (c.in_err-seek.ensures.wanted ns)
 
 pub returns-then-branch-clause-of : goal.returns-then-branch-clause-of
 returns-then-branch-clause-of c = λ atoms ids of. of_kept c.args.self.now c.seek.new.self atoms ids c.seek.ensures.moved.known c.seek.ensures.moved.forms of
@@ -80,8 +82,11 @@ returns-in_err-clause-clause-leads c = λ ns fs ls x at.
     let refuted = c.in_ok-seek.ensures.clash (ap Ok c.if-branch.false) ns here.over in
     let place : OnWide e (IsSumPlace ns t (map (multiple_at t) t.simplex.why)) =
     subst (λ (ms : List LitMultiple). IsOver t ns → OnWide e (IsSumPlace ns t ms)) is (c.in_err-clause.ensures.place ns) here.over in
-    leads_to_stop c.args.self.now t c.args.work.now c.seek.new.work ns fs ls x c.seek.ensures.moved at e c.from_residual-in_err-clause.result stop
-    (sum_in_check t ns fs ls _ here c.stored.ensures.tolds refuted e place)
+    let known = c.requires.known in
+    let of = of_kept c.args.self.now t c.args.log.now.atoms known.0 c.seek.ensures.moved.known c.seek.ensures.moved.forms known.1 in
+    let apart = why_apart t ns c.args.log.now.atoms known.0 of here.over c.stored.ensures.forms (c.one_number.ensures.one ns here.over.table) c.tells_literals.ensures.tells c.stored.ensures.tolds c.stored.ensures.sound refuted in
+    leads_to_sum c.args.self.now t c.args.work.now c.seek.new.work ns fs ls x c.seek.ensures.moved at e c.from_residual-in_err-clause.result stop c.in_err-clause.ensures.unspent
+    (sum_in_check t ns fs ls _ here c.stored.ensures.tolds refuted apart e place)
 
 -- the multiples are of literals that were told
 pub returns-in_err-clause-clause-grows : goal.returns-in_err-clause-clause-grows

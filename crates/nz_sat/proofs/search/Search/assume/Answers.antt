@@ -6,10 +6,10 @@ use Rattle.nz_log.specs.declared.lits.Lit.{Lit}
 use Rattle.nz_log.specs.Lits.{are_same_lit}
 use Rattle.nz_log.specs.Logs.{literals_at}
 use Rattle.nz_sat.specs.Clauses.{IsUsable, Visits, Waits, ids_of}
-use Rattle.nz_sat.specs.Searching.{ids}
 use Rattle.nz_sat.specs.Trails.{TrailState, assigned, with_entry}
 use Rattle.nz_sat.proofs.TrailGrowth.{assume_fails, assume_goes, entry, put_waits}
 use Rattle.nz_sat.proofs.Clausal.{other_lit}
+use Rattle.nz_sat.specs.Sats.{ids}
 use Rattle.nz_sat.proofs.search.Search.assume.Goals as goal
 
 pub propagate-requires-clause-usable : goal.propagate-requires-clause-usable

@@ -1,7 +1,7 @@
 -- What propagation tells of the clauses that are held.
 use Rattle.std.proofs.Common.{get_or}
-use Rattle.nz_sat.specs.Searching.{ids}
 use Rattle.nz_sat.proofs.TrailGrowth.{goes_search, goes_were_open, open_or_falsified}
+use Rattle.nz_sat.specs.Sats.{ids}
 use Rattle.nz_sat.proofs.search.Search.follow.Goals as goal
 
 pub returns-clause-comes : goal.returns-clause-comes

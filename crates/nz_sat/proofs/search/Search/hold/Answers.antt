@@ -7,11 +7,6 @@ use Rattle.nz_sat.specs.declared.clauses.Held.{Held}
 use Rattle.nz_sat.specs.Sats.{AreOn, held_of}
 use Rattle.nz_sat.proofs.search.Search.hold.Goals as goal
 
-pub returns-in_err-push-clause-named : goal.returns-in_err-push-clause-named
-returns-in_err-push-clause-named c atoms named on =
-    let same : c.push.new.self.items ≡ c.args.held.now.items = search rules in
-    subst (AreOn c.args.log.now atoms) (sym same) on
-
 pub returns-clause-named : goal.returns-clause-named
 returns-clause-named c atoms named on =
     let same : c.push.new.self.items ≡ c.args.held.now.items ++ held_of c.args.log.now c.args.id ∷ [] = search rules in

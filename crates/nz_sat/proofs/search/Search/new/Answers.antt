@@ -10,10 +10,10 @@ use Rattle.nz_sat.specs.declared.trail.Assigned.{Assigned}
 use Rattle.nz_sat.specs.Clauses.{HasReasonOf, IsImplied, IsListed, IsOfSize}
 use Rattle.nz_sat.specs.Conflicts.{AreUnmarked, is_marked}
 use Rattle.nz_sat.specs.Trails.{EachBehind, IsTrail, TrailState, empty_trail}
-use Rattle.nz_sat.specs.Searching.{ids}
 use Rattle.nz_sat.specs.Theories.{AreLast, is_bound_at}
 use Rattle.nz_sat.proofs.TrailGrowth.{held_has, none_marked}
 use Rattle.nz_sat.proofs.AtomTrails.{nothing_last}
+use Rattle.nz_sat.specs.Sats.{ids}
 use Rattle.nz_sat.proofs.search.Search.new.Goals as goal
 
 abbrev blank : Held

@@ -2,7 +2,7 @@ use Rattle.std.proofs.Common.{ℕ, ◌<◌, get_or, Contains}
 use Rattle.nz_log.specs.declared.lits.Lit.{Lit}
 use Rattle.nz_sat.specs.declared.clauses.Held.{Held}
 use Rattle.nz_sat.specs.Clauses.{IsListed, IsOfSize, ids_of}
-use Rattle.nz_sat.specs.Searching.{ids}
+use Rattle.nz_sat.specs.Sats.{ids}
 use Rattle.nz_sat.proofs.search.Search.new.Given as goal
 
 -- the clauses so far are in the index

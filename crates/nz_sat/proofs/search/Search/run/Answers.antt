@@ -93,4 +93,4 @@ pub returns-clause-satisfied : goal.returns-clause-satisfied
 returns-clause-satisfied g c =
     let h = runs_ordered c.loop-atom.invariant.runs c.next.ensures.rest in
     let none : c.next.result ≡ None = search rules in
-    λ told. record { search = h.search; all_open = h.all_open; same = h.same; hold = h.hold; all_decided = c.next.ensures.none none }
+    λ told. record { search = h.search; all_open = h.all_open; same = h.same; hold = h.hold; all_decided = c.next.ensures.none none; noted = h.noted }

@@ -6,10 +6,10 @@ use Rattle.nz_log.specs.declared.lits.Lit.{Lit}
 use Rattle.nz_log.specs.Logs.{literals_at}
 use Rattle.nz_sat.specs.declared.clauses.Held.{Held}
 use Rattle.nz_sat.specs.Clauses.{AreUsable, Waits, ids_of}
-use Rattle.nz_sat.specs.Searching.{ids}
 use Rattle.nz_sat.specs.Trails.{depth}
 use Rattle.nz_sat.proofs.TrailGrowth.{goes_reasons, goes_search, held_has, held_usable, none_told, search_usable}
 use Rattle.nz_sat.proofs.VisitedClauses.{goes_depth, visits_more, waits_less}
+use Rattle.nz_sat.specs.Sats.{ids}
 use Rattle.nz_sat.proofs.search.Search.start.Goals as goal
 
 pub visit_held-falsified-requires : goal.visit_held-falsified-requires

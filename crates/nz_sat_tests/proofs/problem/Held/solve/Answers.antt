@@ -5,6 +5,7 @@ use Rattle.nz_log.specs.declared.lits.Lit.{Lit}
 use Rattle.nz_log.specs.Leveled.{AreToldAtoms}
 use Rattle.nz_sat.specs.Sats.{AreConsistent, AreNamed, AreOn}
 use Rattle.nz_sat_tests.proofs.HeldClauses.{joined_posed, posed_named, searched_posed}
+use Rattle.nz_sat_tests.proofs.NotedAtoms.{names_begun}
 use Rattle.nz_sat_tests.proofs.problem.Held.solve.Goals as goal
 
 pub invariant_of-self : goal.invariant_of-self
@@ -52,3 +53,7 @@ invariant_of-self-2 c =
     searched_posed c.lits_of.new.self c.solve.new.log c.begin_anew.new.sat c.solve.new.self c.self.inside.atoms.items
     (joined_posed c.self.inside.log c.lits_of.new.self c.self.inside.sat c.self.inside.atoms.items c.lits_of.ensures.joins c.self.invariant).told c.solve.ensures.grows c.solve.ensures.held
     (subst (λ xs. AreOn c.solve.new.log xs c.solve.new.self.clauses) c.deref-3.ensures.value c.solve.ensures.named)
+
+pub solve-requires-clause-begun : goal.solve-requires-clause-begun
+solve-requires-clause-begun c =
+    names_begun c.lits_of.new.self c.deref-3.result.now c.begin_anew.new.sat.clauses c.note_question.new.work c.in_ok-note_question.ensures.notes

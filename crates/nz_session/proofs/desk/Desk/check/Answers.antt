@@ -1,4 +1,5 @@
-use Rattle.std.proofs.Common.{◌≡◌, Err, rules}
+use Rattle.std.proofs.Common.{◌≡◌, Err, ap, rules}
+use Rattle.nz_script.specs.replies.Right.{may_want_memory}
 use Rattle.nz_search.specs.declared.stop.Stop.TheVariants.{Wide, Spent}
 use Rattle.nz_session.proofs.LegalWork.{lits_true, literals_true, search_known}
 use Rattle.nz_session.proofs.ActAnswers.{memory_answer}
@@ -67,4 +68,4 @@ returns-in-Err-Memory-clause-right g c x t ls h e k =
     (holds_searched g.E.Decide.levels g.E.Decide.table g.E.Decide.begins c.args.self.now x t c.decide-decided.new.engine c.decide-decided.new.told c.decide-decided.new.work _ h
     c.decide-decided.ensures.told c.decide-decided.ensures.front (c.decide-decided.ensures.begins x.earlier h.begun)
     (search_known c.args.self.now.terms c.args.self.now.live x t c.args.assumed.now ls h.live k e))
-    c.said.ensures.said
+    (ap may_want_memory e) c.said.ensures.said

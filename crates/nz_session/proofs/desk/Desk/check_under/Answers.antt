@@ -1,5 +1,6 @@
-use Rattle.std.proofs.Common.{rules}
+use Rattle.std.proofs.Common.{ap, rules}
 use Rattle.nz_script.specs.live.Live.{assertions_of}
+use Rattle.nz_script.specs.replies.Right.{may_want_memory}
 use Rattle.nz_term.specs.TermLits.{AreConsistent}
 use Rattle.nz_session.specs.Assumed.{DenyEachOther}
 use Rattle.nz_session.proofs.ActAnswers.{memory_answer}
@@ -22,4 +23,4 @@ returns-in-Ok-false-clause-right g c x t ls h e k =
 pub returns-in-Err-clause-right : goal.returns-in-Err-clause-right
 returns-in-Err-clause-right g c x t ls h e k =
     memory_answer g.E.Decide.levels g.E.Decide.table g.E.Decide.begins c.args.self.now x t c.said.result (holds_asked g.E.Decide.levels g.E.Decide.table g.E.Decide.begins c.args.self.now x t h)
-    c.said.ensures.said
+    (ap may_want_memory e) c.said.ensures.said

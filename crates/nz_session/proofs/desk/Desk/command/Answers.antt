@@ -1,7 +1,7 @@
 use Rattle.nz_sexpr.specs.View.{view}
 use Rattle.nz_reply.specs.declared.reply.Reply.TheVariants as code
 use Rattle.nz_script.specs.replies.Reply.{info}
-use Rattle.std.proofs.Common.{ap}
+use Rattle.std.proofs.Common.{Err, ap}
 use Rattle.nz_sort.specs.Live.{asserted_by}
 use Rattle.nz_session.proofs.ActAnswers.{acted, changed_answered, check_asked, check_taken, cleared_answered, echo_answered, exit_answered, info_answered, levels_answered, model_asked, nothing_answered, popped_answered, popped_told, reason_asked, refused_answered, reset_answered, setting_answered, skipped_answered, values_asked}
 use Rattle.nz_session.proofs.ToldAssertions.{told_count}
@@ -9,7 +9,7 @@ use Rattle.nz_session.proofs.desk.Desk.command.Goals as goal
 
 pub returns-in-Err-clause-right : goal.returns-in-Err-clause-right
 returns-in-Err-clause-right g c x h =
-    refused_answered c.in-Err.refusal h c.in-Err.ensures.unchanged_terms c.in-Err.ensures.unchanged c.in-Err.ensures.refused c.said.ensures.said
+    refused_answered c.in-Err.refusal h c.in-Err.ensures.unchanged_terms c.in-Err.ensures.unchanged (λ y. c.in-Err.ensures.memory (ap Err y)) c.in-Err.ensures.refused c.said.ensures.said
 
 pub returns-in-Ok-Changed-clause-right : goal.returns-in-Ok-Changed-clause-right
 returns-in-Ok-Changed-clause-right g c x h =

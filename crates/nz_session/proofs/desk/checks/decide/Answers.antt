@@ -1,14 +1,16 @@
-use Rattle.std.proofs.Common.{ℕ, ◌<◌, List, [], length, ap, ◌∙◌, sym, subst, All, IfOk}
+use Rattle.std.proofs.Common.{ℕ, ◌<◌, List, [], length, map, ap, ◌∙◌, sym, subst, All, IfOk}
 use Rattle.std.specs.Prelude.{Contains}
 use Rattle.std.proofs.lemmas.List.Elements.{All-weaker, recursion_from_All}
 use Rattle.nz_spec.specs.search.Decide.{AreInTable, AreModelValues, asserted_numbers, asserted_terms}
-use Rattle.nz_spec.specs.search.Legal.{IsDeadEnd, Task, at_first, terms_known}
+use Rattle.nz_spec.specs.search.Search.{Task, terms_known}
+use Rattle.nz_spec.specs.terms.Model.{IsUnsatisfiable}
 use Rattle.nz_spec.specs.terms.Table.{term_in}
 use Rattle.nz_spec.specs.terms.Term.{Term}
 use Rattle.nz_spec.specs.terms.Taken.{IsTakenBoolean}
 use Rattle.nz_spec.specs.search.Work.{WorkList}
 use Rattle.nz_search.specs.declared.note.Note.{Note}
 use Rattle.nz_term.specs.declared.term_lits.TermLit.{TermLit}
+use Rattle.nz_term.specs.TermLits.{literal_of}
 use Rattle.nz_search.specs.Verdicts.{IfSat, OnUnsat, task_in}
 use Rattle.nz_sort.specs.Live.{asserted_by}
 use Rattle.nz_session.specs.Assumed.{IsTakenAt}
@@ -51,12 +53,12 @@ returns-clause-sat g c =
 pub returns-clause-unsat : goal.returns-clause-unsat
 returns-clause-unsat g c =
     let ns = c.args.terms.now in
-    subst (λ (ls : List (List ℕ)). IfOk c.check.result (λ v. OnUnsat v (IsDeadEnd (task_in ns ls c.args.assumed.now []) at_first))) c.in_ok-tell.ensures.all c.check.ensures.unsat
+    subst (λ (ls : List (List ℕ)). IfOk c.check.result (λ v. OnUnsat v (IsUnsatisfiable (asserted_terms ns ls) (map (literal_of ns) c.args.assumed.now)))) c.in_ok-tell.ensures.all c.check.ensures.unsat
 
 pub returns-clause-undecided : goal.returns-clause-undecided
 returns-clause-undecided g c ts begun =
     undecided_in_levels c.args.terms.now (g.E.Decide.levels c.tell.new.engine) (asserted_by c.args.live.now) c.args.assumed.now ts (g.E.Decide.begins c.tell.new.engine) c.args.limit c.check.new.work
-    c.check.result c.in_ok-tell.ensures.all (c.tell.ensures.begins ts begun) (c.check.ensures.limit ∙ ap (λ (w : WorkList Note). w.limit) c.in_ok-reserve.ensures.ok) c.check.ensures.legal
+    c.check.result c.in_ok-tell.ensures.all (c.tell.ensures.begins ts begun) (c.check.ensures.limit ∙ ap (λ (w : WorkList Note). w.limit) c.in_ok-reserve.ensures.ok)
     c.check.ensures.named c.check.ensures.spent c.check.ensures.stopped c.check.ensures.place_within
 
 pub returns-in_err-tell-clause-begins : goal.returns-in_err-tell-clause-begins

@@ -1,14 +1,18 @@
 -- A bound that is tighter stands, and a nonbasic form outside of it has moved to it; else nothing changes.
-use Rattle.std.proofs.Common.{◌≡◌, ℕ, List, length, Option, sym, ap, ◌∙◌, subst, arith, Ok, refl}
-use Rattle.std.specs.Prelude.{vec_capacity}
-use Rattle.nz_trail.specs.Bounds.{TrailState, asserted}
+use Rattle.std.proofs.Common.{◌≡◌, ℕ, List, length, Option, None, sym, ap, ◌∙◌, subst, arith, Ok, refl}
+use Rattle.std.specs.Prelude.{IsSome, OnErr, slice_index_or, vec_capacity}
+use Rattle.std.proofs.lemmas.Result.{err_from_is_err_and}
+use Rattle.nz_spec.specs.numbers.Infinitesimal.{infinitesimal_cmp}
+use Rattle.nz_trail.specs.Bounds.{IsExcluded, IsImplied, TrailState, asserted}
 use Rattle.nz_trail.specs.declared.limits.AssertOutcome.TheVariants.{Tighter}
 use Rattle.nz_simplex.specs.Moves.{IsBounded}
+use Rattle.nz_simplex.specs.Standing.{Held}
 use Rattle.nz_simplex.specs.State.{State}
 use Rattle.nz_simplex.specs.Stored.{IsStored, state_of}
 use Rattle.nz_simplex.proofs.Bounded.{asserted_shown}
-use Rattle.nz_simplex.proofs.ScalarBounds.{Tells, outcome_shown, same_ok}
+use Rattle.nz_simplex.proofs.ScalarBounds.{Tells, outcome_shown, same_ok, stands_shown}
 use Rattle.nz_simplex.proofs.Exchanges.{written_back}
+use Rattle.nz_simplex.proofs.Pointed.{some_at}
 use Rattle.nz_simplex.proofs.simplex.Simplex.assert_bound.Given.{Over}
 use Rattle.nz_simplex.proofs.StoredStates.{stored_again}
 use Rattle.nz_simplex.proofs.simplex.Simplex.assert_bound.Goals as goal
@@ -71,6 +75,23 @@ returns-in-Tighter-clause-clash g c = (tighter_told g (goal.at.returns-in-Tighte
 pub returns-in-Tighter-clause-tighter : goal.returns-in-Tighter-clause-tighter
 returns-in-Tighter-clause-tighter g c = (tighter_told g (goal.at.returns-in-Tighter-clause-tighter g c).In-Tighter).tighter
 
+-- only a bound that is to stand wants memory
+abbrev IsToStand : List Held → Held → Type 0
+IsToStand bs b = (¬ IsImplied infinitesimal_cmp bs b) × (¬ IsExcluded infinitesimal_cmp bs b)
+
+pub returns-in_err-outcome-clause-memory : goal.returns-in_err-outcome-clause-memory
+returns-in_err-outcome-clause-memory g c =
+    let p = err_from_is_err_and c.from_residual.result c.from_residual.ensures.1 in
+    let b = asserted c.args.var c.args.side (g.S.Coordinate.stands_for c.args.value) c.args.reason in
+    subst (λ r. OnErr r (IsToStand c.args.self.now.asserted b)) (sym p.1)
+    (subst (λ (s : State). IsToStand s.asserted b) c.self.view_is
+    (stands_shown g.S.Coordinate.stands_for g.S.Scalar.order g.met.S.Coordinate.faithful.compares c.self.inside.trail.asserted (asserted c.args.var c.args.side c.args.value c.args.reason) c.in_err-outcome.ensures.memory))
+
+pub move_within-requires-clause-some : goal.move_within-requires-clause-some
+move_within-requires-clause-some g c = λ nonbasic.
+    subst (λ (vs : List (Option g.row.S.Denot)). IsSome (slice_index_or vs c.args.var None)) (sym c.as_mut_slice.ensures.value)
+    (some_at g.S.Coordinate.stands_for c.self.inside.values.items c.args.var (c.self.invariant.sound.known c.args.var nonbasic))
+
 pub invariant_of-self-in_default : goal.invariant_of-self-in_default
 invariant_of-self-in_default g c =
     let x = c.self.inside in
@@ -91,4 +112,5 @@ returns-in_default g c =
       tighter = told.tighter;
       bounded = λ e. absurd (c.in_default.not-Tighter (same_ok e));
       unchanged = λ n. ap (λ (t : TrailState g.row.S.Denot). state_of g.S.Coordinate.stands_for x.tab t x.values.items x.why.items) same ∙ c.self.view_is;
+      memory = tt;
     }

@@ -5,7 +5,7 @@ use Rattle.nz_spec.specs.simplex.Bland.{CanHelp}
 use Rattle.nz_spec.specs.terms.Table.{Node}
 use Rattle.nz_simplex.specs.Standing.{half}
 use Rattle.nz_simplex.specs.State.{State, IsOver, position_over}
-use Rattle.nz_simplex.proofs.StepSequences.{stepped_itself, stepped_more, stepped_renewed, stepped_same, stepped_why}
+use Rattle.nz_simplex.proofs.StepSequences.{over_forms, stepped_itself, stepped_more, stepped_renewed, stepped_same, stepped_why}
 use Rattle.nz_simplex.proofs.simplex.Simplex.check.Goals as goal
 
 pub returns-in_err-renew-clause-steps : goal.returns-in_err-renew-clause-steps
@@ -52,6 +52,11 @@ returns-then-not-branch-clause-steps g c =
     stepped_why g.W.Steps.with_step c.explain.new.self c.explain.new.self.why
     (stepped_same g.W.Steps.with_step c.step.new.work c.step.new.self c.loop-broken.invariant.stepped unnoted same)
     c.explain.ensures.rest
+
+pub returns-then-not-branch-clause-answer : goal.returns-then-not-branch-clause-answer
+returns-then-not-branch-clause-answer g c =
+    let forms = ap (λ (s : State). s.forms) (sym c.explain.ensures.rest) in
+    λ ns over. c.explain.ensures.refuted ns (over_forms ns c.explain.new.self c.step.new.self forms over)
 
 pub loop-broken-smaller : goal.loop-broken-smaller
 loop-broken-smaller g c =

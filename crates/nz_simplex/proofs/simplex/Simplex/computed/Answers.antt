@@ -9,7 +9,7 @@ use Rattle.nz_place.specs.declared.place.Place.{Place}
 use Rattle.nz_place.specs.declared.place.Site.TheVariants as sites
 use Rattle.nz_simplex.specs.Checks.{IsPlace}
 use Rattle.nz_simplex.specs.Choices.{numbers_in}
-use Rattle.nz_simplex.specs.State.{State, IsOver, nonbasic_in, position_over}
+use Rattle.nz_simplex.specs.State.{State, IsOver, nonbasic_in, position_over, value_in}
 use Rattle.nz_simplex.specs.Stored.{state_of, nonbasic_numbers}
 use Rattle.nz_simplex.specs.Tabled.{coefficients_in, rows_in}
 use Rattle.nz_simplex.proofs.Pointed.{all_known, all_listed, computed_value, point_place}
@@ -80,5 +80,6 @@ returns-in-Err g c =
           (λ ns over. point_place stands x.tab x.trail x.values.items x.why.items c.self.invariant.sound c.known_tableau.ensures.tableau ns over c.args.var
           (subst (λ (s : State). c.args.var < length s.forms) (sym c.self.view_is) c.requires.known)
           (ap (λ (s : State). nonbasic_in s c.args.var) c.self.view_is ∙ c.requires.basic)
+          (ap (λ (s : State). value_in s c.args.var) c.self.view_is ∙ c.requires.unknown)
           c.in-Err.wide stop c.new.ensures.left c.new.ensures.right));
     }

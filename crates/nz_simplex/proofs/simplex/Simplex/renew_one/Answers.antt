@@ -2,17 +2,18 @@
 use Rattle.std.proofs.Common.{true≢false, sym, ◌∙◌, refl}
 use Rattle.std.specs.Prelude.{IsSome}
 use Rattle.nz_simplex.specs.State.{value_in}
-use Rattle.nz_simplex.proofs.RenewedValues.{basic_form, renewed_at}
+use Rattle.nz_simplex.proofs.RenewedValues.{basic_form, none_known, renewed_at}
 use Rattle.nz_simplex.proofs.StoredStates.{stored_again}
 use Rattle.nz_simplex.proofs.simplex.Simplex.renew_one.Goals as goal
 
 pub computed-requires : goal.computed-requires
-computed-requires g c = record {
-  known = c.requires.known;
-  basic =
-      basic_form c.args.self.now c.known_state.ensures.sound c.args.var
-      (λ (some : IsSome (value_in c.args.self.now c.args.var)). true≢false (sym (c.has_value.ensures.known.1 some) ∙ c.if-has_value.false));
-}
+computed-requires g c =
+    let none : IsSome (value_in c.args.self.now c.args.var) → ⊥ = λ some. true≢false (sym (c.has_value.ensures.known.1 some) ∙ c.if-has_value.false) in
+    record {
+      known = c.requires.known;
+      basic = basic_form c.args.self.now c.known_state.ensures.sound c.args.var none;
+      unknown = none_known (value_in c.args.self.now c.args.var) none;
+    }
 
 pub invariant_of-self : goal.invariant_of-self
 invariant_of-self g c =

@@ -2,6 +2,7 @@ use Rattle.std.proofs.Common.{Ok, Err, refl}
 use Rattle.nz_sexpr.specs.View.{view}
 use Rattle.nz_script.specs.commands.Parse.{request_of}
 use Rattle.nz_sort.proofs.CommandRules.{carried, broken, some_comes}
+use Rattle.nz_sort.proofs.MemoryWants.{wants_memory}
 use Rattle.nz_sort.proofs.live.Live.command.Goals as goal
 
 pub returns-in-Ok-clause-accepted : goal.returns-in-Ok-clause-accepted
@@ -38,3 +39,6 @@ pub returns-in-Err-clause-unchanged : goal.returns-in-Err-clause-unchanged
 returns-in-Err-clause-unchanged c =
     let t = view c.args.tree.now in
     (some_comes c.args.terms.now c.carried_out.new.terms c.args.self.now c.carried_out.new.self t (request_of t) (Err c.in-Err.refusal) c.in-Err.ensures.comes).2.unchanged
+
+pub returns-in-Err-clause-memory : goal.returns-in-Err-clause-memory
+returns-in-Err-clause-memory c = λ e. wants_memory (view c.args.tree.now) (c.in-Err.ensures.memory e)

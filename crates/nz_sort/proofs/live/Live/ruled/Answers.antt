@@ -15,8 +15,8 @@ use Rattle.nz_sort.proofs.CommandRules.{comes_alike, comes_refused, breaks_own, 
 use Rattle.nz_sort.proofs.live.Live.ruled.Goals as goal
 use Rattle.nz_sort.proofs.live.Live.ruled.Goals.{then-faults-via-then-faults, then-faults-via-else-faults+then-passes_limit}
 
-pub returns-then-faults : goal.returns-then-faults
-returns-then-faults c =
+pub returns-then-faults-clause-comes : goal.returns-then-faults-clause-comes
+returns-then-faults-clause-comes c =
     let t = view c.args.tree.now in
     let r = request c.args.command.now in
     let l = c.args.self.now in
@@ -28,38 +28,34 @@ returns-then-faults c =
           let many = kept ∙ as_many_below c.self.inside.below.items l (ap (λ (st : Standing). st.below) c.self.view_is) in
           breaks_own s t r (sym (limit_told _ l s r _ _ _ w.passes_limit.ensures.limit (ap (λ (st : Standing). st.top.constant_count) c.self.view_is) many live) ∙ w.if-passes_limit.true)
     ] in
-    record { comes = comes_refused _ _ _ _ r (λ s. outcome_requested s t r) Limit told (kept_where_same c.args.terms.now) refl }
+    comes_refused _ _ _ _ r (λ s. outcome_requested s t r) Limit told (kept_where_same c.args.terms.now) refl
 
-pub returns-then-faults-2 : goal.returns-then-faults-2
-returns-then-faults-2 c =
+pub returns-then-faults-2-clause-comes : goal.returns-then-faults-2-clause-comes
+returns-then-faults-2-clause-comes c =
     let t = view c.args.tree.now in
     let r = request c.args.command.now in
     let l = c.args.self.now in
     let short : has_token is_long_decimal t ≡ false = sym c.number_faults-faults.ensures.long ∙ c.if-faults.false in
     let kept : c.len.result ≡ length c.self.inside.below.items = search rules in
     let many = kept ∙ as_many_below c.self.inside.below.items l (ap (λ (st : Standing). st.below) c.self.view_is) in
-    record {
-      comes = comes_refused _ _ _ _ r (λ s. outcome_requested s t r) TooWide
-          (λ s live.
-          let own : passes_limit s r ≡ false =
-          sym (limit_told _ l s r _ _ _ c.passes_limit.ensures.limit (ap (λ (st : Standing). st.top.constant_count) c.self.view_is) many live) ∙ c.if-passes_limit.false in
-          breaks_width s t r (ap (λ b. b || has_token is_long_decimal t) own ∙ short) (sym c.number_faults-faults.ensures.wide ∙ c.if-faults-2.true))
-          (kept_where_same c.args.terms.now) refl;
-    }
+    comes_refused _ _ _ _ r (λ s. outcome_requested s t r) TooWide
+    (λ s live.
+    let own : passes_limit s r ≡ false =
+    sym (limit_told _ l s r _ _ _ c.passes_limit.ensures.limit (ap (λ (st : Standing). st.top.constant_count) c.self.view_is) many live) ∙ c.if-passes_limit.false in
+    breaks_width s t r (ap (λ b. b || has_token is_long_decimal t) own ∙ short) (sym c.number_faults-faults.ensures.wide ∙ c.if-faults-2.true))
+    (kept_where_same c.args.terms.now) refl
 
-pub returns : goal.returns
-returns c =
+pub returns-clause-comes : goal.returns-clause-comes
+returns-clause-comes c =
     let t = view c.args.tree.now in
     let r = request c.args.command.now in
     let l = c.args.self.now in
     let short : has_token is_long_decimal t ≡ false = sym c.number_faults-faults.ensures.long ∙ c.if-faults.false in
     let kept : c.len.result ≡ length c.self.inside.below.items = search rules in
     let many = kept ∙ as_many_below c.self.inside.below.items l (ap (λ (st : Standing). st.below) c.self.view_is) in
-    record {
-      comes = comes_alike _ _ _ _ r (λ s. outcome_by s r) (λ s. outcome_requested s t r) c.requested.result
-          (λ s live.
-          let own : passes_limit s r ≡ false =
-          sym (limit_told _ l s r _ _ _ c.passes_limit.ensures.limit (ap (λ (st : Standing). st.top.constant_count) c.self.view_is) many live) ∙ c.if-passes_limit.false in
-          within_bounds s t r (ap (λ b. b || has_token is_long_decimal t) own ∙ short) (sym c.number_faults-faults.ensures.wide ∙ c.if-faults-2.false))
-          c.requested.ensures.comes;
-    }
+    comes_alike _ _ _ _ r (λ s. outcome_by s r) (λ s. outcome_requested s t r) c.requested.result
+    (λ s live.
+    let own : passes_limit s r ≡ false =
+    sym (limit_told _ l s r _ _ _ c.passes_limit.ensures.limit (ap (λ (st : Standing). st.top.constant_count) c.self.view_is) many live) ∙ c.if-passes_limit.false in
+    within_bounds s t r (ap (λ b. b || has_token is_long_decimal t) own ∙ short) (sym c.number_faults-faults.ensures.wide ∙ c.if-faults-2.false))
+    c.requested.ensures.comes
