@@ -1,18 +1,25 @@
 -- Levels told before an assertion or an assumed literal is covered, and what is covered above all levels.
-use Rattle.std.proofs.Common.{◌≡◌, ℕ, ◌<◌, ◌≤◌, Bool, true, true≢false, List, [], ◌∷◌, ◌++◌, length, sym, subst, ◌∙◌, arith}
-use Rattle.std.specs.Prelude.{Contains}
-use Rattle.std.proofs.lemmas.List.{length-append}
-use Rattle.std.proofs.lemmas.List.Elements.{Contains-append_right}
+use Rattle.std.proofs.Common.{◌≡◌, ◌⊎◌, inl, inr, ℕ, suc, ◌<◌, ◌≤◌, Bool, true, true≢false, List, [], ◌∷◌, ◌++◌, length, map, Option, Some, None, refl, sym, ap, subst, ◌∙◌, arith}
+use Rattle.std.specs.Prelude.{All, Contains, IsSome}
+use Rattle.std.proofs.lemmas.List.{length-append, map-append, take-append-le}
+use Rattle.std.proofs.lemmas.List.Elements.{All-contains, All-from_recursion, Contains-append_cases, Contains-append_left, Contains-append_right}
 use Rattle.nz_spec.specs.terms.Table.{Node, IsTable}
 use Rattle.nz_spec.specs.search.Decide.{asserted_numbers}
 use Rattle.nz_spec.specs.terms.Taken.{TakenTermsAreInOrder}
 use Rattle.nz_log.specs.Atoms.{AtomsOfTerms}
-use Rattle.nz_log.specs.Logs.{told_level}
+use Rattle.nz_log.specs.Logs.{Entry, told_level}
+use Rattle.nz_term.specs.declared.term_lits.TermLit.{TermLit}
+use Rattle.nz_cform.specs.Forms.{covered_at}
+use Rattle.nz_cform.specs.Listings.{listed_at}
+use Rattle.nz_sat.specs.declared.clauses.Held.{Held}
+use Rattle.nz_sat.specs.Sats.{held_of}
+use Rattle.nz_engine.specs.Checking.{terms_named}
 use Rattle.nz_log.specs.Sound.{live_at}
 use Rattle.nz_cform.specs.Laws.{RowsNameCovered}
 use Rattle.nz_engine.specs.Levels.{IsPlaced}
-use Rattle.nz_engine.specs.Preparing.{PreparedState, CoversAlso, IsAssumable, IsPrepared, IsStanding}
-use Rattle.nz_engine.proofs.AssertionPlaces.{count_within, live_above, placed_above}
+use Rattle.nz_engine.specs.Preparing.{PreparedState, CoversAlso, Extends, IsAssumable, IsMadeOf, IsPrepared, IsStanding, ids_held}
+use Rattle.nz_engine.proofs.AssertionPlaces.{count_within, live_above, lower_or_not, placed_above}
+use Rattle.nz_engine.proofs.LevelPreservation.{made_of_more, some_of}
 use Rattle.nz_engine.proofs.ClausePreservation.{covered}
 use Rattle.nz_engine.specs.SearchLaws.{RowLaws}
 
@@ -52,3 +59,109 @@ term_assumed ns levels more p q t level atoms named order laws table within also
       raised = covered ns levels (levels ++ more ∷ []) p q t level also a.standing.raised atoms named order laws table within a.taken has (omega (arith, long, last)) (omega (arith, few, all));
       plain = λ e. absurd (true≢false (sym above ∙ e));
     }
+
+-- ---- What was assumed before may stay covered
+
+live_more : (levels : List (List ℕ)) (before more : List ℕ) (n t : ℕ) → n < length (levels ++ before ∷ []) → ((u : ℕ) → Contains before u → Contains more u)
+    → Contains (live_at (levels ++ before ∷ []) n) t → Contains (live_at (levels ++ more ∷ []) n) t
+live_more levels before more n t below into has =
+    elim (lower_or_not n (length levels)) [
+      | inl low ↦
+          let same = ap asserted_numbers (take-append-le (suc n) levels (before ∷ []) (omega (arith, low))) in
+          let other = ap asserted_numbers (take-append-le (suc n) levels (more ∷ []) (omega (arith, low))) in
+          subst (λ xs. Contains xs t) (sym other) (subst (λ xs. Contains xs t) same has)
+      | inr past ↦
+          let long = length-append levels (before ∷ []) in
+          let last : length levels ≡ n = omega (arith, long, below, past) in
+          let here : Contains (asserted_numbers levels ++ before) t = subst (λ xs. Contains xs t) (live_above levels before n last) has in
+          subst (λ xs. Contains xs t) (sym (live_above levels more n last))
+          (elim (Contains-append_cases (asserted_numbers levels) before t here) [
+            | inl first ↦ Contains-append_left (asserted_numbers levels) more t first
+            | inr second ↦ Contains-append_right (asserted_numbers levels) more t (into t second)
+          ])
+    ]
+
+-- more may be covered above all levels
+pub standing_more : (ns : List Node) (levels : List (List ℕ)) (before more : List ℕ) (p : PreparedState) → ((t : ℕ) → Contains before t → Contains more t) → IsStanding ns levels before p
+    → IsStanding ns levels more p
+standing_more ns levels before more p into s =
+    let h = s.raised in
+    let first = length-append levels (before ∷ []) in
+    let second = length-append levels (more ∷ []) in
+    record {
+      raised = record {
+        order = h.order;
+        covers = h.covers;
+        below = λ t n at. let low = h.below t n at in omega (arith, low, first, second);
+        made = λ t n at.
+            made_of_more ns (live_at (levels ++ before ∷ []) n) (live_at (levels ++ more ∷ []) n) t (λ r has. live_more levels before more n r (h.below t n at) into has) (h.made t n at);
+        taken = h.taken;
+        leveled = h.leveled;
+        held = h.held;
+        searched = h.searched;
+        rows = h.rows;
+        units = h.units;
+        within = h.within;
+        lower = h.lower;
+      };
+      plain = s.plain;
+    }
+
+pub extends_itself : (p : PreparedState) → Extends p p
+extends_itself p =
+    record {
+      noted = refl;
+      theory = refl;
+      given = refl;
+      kept = record { clauses = λ i live. refl; atoms = λ i a at. at };
+      held = λ id has. has;
+      covered = λ t some. some;
+      bounds = λ i some. some;
+    }
+
+pub extends_both : (p q r : PreparedState) → Extends p q → Extends q r → Extends p r
+extends_both p q r x y =
+    record {
+      noted = y.noted ∙ x.noted;
+      theory = y.theory ∙ x.theory;
+      given = y.given ∙ x.given;
+      kept = record {
+        clauses = λ i live. y.kept.clauses i (subst (λ (o : Option Entry). IsSome o) (sym (x.kept.clauses i live)) live) ∙ x.kept.clauses i live;
+        atoms = λ i a at. y.kept.atoms i a (x.kept.atoms i a at);
+      };
+      held = λ id has. y.held id (x.held id has);
+      covered = λ t some. y.covered t (x.covered t some);
+      bounds = λ i some. y.bounds i (x.bounds i some);
+    }
+
+-- what is covered for one of some literals is for them
+pub made_then : (ns : List Node) (assumed : List TermLit) (root : ℕ) → Contains (terms_named assumed) root → (t : ℕ) (Was Is : Type 0) → (Is → Was ⊎ IsMadeOf ns (terms_named assumed) t)
+    → Is ⊎ IsMadeOf ns (root ∷ []) t → Was ⊎ IsMadeOf ns (terms_named assumed) t
+made_then ns assumed root has t Was Is before (inl is) = before is
+made_then ns assumed root has t Was Is before (inr of) = inr (made_of_more ns (root ∷ []) (terms_named assumed) t (λ r c. subst (Contains (terms_named assumed)) (only_one root r c) has) of)
+  where
+    only_one : (x y : ℕ) → Contains (x ∷ []) y → x ≡ y
+    only_one x y c = All-contains (λ z. x ≡ z) (x ∷ []) y (All-from_recursion (λ z. x ≡ z) (x ∷ []) (refl, tt)) c
+
+-- what a term that was covered adds
+pub also_extends : (ns : List Node) (p q : PreparedState) (t level : ℕ) → CoversAlso ns p t level q → q.noted ≡ p.noted → q.sat.theory ≡ p.sat.theory → Extends p q
+also_extends ns p q t level c noted theory =
+    record {
+      noted = noted;
+      theory = theory;
+      given = c.given;
+      kept = c.kept;
+      held = λ id has.
+          subst (λ (hs : List Held). Contains (ids_held hs) id) (sym c.joined)
+          (subst (λ (is : List ℕ). Contains is id) (sym (map-append (λ (h : Held). h.id) p.sat.clauses (map (held_of q.log) c.ids)))
+          (Contains-append_left (ids_held p.sat.clauses) (ids_held (map (held_of q.log) c.ids)) id has));
+      covered = λ u some. let n = some_of (covered_at p.form u) some in subst (λ (o : Option ℕ). IsSome o) (sym (c.grown.terms.stays u n.0 n.1)) refl;
+      bounds = λ i some. let n = some_of (listed_at p.form.bounds i) some in subst (λ (o : Option ℕ). IsSome o) (sym (c.grown.bounds.stays i n.0 n.1)) refl;
+    }
+
+pub also_made : (ns : List Node) (p q : PreparedState) (t level : ℕ) → t < length ns → CoversAlso ns p t level q → (u : ℕ) → IsSome (covered_at q.form u) → IsSome (covered_at p.form u) ⊎ IsMadeOf ns (t ∷ []) u
+also_made ns p q t level within c u some = by_case (covered_at p.form u) refl
+  where
+    by_case : (o : Option ℕ) → covered_at p.form u ≡ o → IsSome (covered_at p.form u) ⊎ IsMadeOf ns (t ∷ []) u
+    by_case (Some n) e = inl (subst (λ (o : Option ℕ). IsSome o) (sym e) refl)
+    by_case None e = inr (record { root = t; has = (0, omega arith, refl); within = within; part = c.made u e some })

@@ -13,6 +13,7 @@ use Rattle.nz_spec.specs.search.Decide.{asserted_numbers}
 use Rattle.nz_spec.specs.clauses.Gates.{is_boolean_term}
 use Rattle.nz_spec.specs.clauses.Literal.{term_literal}
 use Rattle.nz_spec.specs.terms.Taken.{IsTaken, TakenTermsAreInOrder}
+use Rattle.nz_spec.specs.terms.Term as spec_term
 use Rattle.nz_log.specs.declared.atoms.Atom.{Atom}
 use Rattle.nz_log.specs.declared.atoms.Atom.TheVariants.{Term, AtMost}
 use Rattle.nz_log.specs.declared.lits.Lit.{Lit}
@@ -149,7 +150,7 @@ module _ (ns : List Node) (levels roots : List (List ℕ)) (p q : PreparedState)
   cover_taken : TakenTermsAreInOrder → IsTaken (term_in ns t) → (u : ℕ) → IsSome (covered_at q.form u) → IsTaken (term_in ns u)
   cover_taken parts own u some =
       elim (none_or_some (covered_at p.form u)) [
-        | inl none ↦ parts.parts (term_in ns t) (term_in ns u) own (c.made u none some)
+        | inl none ↦ parts.parts (term_in ns t) (term_in ns u) own (subst (λ (us : List spec_term.Term). Contains us (term_in ns u)) (parts.listing (term_in ns t) own) (c.made u none some))
         | inr was ↦ h.taken u (subst (λ (o : Option ℕ). IsSome o) (sym was.1) refl)
       ]
 

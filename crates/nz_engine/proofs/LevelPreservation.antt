@@ -9,7 +9,7 @@ use Rattle.nz_lists.proofs.Elements.{AllByRecursion-weaker}
 use Rattle.nz_lists.proofs.Members.{has_cases, has_none, has_found}
 use Rattle.nz_lists.proofs.Options.{kept_if}
 use Rattle.nz_spec.specs.terms.Table.{Node, IsTable, TermStays, term_in}
-use Rattle.nz_spec.specs.terms.Order.{post_order}
+use Rattle.nz_spec.specs.terms.Order.{listing_order}
 use Rattle.nz_spec.specs.search.Decide.{asserted_numbers}
 use Rattle.nz_spec.specs.clauses.Gates.{is_boolean_term}
 use Rattle.nz_spec.specs.terms.Taken.{IsTaken}
@@ -167,12 +167,12 @@ grown terms stay covers ns more levels roots p table h =
           let of = h.made t n at in
           let inside = h.covers.within t n at in
           let there = of.within in
-          let part = subst (λ u. Contains (post_order (term_in ns of.root)) u) (sym (terms ns more t inside)) of.part in
+          let part = subst (λ u. Contains (listing_order (term_in ns of.root)) u) (sym (terms ns more t inside)) of.part in
           record {
             root = of.root;
             has = of.has;
             within = let long = length-append ns more in omega (arith, long, there);
-            part = subst (λ u. Contains (post_order u) (term_in (ns ++ more) t)) (sym (terms ns more of.root there)) part;
+            part = subst (λ u. Contains (listing_order u) (term_in (ns ++ more) t)) (sym (terms ns more of.root there)) part;
           };
       taken = λ t some.
           let n = some_of (covered_at p.form t) some in

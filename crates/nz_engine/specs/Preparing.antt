@@ -1,9 +1,10 @@
 -- What an engine keeps from check to check: clauses in a log, each held by a search.
-use Rattle.std.specs.Prelude.{◌≡◌, ℕ, ◌<◌, ◌≤◌, ◌++◌, Bool, true, false, List, [], ◌∷◌, length, map, flat_map, min, take, suc, All, Contains, Some, None, IsSome, if◌then◌else◌, slice_get}
+use Rattle.std.specs.Prelude.{◌≡◌, ◌⊎◌, ℕ, ◌<◌, ◌≤◌, ◌++◌, Bool, true, false, List, [], ◌∷◌, length, map, flat_map, min, take, suc, All, Contains, Some, None, IsSome, if◌then◌else◌, slice_get}
 use Rattle.nz_spec.specs.clauses.Gates.{is_boolean_term}
+use Rattle.nz_spec.specs.clauses.Literal.{StandOnce}
 use Rattle.nz_spec.specs.terms.Table.{Node, term_in}
 use Rattle.nz_spec.specs.terms.Taken.{IsTaken}
-use Rattle.nz_spec.specs.terms.Order.{post_order}
+use Rattle.nz_spec.specs.terms.Order.{listing_order}
 use Rattle.nz_spec.specs.search.Decide.{asserted_numbers}
 use Rattle.nz_log.specs.declared.atoms.Atom.{Atom}
 use Rattle.nz_log.specs.declared.atoms.Atom.TheVariants.{Term, AtMost}
@@ -25,14 +26,15 @@ use Rattle.nz_sat.specs.declared.clauses.Held.{Held}
 use Rattle.nz_sat.specs.Sats.{SatState, AreHeld, HoldsMore, held_of, held_up_to}
 use Rattle.nz_engine.specs.Levels.{count_in, count_of}
 
--- The log, the terms that have their gates in it, the search, how many assertions have their clause, and whether terms are covered for assumed literals
--- alone, above all levels.
+-- The log, the terms that have their gates in it, the search, how many assertions have their clause, whether terms are covered for assumed literals
+-- alone, above all levels, and the atoms that the present list of work names, in their order.
 pub record PreparedState : Type 0 where
   pub log : LogState
   pub form : FormState
   pub sat : SatState Theory
   pub given : ℕ
   pub above : Bool
+  pub noted : List ℕ
 
 abbrev pub nothing_prepared : Theory → PreparedState
 nothing_prepared theory = record {
@@ -41,6 +43,7 @@ nothing_prepared theory = record {
   sat = record { clauses = []; truths = []; theory = theory };
   given = 0;
   above = false;
+  noted = [];
 }
 
 -- the clause that a term is true
@@ -56,9 +59,23 @@ boolean_term ns t = if is_boolean_term (term_in ns t) then t ∷ [] else []
 abbrev pub boolean_terms : List Node → List ℕ → List ℕ
 boolean_terms ns ts = flat_map (boolean_term ns) ts
 
--- the numbers of the atoms: those of the covered Boolean terms, and then the bounds that are listed
+-- the numbers of the atoms of a search: those of the covered Boolean terms, and then the bounds that are listed
 abbrev pub atoms_of : List Node → PreparedState → List ℕ
 atoms_of ns p = map (term_place p.log.atoms) (boolean_terms ns p.form.terms.ids) ++ p.form.bounds.ids
+
+-- Each of these atoms is among those, and each of those among these. None stands twice.
+pub record AreJust (atoms ids : List ℕ) : Type 0 where
+  pub each : All (Contains ids) atoms
+  pub only : All (Contains atoms) ids
+  pub once : StandOnce ids
+
+-- These atoms are named too, each that isn't among those that are named behind them.
+pub record Names (old more new : List ℕ) : Type 0 where
+  pub joined : List ℕ
+  pub behind : new ≡ old ++ joined
+  pub each : All (Contains new) more
+  pub only : (i : ℕ) → Contains new i → Contains old i ⊎ Contains more i
+  pub once : StandOnce old → StandOnce new
 
 -- an atom is that of a covered Boolean term, or a bound that is listed
 abbrev pub IsOfForm : List Node → FormState → ℕ → Atom → Type 0
@@ -77,12 +94,12 @@ AreSearched ns log s held = All (λ (h : Held). All (λ (l : Lit). IsSearched ns
 
 -- ---- What is prepared
 
--- The term is among what one of these terms is made of.
+-- The term is among what is listed with one of these terms.
 pub record IsMadeOf (ns : List Node) (roots : List ℕ) (t : ℕ) : Type 0 where
   pub root : ℕ
   pub has : Contains roots root
   pub within : root < length ns
-  pub part : Contains (post_order (term_in ns root)) (term_in ns t)
+  pub part : Contains (listing_order (term_in ns root)) (term_in ns t)
 
 -- The search holds that a term is true, by a clause of a level below which no more than so many assertions stand.
 pub record HoldsUnit (levels : List (List ℕ)) (p : PreparedState) (k t : ℕ) : Type 0 where
@@ -124,12 +141,12 @@ pub record IsAssumable (ns : List Node) (levels : List (List ℕ)) (more : List 
 
 -- ---- Changes
 
--- A term is covered, with what it is made of, at a level that no level told is above; the search holds the clauses that were put.
+-- A term is covered, with what is listed with it, at a level that no level told is above; the search holds the clauses that were put.
 pub record CoversAlso (ns : List Node) (old : PreparedState) (t level : ℕ) (new : PreparedState) : Type 0 where
   pub covers : Covers ns new.log new.form
   pub kept : Keeps old.log new.log
   pub grown : form.Grows old.form level new.form
-  pub made : (u : ℕ) → covered_at old.form u ≡ None → IsSome (covered_at new.form u) → Contains (post_order (term_in ns t)) (term_in ns u)
+  pub made : (u : ℕ) → covered_at old.form u ≡ None → IsSome (covered_at new.form u) → Contains (listing_order (term_in ns t)) (term_in ns u)
   pub here : IsSome (covered_at new.form t)
   pub ids : List ℕ
   pub added : AreAdded old.log ids new.log
@@ -138,9 +155,23 @@ pub record CoversAlso (ns : List Node) (old : PreparedState) (t level : ℕ) (ne
   pub sound : (levels : List (List ℕ)) → IsLog ns levels old.log → IsLog ns levels new.log
   pub given : new.given ≡ old.given
 
+-- each bound is listed still
+abbrev pub KeepsBounds : FormState → FormState → Type 0
+KeepsBounds old new = (i : ℕ) → IsSome (listed_at old.bounds i) → IsSome (listed_at new.bounds i)
+
 -- the numbers of clauses that are held
 abbrev pub ids_held : List Held → List ℕ
 ids_held held = map (λ (h : Held). h.id) held
+
+-- Terms may be covered too, and clauses held. Atoms keep their numbers and clauses their literals, and what is noted stays, and the theory.
+pub record Extends (old new : PreparedState) : Type 0 where
+  pub noted : new.noted ≡ old.noted
+  pub theory : new.sat.theory ≡ old.sat.theory
+  pub given : new.given ≡ old.given
+  pub kept : Keeps old.log new.log
+  pub held : (id : ℕ) → Contains (ids_held old.sat.clauses) id → Contains (ids_held new.sat.clauses) id
+  pub covered : (t : ℕ) → IsSome (covered_at old.form t) → IsSome (covered_at new.form t)
+  pub bounds : KeepsBounds old.form new.form
 
 -- Clauses for neighbouring bounds on these atoms are put and held, so that each two have theirs, unless their sum leaves the numbers.
 pub record Excludes (log : LogState) (old : SatState Theory) (atoms : List ℕ) (log' : LogState) (new : SatState Theory) : Type 0 where
@@ -157,9 +188,9 @@ pub record BeganExcluded (ns : List Node) (new : PreparedState) : Type 0 where
   pub theory : Theory
   pub untold : HasTold theory []
   pub log : LogState
-  pub of : IsOf theory log.atoms (atoms_of ns new)
+  pub of : IsOf theory log.atoms new.noted
   pub held : List Held
-  pub neighbours : HasNeighbours theory log (atoms_of ns new) (ids_held held)
+  pub neighbours : HasNeighbours theory log new.noted (ids_held held)
   pub grown : Grows log new.log
   pub learned : HoldsMore new.log held new.sat.clauses
 
@@ -172,7 +203,3 @@ pub record CutsTo (old : PreparedState) (level count : ℕ) (new : PreparedState
   pub theory : new.sat.theory ≡ old.sat.theory
   pub given : new.given ≡ min old.given count
   pub above : new.above ≡ false
-
--- each bound is listed still
-abbrev pub KeepsBounds : FormState → FormState → Type 0
-KeepsBounds old new = (i : ℕ) → IsSome (listed_at old.bounds i) → IsSome (listed_at new.bounds i)

@@ -17,7 +17,7 @@ mod values;
 use crate::levels::Levels;
 use nz_base::Memory;
 use nz_cform::ClauseForm;
-use nz_log::{ClauseId, Log, Step};
+use nz_log::{AtomId, ClauseId, Log, Step};
 use nz_reals::Reals;
 use nz_sat::Sat;
 use std::alloc::Global;
@@ -36,6 +36,8 @@ pub struct Prepared {
     given: usize,
     // Whether terms are covered for assumed literals alone.
     above: bool,
+    // The atoms that the present list of work names, in their order.
+    noted: Vec<AtomId>,
 }
 
 impl Model for Prepared {
@@ -43,7 +45,7 @@ impl Model for Prepared {
 
     ghost Value = { PreparedState };
 
-    ghost view = { λ p. record { log = p.log; form = p.form; sat = p.sat; given = p.given; above = p.above } };
+    ghost view = { λ p. record { log = p.log; form = p.form; sat = p.sat; given = p.given; above = p.above; noted = p.noted.items } };
 }
 
 impl Prepared {
@@ -58,6 +60,7 @@ impl Prepared {
             sat: Sat::new(alloc, theory),
             given: 0,
             above: false,
+            noted: Vec::new(alloc),
         })
     }
 

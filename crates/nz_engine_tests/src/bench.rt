@@ -11,9 +11,9 @@ ghost use Rattle.nz_term.specs.TermLits.{AreConsistent};
 ghost use Rattle.nz_taken_samples.specs.Sorted.{AreTaken};
 ghost use Rattle.nz_engine_tests.specs.Benches.{AreFormulaLits, IsFormula, IsReady};
 
-use nz_base::{Memory, Text, Work};
+use nz_base::{Entry, Memory, Noted, Text, Work};
 use nz_engine::Engine;
-use nz_search::{Decide, Stop, Verdict};
+use nz_search::{Decide, Note, Stop, Verdict};
 use nz_taken_samples::need_taken;
 use nz_term::{
     Constant, Head, Operator, Sort, TermId, TermLit, Terms, add_companions, operators_are_no_leaves,
@@ -40,6 +40,27 @@ impl Model for Bench {
     ghost view = { λ b. record { terms = b.terms; engine = b.engine } };
 
     ghost invariant = { λ b. IsInOrder b.terms b.engine b.depth };
+}
+
+/// The units of a list that is long enough.
+const ENOUGH: u64 = 100;
+
+/// How many lines of a list tell of a start, of a search under literals, of an atom on a term, of one that was named before, of a learned clause, and of a sum that joins.
+#[derive(Clone, Copy, Debug, PartialEq, Eq)]
+pub struct Counted {
+    pub starts: usize,
+    pub searches: usize,
+    pub atoms: usize,
+    pub twice: usize,
+    pub learned: usize,
+    pub forms: usize,
+}
+
+/// What three checks came to that went on with one list of work, and what it tells.
+#[derive(Clone, Copy, Debug, PartialEq, Eq)]
+pub struct Chain {
+    pub answers: [Answer; 3],
+    pub lines: Counted,
 }
 
 /// What a check came to.
@@ -150,6 +171,28 @@ impl Bench {
         }
         ask(self.alloc, &self.terms, &mut self.engine, assumed, units)
     }
+
+    /// Asks so three times, each time under one list of literals, and goes on with one list of work, which has enough units.
+    pub fn check_each(
+        &mut self,
+        first: &[TermLit],
+        second: &[TermLit],
+        third: &[TermLit],
+    ) -> Result<Chain, Memory> {
+        self.complete()?;
+        need_taken(&self.terms)?;
+        let mut work = Work::new(self.alloc)?;
+        work.reserve(ENOUGH)?;
+        let answers = [
+            ask_on(&self.terms, &mut self.engine, first, &mut work)?,
+            ask_on(&self.terms, &mut self.engine, second, &mut work)?,
+            ask_on(&self.terms, &mut self.engine, third, &mut work)?,
+        ];
+        Ok(Chain {
+            answers,
+            lines: counted(self.alloc, &work)?,
+        })
+    }
 }
 
 /// Whether a number is of a term of sort `Bool`.
@@ -217,4 +260,60 @@ fn ask(
         Err(Stop::Wide(_)) => Ok(Answer::Wide),
         Err(Stop::Memory) => Err(Memory),
     }
+}
+
+/// What an engine answers under these literals, from where a list of work leads.
+fn ask_on(
+    terms: &Terms,
+    engine: &mut Engine,
+    assumed: &[TermLit],
+    work: &mut Work<Note>,
+) -> Result<Answer, Memory> {
+    match engine.check(terms, assumed, work) {
+        Ok(Verdict::Sat(_)) => Ok(Answer::Sat),
+        Ok(Verdict::Unsat(clause)) => Ok(Answer::Unsat(engine.steps(clause)?.len())),
+        Err(Stop::Spent) => Ok(Answer::Spent),
+        Err(Stop::Wide(_)) => Ok(Answer::Wide),
+        Err(Stop::Memory) => Err(Memory),
+    }
+}
+
+/// What the lines of a list tell.
+fn counted(alloc: Global, work: &Work<Note>) -> Result<Counted, Memory> {
+    let mut counted = Counted {
+        starts: 0,
+        searches: 0,
+        atoms: 0,
+        twice: 0,
+        learned: 0,
+        forms: 0,
+    };
+    let mut seen = Vec::new(alloc);
+    for place in 0..work.len() {
+        count_line(&work.get(place), &mut seen, &mut counted)?;
+    }
+    Ok(counted)
+}
+
+/// Counts a line. The terms of the atoms before it were seen.
+fn count_line(
+    line: &Noted<'_, Note>,
+    seen: &mut Vec<TermId>,
+    counted: &mut Counted,
+) -> Result<(), Memory> {
+    match line {
+        Noted::Note(Note::Start(_)) => counted.starts = counted.starts.saturating_add(1),
+        Noted::Note(Note::Under(_)) => counted.searches = counted.searches.saturating_add(1),
+        Noted::Note(Note::Atom(term)) => {
+            if seen.contains(term) {
+                counted.twice = counted.twice.saturating_add(1);
+            }
+            counted.atoms = counted.atoms.saturating_add(1);
+            seen.push(*term)?;
+        }
+        Noted::Note(Note::Form { .. }) => counted.forms = counted.forms.saturating_add(1),
+        Noted::Unit(Entry::Learned { .. }) => counted.learned = counted.learned.saturating_add(1),
+        _ => {}
+    }
+    Ok(())
 }

@@ -1,6 +1,6 @@
 //! A problem under way.
 
-use crate::bench::{Answer, Bench};
+use crate::bench::{Answer, Bench, Chain};
 use crate::build::{literals_of, term_of};
 use crate::formula::Part;
 use nz_base::Memory;
@@ -75,14 +75,7 @@ impl Trial {
     /// Asks whether what is asserted and assumed can all be true, with so many units.
     fn ask(&mut self, assumed: &[&'static [Part]], units: u64) -> Result<Tried, Fail> {
         let literals = literals_of(self.alloc, &mut self.bench, assumed)?.ok_or("no formulas")?;
-        match self.bench.check(&literals, units)? {
-            Answer::Sat => Ok(Tried::Sat),
-            Answer::Unsat(0) => Err(Fail::new("a clause without a step")),
-            Answer::Unsat(_) => Ok(Tried::Unsat),
-            Answer::Spent => Ok(Tried::Spent),
-            Answer::Wide => Ok(Tried::Wide),
-            Answer::Unasked => Err(Fail::new("the engine can't be asked")),
-        }
+        tried(self.bench.check(&literals, units)?)
     }
 
     /// Asks so, and fails where another answer comes than is wanted at this place of a test.
@@ -116,10 +109,35 @@ impl Trial {
         self.ask(assumed, 1000)
     }
 
+    /// Asks so three times, each time under one list of formulas, and goes on with one list of work.
+    pub fn ask_each(
+        &mut self,
+        first: &[&'static [Part]],
+        second: &[&'static [Part]],
+        third: &[&'static [Part]],
+    ) -> Result<Chain, Fail> {
+        let first = literals_of(self.alloc, &mut self.bench, first)?.ok_or("no formulas")?;
+        let second = literals_of(self.alloc, &mut self.bench, second)?.ok_or("no formulas")?;
+        let third = literals_of(self.alloc, &mut self.bench, third)?.ok_or("no formulas")?;
+        Ok(self.bench.check_each(&first, &second, &third)?)
+    }
+
     /// Asks so with enough units, and fails where an engine that was asked nothing before answers otherwise.
     pub fn compare(&mut self, place: usize, assumed: &[&'static [Part]]) -> Result<(), Fail> {
         let wanted = fresh_answer(self.alloc, self.constants, &self.asserted, assumed)?;
         self.expect(place, assumed, 1000, wanted)
+    }
+}
+
+/// What an answer tells of a check.
+pub fn tried(answer: Answer) -> Result<Tried, Fail> {
+    match answer {
+        Answer::Sat => Ok(Tried::Sat),
+        Answer::Unsat(0) => Err(Fail::new("a clause without a step")),
+        Answer::Unsat(_) => Ok(Tried::Unsat),
+        Answer::Spent => Ok(Tried::Spent),
+        Answer::Wide => Ok(Tried::Wide),
+        Answer::Unasked => Err(Fail::new("the engine can't be asked")),
     }
 }
 

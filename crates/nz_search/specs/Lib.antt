@@ -1,3 +1,4 @@
+pub mod Asked
 pub mod Notes
 pub mod Peaks
 pub mod Places

@@ -41,6 +41,7 @@ task_in ns levels assumed earlier = record {
   asserted = asserted_terms ns levels;
   assumed = map (literal_of ns) assumed;
   goals = [];
+  groups = [];
   listed = flat_map listing_order (asserted_terms ns levels ++ map (λ (l : TermLit). term_in ns l.term) assumed);
   numbering = number_in ns;
   earlier = earlier;

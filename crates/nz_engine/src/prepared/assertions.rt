@@ -34,6 +34,7 @@ impl Prepared {
         requires covers { Covers terms.now self.old.log self.old.form }
         ensures covered { OnOk result (CoversAlso terms.now self.old term level self.new) }
         ensures above { self.new.above ≡ self.old.above }
+        ensures noted { self.new.noted ≡ self.old.noted }
         ensures theory { self.new.sat.theory ≡ self.old.sat.theory }
         ensures stop { IfErr result (IsTermStop terms.now (term_in terms.now term)) }
     {

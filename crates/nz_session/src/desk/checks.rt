@@ -24,6 +24,7 @@ use crate::assumed::are_consistent;
 use crate::told::{ToldExtent, tell};
 use nz_base::{Error, Memory, Work};
 use nz_reply::Reply;
+use nz_search::laws::checks_may_start;
 use nz_search::{Decide, Note, Stop, Verdict};
 use nz_sort::Live;
 use nz_spec::deciding::normal_terms_are_taken;
@@ -105,6 +106,7 @@ fn decide<E: Decide>(
     ensures front { IsFrontOfTable (E.table engine.new) terms.now }
     ensures begins { (ts : List term.Term) → BeginsOver E.begins engine.old ts → BeginsOver E.begins engine.new (terms_known (task_in terms.now (asserted_by live.now) assumed.now ts)) }
 {
+    checks_may_start();
     tell(engine, told, live)?;
     work.reserve(limit)?;
     engine.check(terms, assumed, work)

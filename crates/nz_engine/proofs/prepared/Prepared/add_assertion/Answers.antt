@@ -14,8 +14,8 @@ returns-clause-stands c = λ levels placed h.
     let t = c.args.term in
     let n = c.args.level in
     let old = c.args.self.now in
-    let mid : PreparedState = record { log = c.self-2.inside.log; form = c.self-2.inside.form; sat = c.self-2.inside.sat; given = c.self-2.inside.given; above = c.self-2.inside.above } in
-    let new : PreparedState = record { log = c.given.new.self; form = c.self-2.inside.form; sat = c.add.new.self; given = c.in-Some.given; above = c.self-2.inside.above } in
+    let mid : PreparedState = record { log = c.self-2.inside.log; form = c.self-2.inside.form; sat = c.self-2.inside.sat; given = c.self-2.inside.given; above = c.self-2.inside.above; noted = c.self-2.inside.noted.items } in
+    let new : PreparedState = record { log = c.given.new.self; form = c.self-2.inside.form; sat = c.add.new.self; given = c.in-Some.given; above = c.self-2.inside.above; noted = c.self-2.inside.noted.items } in
     let also : CoversAlso ns old t n mid = subst (CoversAlso ns old t n) (sym c.self-2.view_is) c.in_ok-cover.ensures.covered in
     let before : IsPrepared ns levels levels mid =
     covered ns levels levels old mid t n also h c.atoms_of_terms.ensures.atoms c.rows_name_covered.ensures.named c.taken_terms_are_in_order.ensures.order (record { sums = c.forms_are_sums.ensures.sums; operands = c.operands_are_sorted.ensures.sorted }) c.known_table.ensures.table c.requires.within c.requires.taken.taken

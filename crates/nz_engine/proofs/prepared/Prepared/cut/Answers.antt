@@ -8,7 +8,7 @@ use Rattle.nz_engine.proofs.prepared.Prepared.cut.Goals as goal
 
 pub returns-clause-cuts : goal.returns-clause-cuts
 returns-clause-cuts c =
-    let new : PreparedState = record { log = c.drop_above.new.self; form = c.cut.new.self; sat = c.cut-2.new.self; given = c.count_up_to-self-inside.result; above = false } in
+    let new : PreparedState = record { log = c.drop_above.new.self; form = c.cut.new.self; sat = c.cut-2.new.self; given = c.count_up_to-self-inside.result; above = false; noted = c.self.inside.noted.items } in
     let P : PreparedState → Type 0 = λ s. CutsTo s c.args.level (count_of c.args.levels.now) new in
     subst P c.self.view_is
     (record {
