@@ -31,12 +31,29 @@ def rlib(folder, name):
     return f"{folder}/{name}/out/rlib/{name}.rlib"
 
 
-def words(folder, name):
-    """What `rattle` is told of a crate, whose libraries were built in this folder `crates`, or stand in the kit."""
+def all_below(name):
+    """All that a crate stands on, however far below."""
+    known, found = crates(), []
+    waiting = list(known[name])
+    while waiting:
+        below = waiting.pop(0)
+        if below not in found:
+            found.append(below)
+            waiting += known.get(below, [])
+    return found
+
+
+def words(folder, name, stubs=None, stubbed=()):
+    """What `rattle` is told of a crate, whose libraries were built in this folder `crates`, or stand in the kit. Those that are stubbed are taken as source
+    from the folder `stubs`."""
     known, libraries = crates(), f"{kit()}/rlibs"
     told = ["--crate-name", name, "src/lib.rt", "--extern", f"std={libraries}/std.rlib", "-L", f"dependency={libraries}"]
-    for below in known[name]:
-        told += ["--extern", f"{below}={rlib(folder, below) if below in known else f'{libraries}/{below}.rlib'}"]
+    # What is taken as source has to be told all that it uses itself.
+    for below in all_below(name) if stubbed else known[name]:
+        if below in stubbed:
+            told += ["--lib", f"{below}={stubs}/{below}/src/lib.rt"]
+        else:
+            told += ["--extern", f"{below}={rlib(folder, below) if below in known else f'{libraries}/{below}.rlib'}"]
     for other in known:
         told += ["-L", f"dependency={os.path.dirname(rlib(folder, other))}"]
     return told + ["--antt-project", f"{kit()}/rattle/logic/antt-project.json", "--logic-built", f"{kit()}/logic_built"]
