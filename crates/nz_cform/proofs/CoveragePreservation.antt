@@ -5,6 +5,7 @@ use Rattle.std.specs.List.{AllByRecursion}
 use Rattle.std.proofs.lemmas.List.Elements.{All-weaker, recursion_from_All}
 use Rattle.std.proofs.lemmas.Option.{slice_get-get_or}
 use Rattle.nz_spec.specs.terms.Term.{Head, falsum, equality, is_bool, sort_of}
+use Rattle.nz_spec.specs.terms.Order.{companions_of}
 use Rattle.nz_spec.specs.terms.Table.{Node, IsTable, TermStays, term_in}
 use Rattle.nz_spec.specs.terms.FormOf.{number_in}
 use Rattle.nz_spec.specs.clauses.Gates.{clauses_over}
@@ -22,7 +23,7 @@ use Rattle.nz_log.specs.Growth.{Grows}
 use Rattle.nz_cform.specs.declared.rows.RowTable.{RowTable}
 use Rattle.nz_cform.specs.Listings.{IsListedWithin, listed_at}
 use Rattle.nz_cform.specs.Forms.{FormState, covered_at, empty_form, IsCoveredWithin, Cuts}
-use Rattle.nz_cform.specs.Covering.{AreNamed, Covers, HasRows, IsRowAt, gate_clause, gate_terms, kids_at, origin_at, table_axiom, table_clauses}
+use Rattle.nz_cform.specs.Covering.{AreNamed, Covers, HasCovered, HasRows, IsRowAt, gate_clause, gate_terms, kids_at, origin_at, table_axiom, table_clauses}
 use Rattle.nz_cform.specs.Laws.{CoversStay}
 use Rattle.nz_cform.proofs.Added.{put_kept}
 use Rattle.nz_cform.proofs.CoveredTerms.{same_entry}
@@ -100,6 +101,17 @@ covers_wider stays ns more log s table covers =
       };
       bounds = covers.bounds;
       arguments = λ t n at. subst (All (IsCoveredWithin s n)) (sym (same_kids stays ns more table t (covers.within t n at))) (covers.arguments t n at);
+      companions = λ t n at.
+          subst (λ u. AllByRecursion (HasCovered (ns ++ more) s n) (companions_of u)) (sym (stays ns more t (covers.within t n at)))
+          (AllByRecursion-weaker (HasCovered ns s n) (HasCovered (ns ++ more) s n)
+          (λ u h.
+          record {
+            number = h.number;
+            inside = omega (arith, h.inside, length-append ns more);
+            term = stays ns more h.number h.inside ∙ h.term;
+            covered = h.covered;
+          })
+          (companions_of (term_in ns t)) (covers.companions t n at));
     }
 
 -- ---- The log goes on, and has no row more
@@ -146,6 +158,7 @@ module _ (own : AtomsOfTerms) (ns : List Node) (old new : LogState) (s : FormSta
               (b.0, bound_kept old new b.0 e stay atom b.1, level_kept old new b.0 e ∙ b.2);
         };
         arguments = covers.arguments;
+        companions = covers.companions;
       }
 
 -- a clause is put that is none of a table
@@ -215,6 +228,13 @@ module _ (ns : List Node) (old new : LogState) (s cut : FormState) (level : ℕ)
   stay_all : Stay old.atoms new.atoms
   stay_all = slice_get-same old.atoms new.atoms drops.atoms
 
+  -- so it is within a level that is left
+  still_within : (n : ℕ) → n ≤ level → (k : ℕ) → IsCoveredWithin s n k → IsCoveredWithin cut n k
+  still_within n below k h =
+      let l = level_of (covered_at s k) n h in
+      let low : l.0 ≤ level = let within = l.2 in omega arith in
+      covered_within (covered_at cut k) l.0 n (still_covered k l.0 l.1 low) l.2
+
   -- what is covered at a level that is left stays so
   covers_dropped : Covers ns new cut
   covers_dropped =
@@ -256,12 +276,12 @@ module _ (ns : List Node) (old new : LogState) (s cut : FormState) (level : ℕ)
         };
         arguments = λ t n at.
             let before = was_covered t n at in
-            All-weaker (IsCoveredWithin s n) (IsCoveredWithin cut n)
-            (λ k h.
-            let l = level_of (covered_at s k) n h in
-            let low : l.0 ≤ level = let within = l.2 in let below = before.1 in omega arith in
-            covered_within (covered_at cut k) l.0 n (still_covered k l.0 l.1 low) l.2)
-            (kids_at ns t) (covers.arguments t n before.0);
+            All-weaker (IsCoveredWithin s n) (IsCoveredWithin cut n) (still_within n before.1) (kids_at ns t) (covers.arguments t n before.0);
+        companions = λ t n at.
+            let before = was_covered t n at in
+            AllByRecursion-weaker (HasCovered ns s n) (HasCovered ns cut n)
+            (λ u h. record { number = h.number; inside = h.inside; term = h.term; covered = still_within n before.1 h.number h.covered }) (companions_of (term_in ns t))
+            (covers.companions t n before.0);
       }
 
 -- ---- The law
@@ -281,6 +301,7 @@ covers_start ns =
       };
       bounds = record { listed = λ i atom h. absurd (no_row i h.term h.row); tabled = λ atom n at. cc };
       arguments = λ t n at. absurd (none_there t n at);
+      companions = λ t n at. absurd (none_there t n at);
     }
   where
     none_there : (t n : ℕ) → covered_at empty_form t ≡ Some n → ⊥

@@ -7,6 +7,7 @@ mod Listed
 mod ListedBounds
 mod Parts
 mod PartsCovered
+mod PartsPut
 mod RowClauses
 mod RowNames
 mod RowsPut

@@ -1,5 +1,5 @@
--- What a covered term is made of is covered, and the clauses of the tables name just that.
-use Rattle.std.proofs.Common.{◌≡◌, ℕ, zero, suc, ◌<◌, ◌≤◌, inl, inr, List, [], ◌∷◌, length, get_or, Some, None, sym, ap, subst, ◌∙◌, arith, All, Contains, slice_get, Bool, Option, refl, IsSome, option_map, map}
+-- What is listed with a covered term is covered, and the clauses of the tables name just that.
+use Rattle.std.proofs.Common.{◌≡◌, ℕ, zero, suc, ◌<◌, ◌≤◌, inl, inr, List, [], ◌∷◌, ◌++◌, length, get_or, Some, None, sym, ap, subst, ◌∙◌, arith, All, Contains, slice_get, Bool, Option, refl, IsSome, option_map, map}
 use Rattle.std.specs.List.{AllByRecursion}
 use Rattle.std.proofs.lemmas.List.Elements.{Contains-append_cases, Contains-push_cases, recursion_from_All}
 use Rattle.std.proofs.lemmas.Option.{slice_get-get_or, same_Some, slice_get_within}
@@ -8,7 +8,7 @@ use Rattle.nz_lists.proofs.Members.{by_each, each_of, has_cases, map_has}
 use Rattle.nz_spec.specs.terms.FormOf.{number_in, UnitsAreParts}
 use Rattle.nz_spec.specs.clauses.Gates.{gate_clauses}
 use Rattle.nz_spec.specs.clauses.Literal.{are_same_literal, Clause, clause_of}
-use Rattle.nz_spec.specs.terms.Order.{post_order, post_orders}
+use Rattle.nz_spec.specs.terms.Order.{companions, companions_of, listing_order, listing_orders}
 use Rattle.nz_spec.specs.terms.Table.{Node, IsTable, HasOneNumberEach, OneNumber, TermOfNode, term_in, terms_at}
 use Rattle.nz_spec.specs.terms.Taken.{IsTaken}
 use Rattle.nz_spec.specs.terms.Term.{Term, apply, falsum}
@@ -20,7 +20,7 @@ use Rattle.nz_log.specs.Logs.{LogState, entry_at, level_at, literals_at, row_ter
 use Rattle.nz_log.specs.Sound.{AxiomsAreTaken, GatesAreNamed, GatesNameArguments, IsLog, IsMade}
 use Rattle.nz_rows.specs.GateRows.{gates_at}
 use Rattle.nz_term.specs.TermLits.{clause_of_terms, literal_of}
-use Rattle.nz_cform.specs.Covering.{Covers, IsRowAt, kids_at, HasClause, table_axiom, table_clauses}
+use Rattle.nz_cform.specs.Covering.{Covers, HasCovered, IsRowAt, kids_at, HasClause, table_axiom, table_clauses}
 use Rattle.nz_cform.specs.Forms.{FormState, covered_at, IsCoveredWithin}
 use Rattle.nz_cform.specs.Laws.{RowsNameCovered, MeetsClauses, MeetsRows, RowsMeetTables}
 use Rattle.nz_lists.proofs.Once.{each_once, once_from}
@@ -48,7 +48,7 @@ module _ {X Y : Type 0} (f : X → Y) where
   each_mapped P [] h = tt
   each_mapped P (x ∷ xs) h = (h.0, each_mapped P xs h.1)
 
--- ---- What a covered term is made of is covered, and the clauses of the tables name just that
+-- ---- What is listed with a covered term is covered, and the clauses of the tables name just that
 
 module _ (node : TermOfNode) (ns : List Node) (table : IsTable ns) where
   -- ---- The node of a term
@@ -67,9 +67,9 @@ module _ (node : TermOfNode) (ns : List Node) (table : IsTable ns) where
     the_kids = ap (λ o. elim o [ None ↦ [] | Some n ↦ n.kids ]) node_at
 
     -- gates are of the term and its arguments
-    pub gates_within : GatesAreNamed → GatesNameArguments → AllByRecursion (AreNamed (Contains (post_order (term_in ns t)))) (gate_clauses (term_in ns t))
+    pub gates_within : GatesAreNamed → GatesNameArguments → AllByRecursion (AreNamed (Contains (listing_order (term_in ns t)))) (gate_clauses (term_in ns t))
     gates_within named arguments =
-        let P : Term → Type 0 = Contains (post_order (term_in ns t)) in
+        let P : Term → Type 0 = Contains (listing_order (term_in ns t)) in
         let On : TermLit → Type 0 = λ l. P (term_in ns l.term) in
         let own = recursion_from_All (λ k. P (term_in ns k)) the_node.kids (arguments_are_parts (term_in ns) (term_in ns t) the_node.head the_node.kids the_term) in
         let on : (c : List TermLit) → Contains (gates_at ns t) c → (l : TermLit) → Contains c l → On l = λ c has l there.
@@ -84,17 +84,14 @@ module _ (node : TermOfNode) (ns : List Node) (table : IsTable ns) where
         (λ c h. each_mapped (literal_of ns) (Named P) c (AllByRecursion-weaker On (λ (l : TermLit). Named P (literal_of ns l)) (λ l p. (p, tt)) c h))
         (gates_at ns t) over))
 
-  -- ---- What a covered term is made of
+  -- ---- What is listed with a covered term
 
   module _ (log : LogState) (s : FormState) (covers : Covers ns log s) where
     -- the term has a number, which is covered within the level
-    pub record HasCovered (n : ℕ) (u : Term) : Type 0 where
-      pub number : ℕ
-      pub covered : IsCoveredWithin s n number
-      pub inside : number < length ns
-      pub term : term_in ns number ≡ u
+    abbrev Has : ℕ → Term → Type 0
+    Has n u = HasCovered ns s n u
 
-    higher : (m n : ℕ) → m ≤ n → (u : Term) → HasCovered m u → HasCovered n u
+    higher : (m n : ℕ) → m ≤ n → (u : Term) → Has m u → Has n u
     higher m n below u h =
         let l = level_of (covered_at s h.number) m h.covered in
         record {
@@ -104,33 +101,38 @@ module _ (node : TermOfNode) (ns : List Node) (table : IsTable ns) where
           term = h.term;
         }
 
-    of_arguments : (t n : ℕ) → ((k m : ℕ) → k < t → covered_at s k ≡ Some m → (u : Term) → Contains (post_order (term_in ns k)) u → HasCovered m u)
+    of_arguments : (t n : ℕ) → ((k m : ℕ) → k < t → covered_at s k ≡ Some m → (u : Term) → Contains (listing_order (term_in ns k)) u → Has m u)
         → (ks : List ℕ) → AllByRecursion (λ k. k < t) ks → AllByRecursion (IsCoveredWithin s n) ks
-        → (u : Term) → Contains (post_orders (terms_at (term_in ns) ks)) u → HasCovered n u
+        → (u : Term) → Contains (listing_orders (terms_at (term_in ns) ks)) u → Has n u
     of_arguments t n ih [] below covered u has = absurd (let inside : has.0 < 0 = has.1 in omega arith)
     of_arguments t n ih (k ∷ ks) below covered u has =
-        elim (Contains-append_cases (post_order (term_in ns k)) (post_orders (terms_at (term_in ns) ks)) u has) [
+        elim (Contains-append_cases (listing_order (term_in ns k)) (listing_orders (terms_at (term_in ns) ks)) u has) [
           | inl first ↦ let l = level_of (covered_at s k) n covered.0 in higher l.0 n l.2 u (ih k l.0 below.0 l.1 u first)
           | inr other ↦ of_arguments t n ih ks below.1 covered.1 u other
         ]
 
-    part_below : (m t n : ℕ) → t < m → covered_at s t ≡ Some n → (u : Term) → Contains (post_order (term_in ns t)) u → HasCovered n u
+    part_below : (m t n : ℕ) → t < m → covered_at s t ≡ Some n → (u : Term) → Contains (listing_order (term_in ns t)) u → Has n u
     part_below zero t n below at u has = absurd (omega (arith, below))
     part_below (suc m) t n below at u has =
         let inside = covers.within t n at in
         let own = the_node t inside in
         let args = terms_at (term_in ns) own.kids in
-        elim (Contains-push_cases (post_orders args) (apply own.head args) u (subst (λ v. Contains (post_order v) u) (the_term t inside) has)) [
-          | inl parts ↦
-              of_arguments t n (λ k l less. part_below m k l (omega (arith, less, below))) own.kids
-              (recursion_from_All (λ k. k < t) own.kids (table.before t own (node_at t inside)))
-              (recursion_from_All (IsCoveredWithin s n) own.kids (subst (All (IsCoveredWithin s n)) (the_kids t inside) (covers.arguments t n at))) u parts
+        elim (Contains-push_cases (listing_orders args ++ companions own.head args) (apply own.head args) u (subst (λ v. Contains (listing_order v) u) (the_term t inside) has)) [
+          | inl before ↦ elim (Contains-append_cases (listing_orders args) (companions own.head args) u before) [
+            | inl parts ↦
+                of_arguments t n (λ k l less. part_below m k l (omega (arith, less, below))) own.kids
+                (recursion_from_All (λ k. k < t) own.kids (table.before t own (node_at t inside)))
+                (recursion_from_All (IsCoveredWithin s n) own.kids (subst (All (IsCoveredWithin s n)) (the_kids t inside) (covers.arguments t n at))) u parts
+            | inr beside ↦
+                each_of (Has n) (companions_of (term_in ns t)) (covers.companions t n at) u
+                (subst (λ v. Contains (companions_of v) u) (sym (the_term t inside)) beside)
+          ]
           | inr same ↦
               record { number = t; covered = covered_within (covered_at s t) n n at (omega arith); inside = inside; term = the_term t inside ∙ same }
         ]
 
-    -- so each part of it is covered
-    pub part_covered : (t n : ℕ) → covered_at s t ≡ Some n → (u : Term) → Contains (post_order (term_in ns t)) u → HasCovered n u
+    -- so each term that is listed with it is covered
+    pub part_covered : (t n : ℕ) → covered_at s t ≡ Some n → (u : Term) → Contains (listing_order (term_in ns t)) u → Has n u
     part_covered t n at u has = part_below (suc t) t n (omega arith) at u has
 
     -- ---- What the rows of a taken term name
@@ -142,7 +144,7 @@ module _ (node : TermOfNode) (ns : List Node) (table : IsTable ns) where
 
       row_names : (l : Lit) → Contains (literals_at log i) l → Names (IsCoveredWithin s (level_at log i)) log.atoms l
       row_names l has =
-          let P : Term → Type 0 = Contains (post_order (term_in ns t)) in
+          let P : Term → Type 0 = Contains (listing_order (term_in ns t)) in
           let inside = covers.within t (level_at log i) at_level in
           let e = some_entry (entry_at log i) row.0 row.1 in
           let entry = order.clauses i e.0 e.1 in
@@ -225,12 +227,12 @@ module _ (node : TermOfNode) (named : GatesAreNamed) (axioms : AxiomsAreTaken) (
         (λ j c here. axiom_met (table_axiom of k j) cs j c here (row_of of k j) (covers.rows.rows of k n j at (slice_get_within cs j c here))
         (λ ls made. at_place of ns log.atoms k j (clause_in ns log.atoms ls) (axioms ns table log.atoms (table_axiom of k j) ls made)))
 
-  -- so all that a covered term is made of meets the tables
+  -- so all that is listed with a covered term meets the tables
   clauses_met : (t : ℕ) → IsSome (covered_at s t) → MeetsClauses ns truths v t
   clauses_met t some =
       let n = has_some (covered_at s t) some in
       let part = part_covered node ns table log s covers t n.0 n.1 in
-      let level = λ (u : Term) (has : Contains (post_order (term_in ns t)) u). level_of (covered_at s (part u has).number) n.0 (part u has).covered in
+      let level = λ (u : Term) (has : Contains (listing_order (term_in ns t)) u). level_of (covered_at s (part u has).number) n.0 (part u has).covered in
       record {
         gates = λ u has. subst (λ w. AllByRecursion Met (gate_clauses w)) (part u has).term (gates_met (part u has).number (level u has).0 (level u has).1);
         links = λ u has.

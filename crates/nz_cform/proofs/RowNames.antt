@@ -16,12 +16,12 @@ use Rattle.nz_spec.specs.clauses.Gates.{holds, fails, is_boolean_term}
 use Rattle.nz_spec.specs.clauses.Links.{minus, at_most_literal, below_literal, link_clauses}
 use Rattle.nz_spec.specs.terms.Linear.{constant_value}
 use Rattle.nz_spec.specs.clauses.Units.{quotient_rows, remainder_rows, unit_clauses}
-use Rattle.nz_spec.specs.terms.Order.{post_order, post_orders}
+use Rattle.nz_spec.specs.terms.Order.{post_order, post_orders, listing_order}
 use Rattle.nz_spec.specs.terms.Taken.{IsTakenHead, IsTaken}
 use Rattle.nz_cform.specs.declared.rows.RowTable.{RowTable}
 use Rattle.nz_cform.specs.declared.rows.RowTable.TheVariants.{Links, Units}
 use Rattle.nz_cform.specs.Covering.{table_clauses}
-use Rattle.nz_cform.proofs.Parts.{itself}
+use Rattle.nz_cform.proofs.Parts.{itself, own_part, part_listed}
 use Rattle.nz_cform.proofs.Sizes.{size, sizes}
 
 -- ---- What a literal names
@@ -141,7 +141,7 @@ module _ (P : Term → Type 0) where
     pub unit_rows_named : (h : Head) (ts : Terms) → IsTakenHead h ts → OverTerm P (apply h ts) → OverTerms P ts → ResultsNamed (unit_clauses number (apply h ts))
     unit_rows_named (choice real_sort) (terms c (terms a (terms b no_terms))) k p q =
         let u = apply (choice real_sort) (terms c (terms a (terms b no_terms))) in
-        let head : P c = q.0 c (itself c) in
+        let head : P c = q.0 c (own_part c) in
         let first = difference_named u a p q.1.0 in
         let second = difference_named a u q.1.0 p in
         let third = difference_named u b p q.1.1.0 in
@@ -320,15 +320,16 @@ module _ (number : Numbering) where
   each_row_names told parts Links (apply h ts) taken = links_name number h ts
   each_row_names told parts Units (apply h ts) taken = units_name number told parts h ts taken.heads.0
 
-  arguments_over : (h : Head) (ts : Terms) → OverTerms (Contains (post_order (apply h ts))) ts
-  arguments_over h ts = over_all (Contains (post_order (apply h ts))) ts (λ u has. Contains-append_left (post_orders ts) (apply h ts ∷ []) u has)
+  arguments_over : (h : Head) (ts : Terms) → OverTerms (Contains (listing_order (apply h ts))) ts
+  arguments_over h ts =
+      over_all (Contains (listing_order (apply h ts))) ts (λ u has. part_listed (apply h ts) u (Contains-append_left (post_orders ts) (apply h ts ∷ []) u has))
 
   pub each_row_within : UnitsAreParts → (table : RowTable) (t : Term) → IsTaken t
-      → AllByRecursion (λ (c : Computation Clause). AreNamed (Contains (post_order t)) c.result) (table_clauses table number t)
+      → AllByRecursion (λ (c : Computation Clause). AreNamed (Contains (listing_order t)) c.result) (table_clauses table number t)
   each_row_within parts Links (apply h ts) taken =
-      links_named (Contains (post_order (apply h ts))) parts number h ts taken.heads.0 (itself (apply h ts)) (arguments_over h ts)
+      links_named (Contains (listing_order (apply h ts))) parts number h ts taken.heads.0 (itself (apply h ts)) (arguments_over h ts)
   each_row_within parts Units (apply h ts) taken =
-      unit_rows_named (Contains (post_order (apply h ts))) parts number h ts taken.heads.0 (λ u has. has) (arguments_over h ts)
+      unit_rows_named (Contains (listing_order (apply h ts))) parts number h ts taken.heads.0 (part_listed (apply h ts)) (arguments_over h ts)
 
 -- ---- Lengths of the tables
 

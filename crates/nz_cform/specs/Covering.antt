@@ -1,13 +1,14 @@
 -- What it is that the covered terms have their clauses in a log: those of the gate table, of the link table and of the unit table.
-use Rattle.std.specs.Prelude.{◌≡◌, ◌≢◌, ◌↔◌, ◌⊎◌, ⊤, ℕ, ◌<◌, ◌≤◌, List, [], ◌++◌, length, Option, Some, None, All, Contains, IsSome, slice_get, option_map, unwrap_or}
-use Rattle.std.specs.List.{AllPairs}
+use Rattle.std.specs.Prelude.{◌≡◌, ◌≢◌, ◌↔◌, ◌⊎◌, ⊤, ℕ, ◌<◌, ◌≤◌, List, [], ◌++◌, length, map, Option, Some, None, All, Contains, IsSome, slice_get, option_map, unwrap_or}
+use Rattle.std.specs.List.{AllByRecursion, AllPairs}
 use Rattle.nz_spec.specs.numbers.Computation.{Computation}
 use Rattle.nz_spec.specs.terms.Form.{Numbering}
 use Rattle.nz_spec.specs.terms.FormOf.{number_in}
 use Rattle.nz_spec.specs.clauses.Links.{link_clauses}
 use Rattle.nz_spec.specs.clauses.Literal.{Clause, once}
-use Rattle.nz_spec.specs.terms.Table.{Node, term_in}
-use Rattle.nz_spec.specs.terms.Term.{Term}
+use Rattle.nz_spec.specs.terms.Order.{companions_of}
+use Rattle.nz_spec.specs.terms.Table.{Node, term_in, terms_at}
+use Rattle.nz_spec.specs.terms.Term.{Head, Term, apply}
 use Rattle.nz_spec.specs.clauses.Units.{unit_clauses}
 use Rattle.nz_lin.specs.declared.bound.Bound.{Bound}
 use Rattle.nz_log.specs.declared.atoms.Atom.{Atom}
@@ -110,12 +111,21 @@ pub record HasBounds (log : LogState) (s : FormState) : Type 0 where
   pub listed : (i atom : ℕ) → HasBound log i atom → IsListedWithin s.bounds (level_at log i) atom
   pub tabled : (atom n : ℕ) → listed_at s.bounds atom ≡ Some n → (i : ℕ) × HasBound log i atom × (level_at log i ≡ n)
 
--- The covered terms are of the table, their clauses are in the log, with their bounds, and the arguments of each are covered, at or below its level.
+-- The term has a number in the table, which is covered at or below this level.
+pub record HasCovered (ns : List Node) (s : FormState) (level : ℕ) (u : Term) : Type 0 where
+  pub number : ℕ
+  pub inside : number < length ns
+  pub term : term_in ns number ≡ u
+  pub covered : IsCoveredWithin s level number
+
+-- The covered terms are of the table, their clauses are in the log, with their bounds, and the arguments and the companions of each are covered, at or below
+-- its level.
 pub record Covers (ns : List Node) (log : LogState) (s : FormState) : Type 0 where
   pub within : (t n : ℕ) → covered_at s t ≡ Some n → t < length ns
   pub rows : HasRows ns log s
   pub bounds : HasBounds log s
   pub arguments : (t n : ℕ) → covered_at s t ≡ Some n → All (IsCoveredWithin s n) (kids_at ns t)
+  pub companions : (t n : ℕ) → covered_at s t ≡ Some n → AllByRecursion (HasCovered ns s n) (companions_of (term_in ns t))
 
 -- ---- Changes of the log
 
@@ -138,6 +148,16 @@ pub record GoesOn (ns : List Node) (old new : LogState) : Type 0 where
   pub sound : (levels : List (List ℕ)) → IsLog ns levels old → IsLog ns levels new
 
 -- ---- One term
+
+-- The numbers of a term's arguments and of its companions were put at the end of a list.
+pub record PutsParts (ns : List Node) (term : ℕ) (before after : List ℕ) : Type 0 where
+  pub companions : List ℕ
+  pub joined : after ≡ before ++ kids_at ns term ++ companions
+  pub head : Head
+  pub is : term_in ns term ≡ apply head (terms_at (term_in ns) (kids_at ns term))
+  pub below : All (λ k. k < term) (kids_at ns term)
+  pub inside : All (λ c. c < length ns) companions
+  pub beside : map (term_in ns) companions ≡ companions_of (term_in ns term)
 
 -- Clauses of the tables of a term were put, and their numbers come at the end of a list.
 pub record AddsRows (term : ℕ) (old : LogState) (before : List ℕ) (new : LogState) (after : List ℕ) : Type 0 where

@@ -7,7 +7,7 @@ use Rattle.nz_spec.specs.clauses.Gates.{gate_clauses}
 use Rattle.nz_spec.specs.clauses.Links.{link_clauses}
 use Rattle.nz_spec.specs.numbers.Computation.{Computation}
 use Rattle.nz_spec.specs.clauses.Literal.{Clause}
-use Rattle.nz_spec.specs.terms.Order.{post_order}
+use Rattle.nz_spec.specs.terms.Order.{listing_order}
 use Rattle.nz_spec.specs.terms.Table.{Node, IsTable, term_in}
 use Rattle.nz_spec.specs.terms.Taken.{IsTaken}
 use Rattle.nz_spec.specs.terms.Term.{Term}
@@ -45,12 +45,12 @@ RowsNameCovered = (ns : List Node) (levels : List (List ℕ)) (log : LogState) (
 abbrev pub MeetsRows : List Node → LogState → (Term → Option Bool) → Valuation → Type 0
 MeetsRows ns log truths v = (i t : ℕ) → IsRowAt log i t → (l : Lit) × Contains (literals_at log i) l × IsMet truths v (literal_in ns log.atoms l)
 
--- What a covered term is made of meets the clauses of the three tables.
+-- What is listed with a covered term meets the clauses of the three tables.
 pub record MeetsClauses (ns : List Node) (truths : Term → Option Bool) (v : Valuation) (t : ℕ) : Type 0 where
-  pub gates : (u : Term) → Contains (post_order (term_in ns t)) u → AllByRecursion (HasMetLiteral truths v) (gate_clauses u)
-  pub links : (u : Term) → Contains (post_order (term_in ns t)) u
+  pub gates : (u : Term) → Contains (listing_order (term_in ns t)) u → AllByRecursion (HasMetLiteral truths v) (gate_clauses u)
+  pub links : (u : Term) → Contains (listing_order (term_in ns t)) u
       → AllByRecursion (λ (c : Computation Clause). HasMetLiteral truths v c.result) (link_clauses (number_in ns) u)
-  pub units : (u : Term) → Contains (post_order (term_in ns t)) u
+  pub units : (u : Term) → Contains (listing_order (term_in ns t)) u
       → AllByRecursion (λ (c : Computation Clause). HasMetLiteral truths v c.result) (unit_clauses (number_in ns) u)
 
 -- Truths and worths that meet the clauses in the log meet the tables.

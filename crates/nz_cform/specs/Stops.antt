@@ -6,7 +6,7 @@ use Rattle.nz_spec.specs.clauses.Literal.{Clause}
 use Rattle.nz_spec.specs.clauses.Units.{unit_clauses}
 use Rattle.nz_spec.specs.numbers.Computation.{Computation}
 use Rattle.nz_spec.specs.terms.FormOf.{number_in}
-use Rattle.nz_spec.specs.terms.Order.{post_order}
+use Rattle.nz_spec.specs.terms.Order.{listing_order}
 use Rattle.nz_spec.specs.search.Places.{LeavesNumbers, term_operations}
 use Rattle.nz_spec.specs.terms.Table.{Node, term_in}
 use Rattle.nz_spec.specs.terms.Term.{Term}
@@ -35,11 +35,11 @@ pub record IsFirstStop (table : RowTable) (ns : List Node) (t : ℕ) (wide : fra
   pub left : IsNumber wide.a
   pub right : IsNumber wide.b
 
--- The operation leaves the numbers, and is of a term that this one is made of: the first of its rows that does, those of the link table before those of
+-- The operation leaves the numbers, and is of a term that is listed with this one: the first of its rows that does, those of the link table before those of
 -- the unit table.
 pub record IsStopIn (ns : List Node) (root : Term) (wide : frac.Wide) (term : ℕ) : Type 0 where
   pub within : term < length ns
-  pub part : Contains (post_order root) (term_in ns term)
+  pub part : Contains (listing_order root) (term_in ns term)
   pub of : Contains (term_operations (number_in ns) (term_in ns term)) (operation_of wide)
   pub leaves : LeavesNumbers (operation_of wide)
   pub first : first_wide (operations_of (link_clauses (number_in ns) (term_in ns term) ++ unit_clauses (number_in ns) (term_in ns term))) ≡ Some (operation_of wide)

@@ -1,7 +1,7 @@
 //! Which terms have their clauses in a log.
 ghost use Rattle.std.specs.Prelude.{◌≡◌, ◌≢◌, ◌↔◌, ℕ, ◌≤◌, ◌<◌, List, length, None, Contains, OnOk, IfErr, IfOk, IsSome, is_some};
 ghost use Rattle.std.specs.List.{AllPairs};
-ghost use Rattle.nz_spec.specs.terms.Order.{HasCompanions, post_order};
+ghost use Rattle.nz_spec.specs.terms.Order.{HasCompanions, listing_order};
 ghost use Rattle.nz_spec.specs.terms.Table.{term_in};
 ghost use Rattle.nz_spec.specs.terms.Taken.{IsTaken};
 ghost use Rattle.nz_log.specs.Logs.{told_level};
@@ -12,6 +12,7 @@ ghost use Rattle.nz_cform.specs.Listings.{Takes, listed_at};
 ghost use Rattle.nz_cform.specs.Stops.{IsStopIn, OnWide};
 
 use crate::bounds::list_bounds;
+use crate::companions::put_parts;
 use crate::listing::Listing;
 use crate::rows::{RowTable, add_gates, add_rows};
 use crate::stop::FormStop;
@@ -74,14 +75,14 @@ impl ClauseForm {
         self.terms.has(term)
     }
 
-    /// Puts the clauses of a term, and of all that it is made of, into a log: those of the terms that aren't covered, which are then covered at
+    /// Puts the clauses of a term, and of all that is listed with it, into a log: those of the terms that aren't covered, which are then covered at
     /// this level. Answers the numbers of these clauses. Takes time and memory in proportion to the terms that were not covered and their
     /// arguments, however deeply they nest.
     ///
     /// # Errors
     ///
     /// `Wide` with the first operation that leaves the numbers, and its term; `Memory`. Then some of the terms may be covered without all of
-    /// their clauses, or without their arguments.
+    /// their clauses, or without their arguments and companions.
     pub fn add_term(
         &mut self,
         alloc: Global,
@@ -103,7 +104,7 @@ impl ClauseForm {
         ensures grown { Grows self.old level self.new }
         ensures kept { Keeps log.old log.new }
         ensures told { (t : ℕ) → told_level log.new t ≤ level }
-        ensures made_of { (t : ℕ) → covered_at self.old t ≡ None → IsSome (covered_at self.new t) → Contains (post_order (term_in terms.now id)) (term_in terms.now t) }
+        ensures made_of { (t : ℕ) → covered_at self.old t ≡ None → IsSome (covered_at self.new t) → Contains (listing_order (term_in terms.now id)) (term_in terms.now t) }
         ensures sound { (levels : List (List ℕ)) → IsLog terms.now levels log.old → IsLog terms.now levels log.new }
         ensures stop { IfErr result (λ e. OnWide e (IsStopIn terms.now (term_in terms.now id))) }
     {
@@ -114,8 +115,7 @@ impl ClauseForm {
         while let Some(term) = waiting.pop() {
             if !self.is_covered(term) {
                 self.cover(log, terms, term, level, &mut clauses)?;
-                let node = terms.node(term);
-                waiting.extend_from_slice(node.kids)?;
+                put_parts(terms, term, &mut waiting)?;
             }
         }
         Ok(clauses)

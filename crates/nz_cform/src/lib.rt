@@ -3,11 +3,13 @@
 #![tactic(auto)]
 
 mod bounds;
+mod companions;
 mod form;
 pub mod laws;
 mod listing;
 mod rows;
 mod stop;
 
+pub use companions::put_parts;
 pub use form::ClauseForm;
 pub use stop::FormStop;

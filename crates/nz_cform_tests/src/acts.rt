@@ -20,6 +20,8 @@ pub(crate) enum Act {
     Listed(usize),
     /// Just these bounds are listed, in this order.
     Bounds(&'static [Row]),
+    /// Just these terms are covered with a term, in this order.
+    Parts(TermId, &'static [TermId]),
 }
 
 /// Something else than was wanted, and of which act.
@@ -39,6 +41,7 @@ fn is_done(alloc: Global, cover: &mut Cover, act: &Act) -> Result<bool, FormStop
         Act::Covered(count) => Ok(cover.form().terms().len() == *count),
         Act::Listed(count) => Ok(cover.form().bounds().len() == *count),
         Act::Bounds(rows) => Ok(are_bounds(cover.log(), cover.form().bounds(), rows)),
+        Act::Parts(id, parts) => Ok(cover.parts(alloc, *id)?.as_slice() == *parts),
     }
 }
 

@@ -2,7 +2,7 @@
 //! have nothing to prove.
 use nz_base::Memory;
 use nz_cform::laws::covers_stay;
-use nz_cform::{ClauseForm, FormStop};
+use nz_cform::{ClauseForm, FormStop, put_parts};
 use nz_log::Log;
 use nz_taken_samples::need_taken;
 use nz_term::{TermId, Terms, add_companions};
@@ -71,6 +71,16 @@ impl Cover {
         covers_stay();
         self.log.drop_above(level);
         self.form.cut(level);
+    }
+
+    /// What is covered with a term.
+    pub(crate) fn parts(&self, alloc: Global, id: TermId) -> Result<Vec<TermId>, Memory> {
+        if self.terms.len() <= id {
+            return Err(Memory);
+        }
+        let mut parts = Vec::new(alloc);
+        put_parts(&self.terms, id, &mut parts)?;
+        Ok(parts)
     }
 
     /// The log.

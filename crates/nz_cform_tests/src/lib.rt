@@ -6,6 +6,8 @@ mod acts;
 #[cfg(test)]
 mod bounds;
 #[cfg(test)]
+mod companions;
+#[cfg(test)]
 mod cover;
 #[cfg(test)]
 mod form;

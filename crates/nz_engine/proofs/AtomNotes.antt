@@ -1,27 +1,29 @@
 -- Notes of atoms are legal: each is of what is asked, and none is named twice. Behind the note of a start they lead to where the theory stands that began so.
 use Rattle.std.proofs.Common.{◌≡◌, ◌≢◌, inl, inr, ℕ, zero, suc, ◌+◌, ◌<◌, Bool, true, false, List, [], ◌∷◌, ◌++◌, append-nil, length, get_or, take, map, Option, Some, None, option_map, Err, refl, sym, ap, ◌∙◌, subst, arith, append_assoc, ◌⊎◌, Vec, Global}
-use Rattle.std.specs.Prelude.{All, Contains, flat_map, if◌then◌else◌, slice_get, slice_index_or, ⊤}
+use Rattle.std.specs.Prelude.{All, Contains, flat_map, if◌then◌else◌, slice_get, slice_index_or}
 use Rattle.std.specs.List.{AllByRecursion, AllPairs}
 use Rattle.std.proofs.lemmas.List.{length-map, map-append, take_more}
 use Rattle.std.proofs.lemmas.List.Sums.{sum_by-append}
 use Rattle.std.proofs.lemmas.Option.{get_or_from_slice_get, slice_get-get_or, slice_get_within}
-use Rattle.std.proofs.lemmas.List.Elements.{All-contains, All-contains_itself, All-from_recursion, All-map, All-take, All-weaker, Contains-append_cases, Contains-append_left, Contains-append_right, recursion_from_All}
+use Rattle.std.proofs.lemmas.List.Elements.{All-contains, All-from_recursion, All-map, All-take, All-weaker, Contains-append_left, Contains-append_right, recursion_from_All}
 use Rattle.nz_lists.proofs.Elements.{AllByRecursion-append, AllByRecursion-weaker}
 use Rattle.nz_lists.proofs.Places.{slice_get_kept}
 use Rattle.nz_spec.specs.simplex.Bland.{Point}
 use Rattle.nz_spec.specs.search.Decide.{asserted_numbers, asserted_terms}
 use Rattle.nz_spec.specs.terms.Form as spec_form
-use Rattle.nz_spec.specs.search.Search.{Task, Search, ToldLiteral, at_first, no_point, literal_by, never, told_literals}
+use Rattle.nz_spec.specs.search.Search.{Task, Search, at_first, no_point, literal_by, never, told_literals}
 use Rattle.nz_spec.specs.search.Atoms.{IsAtom, MayName, of_table, of_term}
 use Rattle.nz_spec.specs.search.Beginnings.{IsComparison, MayGoUnder}
 use Rattle.nz_spec.specs.search.Legal.{Lead, after_line, after_lines}
 use Rattle.nz_spec.specs.laws.LegalWork.{LegalWorkGoesOn}
-use Rattle.nz_spec.specs.clauses.Literal.{Literal, term_literal, is_at_most, is_below, negation_of, are_same_literal, StandOnce, TellsLiterals}
+use Rattle.nz_spec.specs.laws.Renumbering.{SumsRenumber}
+use Rattle.nz_spec.specs.terms.FormOf.{TermHasItsNumber}
+use Rattle.nz_spec.specs.clauses.Literal.{Literal, term_literal, negation_of, are_same_literal, SayTheSame, StandOnce, TellsLiterals}
 use Rattle.nz_spec.specs.search.Notes as spec
 use Rattle.nz_spec.specs.search.Notes.{atom_note, form_note, under_note}
-use Rattle.nz_spec.specs.terms.Order.{post_order, post_orders, companions, listing_order, listing_orders}
+use Rattle.nz_spec.specs.terms.Order.{listing_order}
 use Rattle.nz_spec.specs.terms.Table.{Node, IsTable, term_in}
-use Rattle.nz_spec.specs.terms.Term.{Term, apply, Terms, no_terms, terms}
+use Rattle.nz_spec.specs.terms.Term.{Term}
 use Rattle.nz_spec.specs.search.Work.{WorkLine, UnitLine, NoteLine, WorkList, is_unit, unit_count, with_line}
 use Rattle.nz_lin.specs.Bounds.{bounded}
 use Rattle.nz_lin.specs.Forms.{parts_over}
@@ -41,22 +43,28 @@ use Rattle.nz_log.specs.Lits.{are_same_lit}
 use Rattle.nz_search.specs.Notes.{forms_over, noted_line, noted_list, AreNotedWithin, IsNoteWithin}
 use Rattle.nz_search.specs.Standing.{Standing, Ends, Stands, search_after}
 use Rattle.nz_search.specs.Verdicts.{task_in}
+use Rattle.nz_log.specs.Logs.{LogState, literals_at}
 use Rattle.nz_reals.specs.Joins.{IsNumberIn, EndsJoining}
 use Rattle.nz_reals.specs.Stands.{IsAt, IsOver}
 use Rattle.nz_reals.specs.Starts.{NotesStart}
 use Rattle.nz_reals.specs.State.{Theory}
-use Rattle.nz_sat.specs.Numbers.{IsAtomAt, atom_literal, noted_atoms}
+use Rattle.nz_sat.specs.declared.clauses.Held.{Held}
+use Rattle.nz_sat.specs.Numbers.{AreNotedIn, IsAtomAt, atom_literal, noted_atoms, numbered}
+use Rattle.nz_sat.specs.Sats as sat
+use Rattle.nz_sat.specs.Sats.{HoldsLearned}
+use Rattle.nz_search.specs.Levels.{Level, added_by_level}
 use Rattle.nz_engine.specs.Checking.{AreNumbered, EndsWith, GoesUnder, HasBegun, HasGoneUnder, IsPlain, IsPlainAtom, IsUnbegun, MayBegin, NotesAll, NotesForms, NotesUnder, atom_at, atom_lines, form_lines, note_of, terms_named}
-use Rattle.nz_engine.proofs.AssertionPlaces.{in_second, lower_or_not, place_of}
+use Rattle.nz_engine.proofs.AssertionPlaces.{in_second, lower_or_not}
+use Rattle.nz_engine.proofs.SaidAtoms.{IsPositive, negated, positive_said, same_atoms, says_itself}
 
 -- ---- Lists of lines
 
 -- where the search stands after lines and then others
-after_both : (s : Search) (xs ys : List (WorkLine spec.Note)) → after_lines s (xs ++ ys) ≡ after_lines (after_lines s xs) ys
+pub after_both : (s : Search) (xs ys : List (WorkLine spec.Note)) → after_lines s (xs ++ ys) ≡ after_lines (after_lines s xs) ys
 after_both s [] ys = refl
 after_both s (x ∷ xs) ys = after_both (after_line s x) xs ys
 
-lines_both : (ns : List Node) (xs ys : List (WorkLine Note)) → map (noted_line ns) (xs ++ ys) ≡ map (noted_line ns) xs ++ map (noted_line ns) ys
+pub lines_both : (ns : List Node) (xs ys : List (WorkLine Note)) → map (noted_line ns) (xs ++ ys) ≡ map (noted_line ns) xs ++ map (noted_line ns) ys
 lines_both ns xs ys = map-append (noted_line ns) xs ys
 
 -- forms that join name no atom
@@ -64,14 +72,17 @@ forms_name_none : (ns : List Node) (s : Search) (ks : List ℕ) → (after_lines
 forms_name_none ns s [] = refl
 forms_name_none ns s (k ∷ ks) = forms_name_none ns (after_line s (NoteLine (form_note k))) ks
 
--- so the list knows an atom by its number still
-pub numbered_still : (ns : List Node) (all : List log.Atom) (i k : ℕ) (old new : WorkList Note) → NotesForms old new → IsNumberIn ns all i k old → IsNumberIn ns all i k new
-numbered_still ns all i k old new forms h =
-    let same : (search_after ns new).atoms ≡ (search_after ns old).atoms =
+pub forms_same : (ns : List Node) (old new : WorkList Note) → NotesForms old new → (search_after ns new).atoms ≡ (search_after ns old).atoms
+forms_same ns old new forms =
     ap (λ (w : WorkList Note). (search_after ns w).atoms) forms.noted
     ∙ ap (λ (ls : List (WorkLine spec.Note)). (after_lines at_first ls).atoms) (lines_both ns old.lines (form_lines forms.forms))
     ∙ ap (λ (s : Search). s.atoms) (after_both at_first (map (noted_line ns) old.lines) (map (noted_line ns) (form_lines forms.forms)))
-    ∙ forms_name_none ns (search_after ns old) forms.forms in
+    ∙ forms_name_none ns (search_after ns old) forms.forms
+
+-- so the list knows an atom by its number still
+pub numbered_still : (ns : List Node) (all : List log.Atom) (i k : ℕ) (old new : WorkList Note) → NotesForms old new → IsNumberIn ns all i k old → IsNumberIn ns all i k new
+numbered_still ns all i k old new forms h =
+    let same = forms_same ns old new forms in
     record {
       named = subst (λ (ls : List Literal). k < length ls) (sym same) h.named;
       says = ap (λ (ls : List Literal). literal_by ls (k, true)) same ∙ h.says;
@@ -82,9 +93,9 @@ numbered_still ns all i k old new forms h =
 -- an atom of what is listed may be named wherever a check stands
 plain_atom : (q : Task) (s : Search) (x : Point) (l : Literal) → IsPlainAtom q l → IsAtom q s x l
 plain_atom q s x l (inl truth) = of_term truth
-plain_atom q s x l (inr tabled) = of_table (record { plain = l; tabled = tabled; is_tight = false; is = refl })
+plain_atom q s x l (inr tabled) = of_table (record { plain = l; tabled = tabled; written = l; same = says_itself l; is_tight = false; is = refl })
 
-module _ (goes_on : LegalWorkGoesOn) (tells : TellsLits) (tells_spec : TellsLiterals) (ns : List Node) (table : IsTable ns) (all : List log.Atom) (are : AreAtoms all) where
+module _ (goes_on : LegalWorkGoesOn) (tells : TellsLits) (tells_spec : TellsLiterals) (sums : SumsRenumber) (numbers : TermHasItsNumber) (ns : List Node) (table : IsTable ns) (all : List log.Atom) (are : AreAtoms all) where
   abbrev lit : ℕ → Literal
   lit i = atom_literal ns all i
 
@@ -111,13 +122,15 @@ module _ (goes_on : LegalWorkGoesOn) (tells : TellsLits) (tells_spec : TellsLite
       let test : are_same_lit (own j) (own i) ≡ true = sym (tells.agree ns table all are (own j) (own i) k h) ∙ alike in
       ap (λ (l : Lit). l.atom) (tells.same (own j) (own i) test)
 
-  -- no atom says what the negation of one does
-  abbrev IsPositive : Literal → Type 0
-  IsPositive (term_literal t true) = ⊤
-  IsPositive (term_literal t false) = ⊥
-  IsPositive (is_at_most ps b) = ⊤
-  IsPositive (is_below ps b) = ⊥
+  -- in whatever order their units stand
+  one_said : (i j : ℕ) → IsAtomAt ns all i → IsAtomAt ns all j → SayTheSame (lit j) (lit i) → j ≡ i
+  one_said i j h k same =
+      let left = says j k.atom k.at in
+      let right = says i h.atom h.at in
+      let plain : SayTheSame (atom_in ns k.atom) (atom_in ns h.atom) = subst (λ (l : Literal). SayTheSame l (atom_in ns h.atom)) left (subst (SayTheSame (lit j)) right same) in
+      one_atom i j h k (left ∙ same_atoms sums numbers ns table k.atom h.atom k.within h.within plain ∙ sym right)
 
+  -- no atom says what the negation of one does
   positive_atom : (a : log.Atom) → IsNormal a → IsPositive (atom_in ns a)
   positive_atom (atoms.Term t) normal = tt
   positive_atom (atoms.AtMost b) normal =
@@ -130,39 +143,31 @@ module _ (goes_on : LegalWorkGoesOn) (tells : TellsLits) (tells_spec : TellsLite
   positive : (i : ℕ) → IsAtomAt ns all i → IsPositive (lit i)
   positive i h = subst IsPositive (sym (says i h.atom h.at)) (positive_atom h.atom (normal_at all i h.atom are.normal h.at))
 
-  negated : (l : Literal) → IsPositive l → IsPositive (negation_of l) → ⊥
-  negated (term_literal t true) h k = absurd k
-  negated (term_literal t false) h k = absurd h
-  negated (is_at_most ps b) h k = absurd k
-  negated (is_below ps b) h k = absurd h
-
-  -- what is in a mapped list is of one of its elements
-  from_map : (f : ℕ → Literal) (xs : List ℕ) (y : Literal) → Contains (map f xs) y → (x : ℕ) × Contains xs x × (f x ≡ y)
-  from_map f xs y c =
-      let P = λ (z : Literal). z ≡ y → (x : ℕ) × Contains xs x × (f x ≡ y) in
-      All-contains P (map f xs) y
-      (All-map P f xs (All-weaker (Contains xs) (λ x. P (f x)) (λ x has e. (x, has, e)) xs (All-contains_itself xs))) c refl
-
   -- each may be named after those before it
-  lead_names : (q : Task) (x : Point) (seen ids : List ℕ) (s : Search) → s.atoms ≡ map lit seen → StandOnce (seen ++ ids) → AllByRecursion (IsAtomAt ns all) seen → AllByRecursion (IsAtomAt ns all) ids
+  pub lead_names : (q : Task) (x : Point) (seen ids : List ℕ) (s : Search) → s.atoms ≡ map lit seen → StandOnce (seen ++ ids) → AllByRecursion (IsAtomAt ns all) seen → AllByRecursion (IsAtomAt ns all) ids
       → AllByRecursion (λ i. IsPlainAtom q (lit i)) ids → Lead q s x (map (noted_line ns) (atom_lines all ids)) x
   lead_names q x seen [] s same once before within each = ([], refl)
   lead_names q x seen (i ∷ ids) s same once before within each =
       let joined : (seen ++ i ∷ []) ++ ids ≡ seen ++ i ∷ ids = append_assoc seen (i ∷ []) ids in
-      let fresh : Contains s.atoms (lit i) → ⊥ = λ c.
-      let was = from_map lit seen (lit i) (subst (λ (ls : List Literal). Contains ls (lit i)) same c) in
-      let inside = All-contains (IsAtomAt ns all) seen was.0 (All-from_recursion (IsAtomAt ns all) seen before) was.1 in
-      let number : was.0 ≡ i = one_atom i was.0 within.0 inside was.2 in
-      let place = place_of seen was.0 was.1 in
-      let first : slice_get (seen ++ i ∷ ids) place.0 ≡ Some i = slice_get_kept seen (i ∷ ids) place.0 was.0 place.1 ∙ ap Some number in
+      let inside = All-from_recursion (IsAtomAt ns all) seen before in
+      let IsOther : Literal → Literal → Type 0 = λ l m. SayTheSame m l → ⊥ in
+      let fresh : All (IsOther (lit i)) s.atoms =
+      subst (All (IsOther (lit i))) (sym same)
+      (All-map (IsOther (lit i)) lit seen
+      (λ k d below alike.
+      let was = get_or seen k d in
+      let at : slice_get seen k ≡ Some was = slice_get-get_or seen k d below in
+      let number : was ≡ i = one_said i was within.0 (inside k d below) alike in
+      let first : slice_get (seen ++ i ∷ ids) k ≡ Some i = slice_get_kept seen (i ∷ ids) k was at ∙ ap Some number in
       let second : slice_get (seen ++ i ∷ ids) (length seen) ≡ Some i = in_second seen (i ∷ ids) (length seen) 0 (omega arith) in
-      let meet : place.0 ≡ length seen = once place.0 (length seen) i first second in
-      let below = slice_get_within seen place.0 was.0 place.1 in
-      omega (arith, meet, below) in
-      let other : Contains s.atoms (negation_of (lit i)) → ⊥ = λ c.
-      let was = from_map lit seen (negation_of (lit i)) (subst (λ (ls : List Literal). Contains ls (negation_of (lit i))) same c) in
-      let inside = All-contains (IsAtomAt ns all) seen was.0 (All-from_recursion (IsAtomAt ns all) seen before) was.1 in
-      negated (lit i) (positive i within.0) (subst IsPositive was.2 (positive was.0 inside)) in
+      let meet : k ≡ length seen = once k (length seen) i first second in
+      omega (arith, meet, below))) in
+      let other : All (IsOther (negation_of (lit i))) s.atoms =
+      subst (All (IsOther (negation_of (lit i)))) (sym same)
+      (All-map (IsOther (negation_of (lit i))) lit seen
+      (λ k d below alike.
+      let was = get_or seen k d in
+      negated (lit i) (positive i within.0) (positive_said (lit was) (negation_of (lit i)) alike (positive was (inside k d below))))) in
       let may : MayName q s x (lit i) = record { atom = plain_atom q s x (lit i) each.0; fresh = fresh; negation_fresh = other } in
       let rest : Lead q (after_line s (NoteLine (atom_note (lit i)))) x (map (noted_line ns) (atom_lines all ids)) x =
       lead_names q x (seen ++ i ∷ []) ids (record s { atoms = s.atoms ++ lit i ∷ [] })
@@ -172,7 +177,7 @@ module _ (goes_on : LegalWorkGoesOn) (tells : TellsLits) (tells_spec : TellsLite
       subst (λ (line : WorkLine spec.Note). Lead q s x (line ∷ map (noted_line ns) (atom_lines all ids)) x) (sym (line_says i within.0)) (x, x, ([], refl), (may, refl), rest)
 
   -- where the search stands then
-  after_names : (ids : List ℕ) (s : Search) → AllByRecursion (IsAtomAt ns all) ids → after_lines s (map (noted_line ns) (atom_lines all ids)) ≡ record s { atoms = s.atoms ++ map lit ids }
+  pub after_names : (ids : List ℕ) (s : Search) → AllByRecursion (IsAtomAt ns all) ids → after_lines s (map (noted_line ns) (atom_lines all ids)) ≡ record s { atoms = s.atoms ++ map lit ids }
   after_names [] s within = ap (λ (ls : List Literal). record s { atoms = ls }) (sym (append-nil s.atoms))
   after_names (i ∷ ids) s within =
       ap (λ (line : WorkLine spec.Note). after_lines (after_line s line) (map (noted_line ns) (atom_lines all ids))) (line_says i within.0)
@@ -248,15 +253,16 @@ module _ (goes_on : LegalWorkGoesOn) (tells : TellsLits) (tells_spec : TellsLite
           once_front : (n : ℕ) (xs : List ℕ) → StandOnce xs → StandOnce (take n xs)
           once_front n xs h i j x a b = h i j x (in_front i n xs x a) (in_front j n xs x b)
 
-      pub plain_first : (n : ℕ) → work.lines ≡ mid.lines ++ atom_lines all (take n ids) → IsPlain q (search_after ns work)
+      pub plain_first : (n : ℕ) → work.lines ≡ mid.lines ++ atom_lines all (take n ids) → IsPlain q at_first (search_after ns work)
       plain_first n lines =
           let names = take n ids in
-          subst (IsPlain q) (sym (stood names (recursion_from_All (IsAtomAt ns all) names (All-take (IsAtomAt ns all) n ids may.within)) work lines))
-          (record { atoms = All-map (IsPlainAtom q) lit names (All-take (λ i. IsPlainAtom q (lit i)) n ids may.nameable); begun = omega arith })
+          subst (IsPlain q at_first) (sym (stood names (recursion_from_All (IsAtomAt ns all) names (All-take (IsAtomAt ns all) n ids may.within)) work lines))
+          (record { atoms = All-map (IsPlainAtom q) lit names (All-take (λ i. IsPlainAtom q (lit i)) n ids may.nameable); begun = omega arith; found = refl; branches = refl })
 
-      pub plain_all : work.lines ≡ mid.lines ++ atom_lines all ids → IsPlain q (search_after ns work)
+      pub plain_all : work.lines ≡ mid.lines ++ atom_lines all ids → IsPlain q at_first (search_after ns work)
       plain_all lines =
-          subst (IsPlain q) (sym (stood ids each_within work lines)) (record { atoms = All-map (IsPlainAtom q) lit ids may.nameable; begun = omega arith })
+          subst (IsPlain q at_first) (sym (stood ids each_within work lines))
+          (record { atoms = All-map (IsPlainAtom q) lit ids may.nameable; begun = omega arith; found = refl; branches = refl })
 
 -- where the note of a start leads
 pub started : (ns : List Node) (t : Theory) (old new : WorkList Note) → old.lines ≡ [] → (n : NotesStart t old new) → search_after ns new ≡ record at_first { forms = forms_over ns n.start.forms.items }
@@ -265,16 +271,17 @@ started ns t old new none n =
     ∙ ap (λ (ls : List (WorkLine Note)). after_lines at_first (map (noted_line ns) (ls ++ NoteLine (Start n.start) ∷ []))) none
 
 -- forms that join leave a search plain
-forms_plain : (ns : List Node) (q : Task) (s : Search) (ks : List ℕ) → IsPlain q s → IsPlain q (after_lines s (map (noted_line ns) (form_lines ks)))
-forms_plain ns q s [] h = h
-forms_plain ns q s (k ∷ ks) h = forms_plain ns q (after_line s (NoteLine (form_note k))) ks (record { atoms = h.atoms; begun = h.begun })
+forms_plain : (ns : List Node) (q : Task) (first s : Search) (ks : List ℕ) → IsPlain q first s → IsPlain q first (after_lines s (map (noted_line ns) (form_lines ks)))
+forms_plain ns q first s [] h = h
+forms_plain ns q first s (k ∷ ks) h =
+    forms_plain ns q first (after_line s (NoteLine (form_note k))) ks (record { atoms = h.atoms; begun = h.begun; found = h.found; branches = h.branches })
 
-pub plain_still : (ns : List Node) (q : Task) (old new : WorkList Note) → NotesForms old new → IsPlain q (search_after ns old) → IsPlain q (search_after ns new)
-plain_still ns q old new forms h =
+pub plain_still : (ns : List Node) (q : Task) (first : Search) (old new : WorkList Note) → NotesForms old new → IsPlain q first (search_after ns old) → IsPlain q first (search_after ns new)
+plain_still ns q first old new forms h =
     let behind = map (noted_line ns) (form_lines forms.forms) in
     let same : search_after ns new ≡ after_lines (search_after ns old) behind =
     ap (search_after ns) forms.noted ∙ ap (after_lines at_first) (lines_both ns old.lines (form_lines forms.forms)) ∙ after_both at_first (map (noted_line ns) old.lines) behind in
-    subst (IsPlain q) (sym same) (forms_plain ns q (search_after ns old) forms.forms h)
+    subst (IsPlain q first) (sym same) (forms_plain ns q first (search_after ns old) forms.forms h)
 
 -- ---- What lines note
 
@@ -331,7 +338,7 @@ named_by : (a : log.Atom) (lines : List (WorkLine Note)) → noted_atoms (NoteLi
 named_by (atoms.Term t) lines = refl
 named_by (atoms.AtMost b) lines = refl
 
-begun_noted : (all : List log.Atom) (ids ks : List ℕ) → noted_atoms (atom_lines all ids ++ form_lines ks) ≡ map (atom_at all) ids
+pub begun_noted : (all : List log.Atom) (ids ks : List ℕ) → noted_atoms (atom_lines all ids ++ form_lines ks) ≡ map (atom_at all) ids
 begun_noted all [] ks = forms_noted ks
 begun_noted all (i ∷ ids) ks = named_by (atom_at all i) (atom_lines all ids ++ form_lines ks) ∙ ap (λ (xs : List log.Atom). atom_at all i ∷ xs) (begun_noted all ids ks)
 
@@ -347,7 +354,7 @@ lines_unbegun ns all [] (k ∷ ks) s h =
 lines_unbegun ns all (i ∷ ids) ks s h =
     lines_unbegun ns all ids ks (after_line s (noted_line ns (NoteLine (note_of (atom_at all i))))) (atom_unbegun ns (atom_at all i) s h)
 
-there_all : (all : List log.Atom) (ids : List ℕ) → AllByRecursion (λ i. i < length all) ids → map (slice_get all) ids ≡ map Some (map (atom_at all) ids)
+pub there_all : (all : List log.Atom) (ids : List ℕ) → AllByRecursion (λ i. i < length all) ids → map (slice_get all) ids ≡ map Some (map (atom_at all) ids)
 there_all all [] h = refl
 there_all all (i ∷ ids) h =
     let first : slice_get all i ≡ Some (atom_at all i) = slice_get-get_or all i (atoms.Term 0) h.0 in
@@ -382,7 +389,7 @@ notes_more all ids n d old work new note below before is step =
 -- ---- What a search goes under
 
 -- one note more begins a search, which goes under what is assumed
-under_after : (ns : List Node) (assumed : List TermLit) (old new : WorkList Note) → NotesUnder assumed old new → search_after ns new ≡ after_line (search_after ns old) (NoteLine (under_note (map (literal_of ns) assumed)))
+pub under_after : (ns : List Node) (assumed : List TermLit) (old new : WorkList Note) → NotesUnder assumed old new → search_after ns new ≡ after_line (search_after ns old) (NoteLine (under_note (map (literal_of ns) assumed)))
 under_after ns assumed old new n =
     ap (search_after ns) n.line ∙ ap (after_lines at_first) (lines_both ns old.lines (NoteLine (notes.Under n.literals) ∷ []))
     ∙ after_both at_first (map (noted_line ns) old.lines) (NoteLine (under_note (map (literal_of ns) n.literals.items)) ∷ [])
@@ -399,43 +406,46 @@ noted_under (NoteLine (notes.Under ls) ∷ lines) literals = noted_under lines l
 noted_under (NoteLine (notes.Told atom sign) ∷ lines) literals = noted_under lines literals
 
 module _ (assumed : List TermLit) (old new : WorkList Note) (n : NotesUnder assumed old new) where
-  pub goes_under : (all : List log.Atom) (ids : List ℕ) → NotesAll all ids old → GoesUnder all ids assumed new
-  goes_under all ids h =
-      record {
-        noted = h.noted ∙ ap (map Some) (sym (ap (λ (w : WorkList Note). noted_atoms w.lines) n.line ∙ noted_under old.lines n.literals));
-        under = λ ns.
-            let u = h.unbegun ns in
-            subst (HasGoneUnder (map (literal_of ns) assumed)) (sym (under_after ns assumed old new n)) (record { begun = ap suc u.begun; under = refl; decided = refl; learned = u.learned; told = refl });
-      }
+  -- the list names the same atoms
+  pub noted_still : (all : List log.Atom) (ids : List ℕ) → AreNotedIn all old.lines ids → AreNotedIn all new.lines ids
+  noted_still all ids h = h ∙ ap (map Some) (sym (ap (λ (w : WorkList Note). noted_atoms w.lines) n.line ∙ noted_under old.lines n.literals))
 
-  pub plain_under : (ns : List Node) (q : Task) → IsUnbegun (search_after ns old) → IsPlain q (search_after ns old) → IsPlain q (search_after ns new)
-  plain_under ns q u h =
-      let count = u.begun in
-      subst (IsPlain q) (sym (under_after ns assumed old new n)) (record { atoms = h.atoms; begun = omega (arith, count) })
+  pub has_gone : (ns : List Node) → HasGoneUnder (map (literal_of ns) assumed) (search_after ns new)
+  has_gone ns = subst (HasGoneUnder (map (literal_of ns) assumed)) (sym (under_after ns assumed old new n)) (record { begun = omega arith; under = refl; decided = refl; told = refl })
 
-  -- a theory stands there still
-  pub stands_under : LegalWorkGoesOn → (ns : List Node) (levels : List (List ℕ)) (ts : List Term) (t : Theory) → IsUnbegun (search_after ns old)
-      → Stands (IsAt t ns) ns (task_in ns levels assumed ts) old → Stands (IsAt t ns) ns (task_in ns levels assumed ts) new
-  stands_under goes_on ns levels ts t u h =
-      let q = task_in ns levels assumed ts in
+  pub goes_under : (all : List log.Atom) (ids : List ℕ) → AreNotedIn all old.lines ids → GoesUnder all ids assumed new
+  goes_under all ids h = record { noted = noted_still all ids h; under = has_gone }
+
+  pub plain_under : (ns : List Node) (q : Task) (first : Search) → (search_after ns old).begun ≡ first.begun → IsPlain q first (search_after ns old) → IsPlain q first (search_after ns new)
+  plain_under ns q first count h =
+      subst (IsPlain q first) (sym (under_after ns assumed old new n))
+      (record { atoms = h.atoms; begun = omega (arith, count); found = h.found; branches = h.branches })
+
+  -- what was learned is the same
+  pub learned_under : (all : LogState) (ids : List ℕ) (held : List Held) → HoldsLearned all ids held old → HoldsLearned all ids held new
+  learned_under all ids held h ns =
+      subst (λ (s : Search). All (λ (c : List (ℕ × Bool)). (i : ℕ) × Contains (sat.ids held) i × (map (numbered ids) (literals_at all i) ≡ c)) s.learned) (sym (under_after ns assumed old new n)) (h ns)
+
+  -- a theory that was told nothing stands there
+  pub stands_under : LegalWorkGoesOn → (ns : List Node) (q : Task) (t : Theory) → All (Contains q.assumed) (map (literal_of ns) assumed)
+      → ((search_after ns old).begun ≡ 0 → ((search_after ns old).decided ≡ []) × ((search_after ns old).learned ≡ []) × ((search_after ns old).told ≡ []))
+      → (x : Point) → Lead q at_first no_point (noted_list ns old).lines x → IsAt t ns (search_after ns old).forms [] x → Stands (IsAt t ns) ns q new
+  stands_under goes_on ns q t each first x lead at =
       let ls = map (literal_of ns) assumed in
       let s = search_after ns old in
-      let each : All (λ (l : Literal). Contains ls l) ls = All-contains_itself ls in
-      let may : MayGoUnder q s h.point ls = record {
-        literals = inl (All-weaker (λ (l : Literal). Contains ls l) (λ (l : Literal). Contains ls l ⊎ IsComparison q s h.point l) (λ l has. inl has) ls each);
-        first = λ none. (u.decided, u.learned, u.told);
+      let may : MayGoUnder q s x ls = record {
+        literals = inl (All-weaker (Contains q.assumed) (λ (l : Literal). Contains q.assumed l ⊎ IsComparison q s x l) (λ l has. inl has) ls each);
+        first = first;
       } in
-      let told : told_literals s ≡ [] = ap (λ (xs : List ToldLiteral). map (λ (x : ToldLiteral). x.literal) xs) u.told in
       let line : WorkLine spec.Note = NoteLine (under_note ls) in
       let lines : (noted_list ns new).lines ≡ (noted_list ns old).lines ++ line ∷ [] =
       ap (λ (w : WorkList Note). (noted_list ns w).lines) n.line ∙ lines_both ns old.lines (NoteLine (notes.Under n.literals) ∷ [])
       ∙ ap (λ (ms : List TermLit). (noted_list ns old).lines ++ NoteLine (under_note (map (literal_of ns) ms)) ∷ []) n.items in
       record {
-        point = h.point;
-        legal = subst (λ (ms : List (WorkLine spec.Note)). Lead q at_first no_point ms h.point) (sym lines)
-            (goes_on.line q at_first no_point h.point h.point (noted_list ns old).lines line h.legal (may, refl));
-        at = subst (λ (r : Search). IsAt t ns r.forms (told_literals r) h.point) (sym (under_after ns assumed old new n))
-            (subst (λ (ms : List Literal). IsAt t ns s.forms ms h.point) told h.at);
+        point = x;
+        legal = subst (λ (ms : List (WorkLine spec.Note)). Lead q at_first no_point ms x) (sym lines)
+            (goes_on.line q at_first no_point x x (noted_list ns old).lines line lead (may, refl));
+        at = subst (λ (r : Search). IsAt t ns r.forms (told_literals r) x) (sym (under_after ns assumed old new n)) at;
       }
 
 -- ---- Stops
@@ -474,56 +484,31 @@ once_from_pairs ids pairs i j t e k =
 
 -- ---- What a search is asked lists what the atoms are
 
-mutual
-  part_of : (t u : Term) → Contains (post_order t) u → Contains (listing_order t) u
-  part_of (apply h ts) u c =
-      let last = apply h ts ∷ [] in
-      elim (Contains-append_cases (post_orders ts) last u c) [
-        | inl part ↦ Contains-append_left (listing_orders ts ++ companions h ts) last u (Contains-append_left (listing_orders ts) (companions h ts) u (parts_of ts u part))
-        | inr whole ↦ Contains-append_right (listing_orders ts ++ companions h ts) last u whole
-      ]
-
-  parts_of : (ts : Terms) (u : Term) → Contains (post_orders ts) u → Contains (listing_orders ts) u
-  parts_of no_terms u c = c
-  parts_of (terms t ts) u c =
-      elim (Contains-append_cases (post_order t) (post_orders ts) u c) [
-        | inl first ↦ Contains-append_left (listing_order t) (listing_orders ts) u (part_of t u first)
-        | inr other ↦ Contains-append_right (listing_order t) (listing_orders ts) u (parts_of ts u other)
-      ]
-
-each_listed : (ts : List Term) (u : Term) → Contains (flat_map post_order ts) u → Contains (flat_map listing_order ts) u
-each_listed [] u c = c
-each_listed (t ∷ ts) u c =
-    elim (Contains-append_cases (post_order t) (flat_map post_order ts) u c) [
-      | inl first ↦ Contains-append_left (listing_order t) (flat_map listing_order ts) u (part_of t u first)
-      | inr other ↦ Contains-append_right (listing_order t) (flat_map listing_order ts) u (each_listed ts u other)
-    ]
-
 named_terms : (ns : List Node) (ls : List TermLit) → map (term_in ns) (terms_named ls) ≡ map (λ (l : TermLit). term_in ns l.term) ls
 named_terms ns [] = refl
 named_terms ns (l ∷ ls) = ap (λ ts. term_in ns l.term ∷ ts) (named_terms ns ls)
 
--- what one of the roots is made of is listed
-each_root : (f : ℕ → Term) (rs : List ℕ) → AllByRecursion (λ r. (u : Term) → Contains (post_order (f r)) u → Contains (flat_map post_order (map f rs)) u) rs
+-- what is listed with one of the roots is listed with all
+each_root : (f : ℕ → Term) (rs : List ℕ) → AllByRecursion (λ r. (u : Term) → Contains (listing_order (f r)) u → Contains (flat_map listing_order (map f rs)) u) rs
 each_root f [] = tt
 each_root f (r ∷ rs) =
-    let rest = flat_map post_order (map f rs) in (
-      (λ u c. Contains-append_left (post_order (f r)) rest u c),
-      AllByRecursion-weaker (λ s. (u : Term) → Contains (post_order (f s)) u → Contains rest u) (λ s. (u : Term) → Contains (post_order (f s)) u → Contains (post_order (f r) ++ rest) u)
-          (λ s h u c. Contains-append_right (post_order (f r)) rest u (h u c)) rs (each_root f rs),
+    let rest = flat_map listing_order (map f rs) in (
+      (λ u c. Contains-append_left (listing_order (f r)) rest u c),
+      AllByRecursion-weaker (λ s. (u : Term) → Contains (listing_order (f s)) u → Contains rest u) (λ s. (u : Term) → Contains (listing_order (f s)) u → Contains (listing_order (f r) ++ rest) u)
+          (λ s h u c. Contains-append_right (listing_order (f r)) rest u (h u c)) rs (each_root f rs),
     )
 
-part_of_roots : (f : ℕ → Term) (rs : List ℕ) (r : ℕ) → Contains rs r → (u : Term) → Contains (post_order (f r)) u → Contains (flat_map post_order (map f rs)) u
+part_of_roots : (f : ℕ → Term) (rs : List ℕ) (r : ℕ) → Contains rs r → (u : Term) → Contains (listing_order (f r)) u → Contains (flat_map listing_order (map f rs)) u
 part_of_roots f rs r has =
-    let P : ℕ → Type 0 = λ s. (u : Term) → Contains (post_order (f s)) u → Contains (flat_map post_order (map f rs)) u in
+    let P : ℕ → Type 0 = λ s. (u : Term) → Contains (listing_order (f s)) u → Contains (flat_map listing_order (map f rs)) u in
     All-contains P rs r (All-from_recursion P rs (each_root f rs)) has
 
--- what a root is made of is listed in what is asked
-pub listed_part : (ns : List Node) (levels : List (List ℕ)) (assumed : List TermLit) (r : ℕ) → Contains (asserted_numbers levels ++ terms_named assumed) r → (u : Term)
-    → Contains (post_order (term_in ns r)) u → Contains (task_in ns levels assumed []).listed u
+-- what is listed with a root is listed in what is asked
+pub listed_part : (ns : List Node) (levels : List Level) (assumed : List TermLit) (r : ℕ) → Contains (asserted_numbers (added_by_level levels) ++ terms_named assumed) r → (u : Term)
+    → Contains (listing_order (term_in ns r)) u → Contains (task_in ns levels assumed []).listed u
 listed_part ns levels assumed r has u part =
-    let roots = asserted_numbers levels ++ terms_named assumed in
-    let same : map (term_in ns) roots ≡ asserted_terms ns levels ++ map (λ (l : TermLit). term_in ns l.term) assumed =
-    map-append (term_in ns) (asserted_numbers levels) (terms_named assumed) ∙ ap (λ us. asserted_terms ns levels ++ us) (named_terms ns assumed) in
+    let roots = asserted_numbers (added_by_level levels) ++ terms_named assumed in
+    let same : map (term_in ns) roots ≡ asserted_terms ns (added_by_level levels) ++ map (λ (l : TermLit). term_in ns l.term) assumed =
+    map-append (term_in ns) (asserted_numbers (added_by_level levels)) (terms_named assumed) ∙ ap (λ us. asserted_terms ns (added_by_level levels) ++ us) (named_terms ns assumed) in
     subst (λ (us : List Term). Contains (flat_map listing_order us) u) same
-    (each_listed (map (term_in ns) roots) u (part_of_roots (term_in ns) roots r has u part))
+    (part_of_roots (term_in ns) roots r has u part)

@@ -1,26 +1,29 @@
 -- How a check ends: its lines are legal, and where an operation left the numbers a search may stop.
-use Rattle.std.proofs.Common.{◌≡◌, inl, inr, ℕ, ◌+◌, ◌≤◌, List, [], ◌∷◌, ◌++◌, map, refl, sym, ap, subst, ◌∙◌, arith}
+use Rattle.std.proofs.Common.{◌≡◌, ◌⊎◌, inl, inr, ℕ, ◌+◌, ◌*◌, ◌≤◌, false, length, List, [], ◌∷◌, ◌++◌, map, refl, sym, ap, subst, ◌∙◌, arith}
 use Rattle.std.specs.Prelude.{All, Contains, if◌then◌else◌}
+use Rattle.std.proofs.lemmas.List.Elements.{All-contains}
 use Rattle.std.proofs.lemmas.List.Sums.{sum_by-append, sum_by-cons}
 use Rattle.nz_fractions.specs.Fraction.{Operation}
 use Rattle.nz_spec.specs.simplex.Bland.{IsCheckStep, Point, Position}
 use Rattle.nz_spec.specs.search.Decide.{asserted_numbers}
-use Rattle.nz_spec.specs.search.Search.{Task, Search, at_first, no_point, position_of, told_literals}
-use Rattle.nz_spec.specs.search.Legal.{Lead, AreLegal, IsSpentLegally}
-use Rattle.nz_spec.specs.search.Places.{AreAllTold, IsDue, IsOperationAt, IsOperationIn}
-use Rattle.nz_spec.specs.laws.LegalWork.{PivotsAreLegal, PlainWorkIsLegal}
+use Rattle.nz_spec.specs.search.Search.{Task, Found, Search, at_first, no_point, position_of, told_literals}
+use Rattle.nz_spec.specs.search.Atoms.{IsBoundOf, IsTruth}
+use Rattle.nz_spec.specs.search.Legal.{Lead, AreFew, AreLegal, AreSpread, IsSpentLegally, events}
+use Rattle.nz_spec.specs.search.Places.{AreAllTold, IsDue, IsOperationAt, IsOperationIn, term_operations}
+use Rattle.nz_spec.specs.laws.LegalWork.{PivotsAreLegal}
 use Rattle.nz_spec.specs.simplex.Pivots.{pivot}
+use Rattle.nz_spec.specs.clauses.Literal.{Literal}
+use Rattle.nz_spec.specs.terms.Form.{Numbering}
 use Rattle.nz_spec.specs.terms.Table.{Node, term_in}
 use Rattle.nz_spec.specs.search.Notes as noted
 use Rattle.nz_spec.specs.search.Work.{WorkLine, UnitLine, NoteLine, WorkList, IsSpent, is_unit, unit_count}
 use Rattle.nz_frac.specs.Operations.{operation_of}
-use Rattle.nz_spec.specs.terms.Term as spec
 use Rattle.nz_log.specs.declared.atoms.Atom.{Atom}
 use Rattle.nz_search.specs.declared.note.Note.{Note}
 use Rattle.nz_search.specs.declared.note.Note.TheVariants as notes
 use Rattle.nz_place.specs.declared.place.Place.{Place}
 use Rattle.nz_place.specs.declared.place.Site as sites
-use Rattle.nz_place.specs.declared.place.Site.TheVariants.{Term, Joining, Exchange, Value, Sum, Limit, Model}
+use Rattle.nz_place.specs.declared.place.Site.TheVariants.{Term, Goal, Joining, Exchange, Value, Sum, Cut, Tight, Split, Move, Limit, Model, Worth, Line, GoalLine, Scaling}
 use Rattle.nz_search.specs.declared.stop.Stop.{Stop}
 use Rattle.nz_search.specs.declared.stop.Stop.TheVariants.{Wide, Spent, Memory}
 use Rattle.nz_term.specs.declared.term_lits.TermLit.{TermLit}
@@ -29,14 +32,17 @@ use Rattle.nz_search.specs.Notes.{noted_line, noted_list, AreNotedWithin}
 use Rattle.nz_place.specs.Places.{IsSiteWithin, site_of}
 use Rattle.nz_search.specs.Places.{OnWide}
 use Rattle.nz_search.specs.Standing.{IsStoppedAt, IsWanting, Stands, search_after}
+use Rattle.nz_search.specs.Asked.{HasRoom, MayCheck}
 use Rattle.nz_search.specs.Theories.{IsDueIn}
-use Rattle.nz_search.specs.Verdicts.{OnSpent, task_in}
+use Rattle.nz_search.specs.Verdicts.{OnSpent}
 use Rattle.nz_reals.specs.Joins.{IsStoppedJoining}
 use Rattle.nz_reals.specs.Limits.{IsPlaceOfValues}
 use Rattle.nz_reals.specs.Stands.{IsAt, IsOver}
 use Rattle.nz_reals.specs.State.{Theory}
 use Rattle.nz_sat.specs.Numbers.{IsAtomAt}
-use Rattle.nz_engine.specs.Checking.{EndsWith, HasBegun, IsPlain, IsRootStop, IsStop, IsStopOf, IsTermPlace, IsTermStop, NotesUnder, Works, terms_named}
+use Rattle.nz_search.specs.Levels.{Level, added_by_level}
+use Rattle.nz_engine.specs.Checking.{EndsWith, HasBegun, IsPlain, IsPlainAtom, IsRootStop, IsStop, IsStopOf, IsTermPlace, IsTermStop, NotesUnder, Works, terms_named}
+use Rattle.nz_engine.proofs.SaidAtoms.{says_itself}
 use Rattle.nz_engine.proofs.AtomNotes.{listed_part, within_append}
 
 -- ---- Work
@@ -45,10 +51,12 @@ use Rattle.nz_engine.proofs.AtomNotes.{listed_part, within_append}
 pub lead_none : (q : Task) (ns : List Node) (work : WorkList Note) → work.lines ≡ [] → Lead q at_first no_point (noted_list ns work).lines no_point
 lead_none q ns work none = subst (λ (ls : List (WorkLine Note)). Lead q at_first no_point (map (noted_line ns) ls) no_point) (sym none) ([], refl)
 
-pub plain_none : (q : Task) (ns : List Node) (work : WorkList Note) → work.lines ≡ [] → IsPlain q (search_after ns work)
+pub first_none : (ns : List Node) (work : WorkList Note) → work.lines ≡ [] → search_after ns work ≡ at_first
+first_none ns work none = ap (λ (ls : List (WorkLine Note)). search_after ns (record work { lines = ls })) none
+
+pub plain_none : (q : Task) (ns : List Node) (work : WorkList Note) → work.lines ≡ [] → IsPlain q at_first (search_after ns work)
 plain_none q ns work none =
-    subst (λ (ls : List (WorkLine Note)). IsPlain q (search_after ns (record work { lines = ls }))) (sym none)
-    (record { atoms = λ k d below. absurd (omega (arith, below)); begun = omega arith })
+    subst (IsPlain q at_first) (sym (first_none ns work none)) (record { atoms = λ k d below. absurd (omega (arith, below)); begun = omega arith; found = refl; branches = refl })
 
 -- nothing is noted
 pub works_none : (ns : List Node) (work : WorkList Note) → work.lines ≡ [] → Works ns work work
@@ -92,19 +100,29 @@ same_units ns (NoteLine note ∷ lines) = same_units ns lines
 
 -- ---- Places
 
-by_site : (ns : List Node) (q : Task) (s : Search) (x : Point) (site : sites.Site) (op : Operation) → IsOperationIn q.numbering (told_literals s) (position_of s x) (site_of ns site) op
+by_site : (ns : List Node) (q : Task) (s : Search) (x : Point) (site : sites.Site) (op : Operation) → IsOperationIn (told_literals s) (position_of s x) (site_of ns site) op
     → IsOperationAt q s x (site_of ns site) op
 by_site ns q s x (Term t) op h = absurd h
+by_site ns q s x (Goal goal) op h = absurd h
 by_site ns q s x Joining op h = h
 by_site ns q s x (Exchange leaves enters) op h = h
 by_site ns q s x (Value form) op h = h
 by_site ns q s x (Sum multiples) op h = h
+by_site ns q s x (Cut multiples) op h = h
+by_site ns q s x (Tight bound) op h = absurd h
+by_site ns q s x (Split unit) op h = absurd h
+by_site ns q s x (Move form moves side) op h = h
 by_site ns q s x (Limit form side) op h = h
 by_site ns q s x (Model form) op h = absurd h
+by_site ns q s x (Worth term model) op h = absurd h
+by_site ns q s x (Line term family) op h = absurd h
+by_site ns q s x (GoalLine goal family) op h = absurd h
+by_site ns q s x (Scaling forms moves) op h = h
 
 -- an exchange that may be next is one of the list
 due_site : PivotsAreLegal → (ns : List Node) (q : Task) (lines : List (WorkLine noted.Note)) (s : Search) (x : Point) (site : sites.Site) → IsDueIn (position_of s x) site → IsDue q lines s x (site_of ns site)
 due_site pivots ns q lines s x (Term t) h = absurd h
+due_site pivots ns q lines s x (Goal goal) h = absurd h
 due_site pivots ns q lines s x Joining h = absurd h
 due_site pivots ns q lines s x (Exchange leaves enters) h =
     let next = h.1 in
@@ -113,17 +131,47 @@ due_site pivots ns q lines s x (Exchange leaves enters) h =
     (next.after.point, inl (h.0, step))
 due_site pivots ns q lines s x (Value form) h = tt
 due_site pivots ns q lines s x (Sum multiples) h = tt
+due_site pivots ns q lines s x (Cut multiples) h = absurd h
+due_site pivots ns q lines s x (Tight bound) h = absurd h
+due_site pivots ns q lines s x (Split unit) h = absurd h
+due_site pivots ns q lines s x (Move form moves side) h = absurd h
 due_site pivots ns q lines s x (Limit form side) h = absurd h
 due_site pivots ns q lines s x (Model form) h = absurd h
+due_site pivots ns q lines s x (Worth term model) h = absurd h
+due_site pivots ns q lines s x (Line term family) h = absurd h
+due_site pivots ns q lines s x (GoalLine goal family) h = absurd h
+due_site pivots ns q lines s x (Scaling forms moves) h = absurd h
 
--- what a list leads to, where a check of terms and their tables stands
-module _ (plain_legal : PlainWorkIsLegal) (ns : List Node) (levels : List (List ℕ)) (assumed : List TermLit) (ts : List spec.Term) (work : WorkList Note)
-    (plain : IsPlain (task_in ns levels assumed ts) (search_after ns work)) where
-  abbrev q : Task
-  q = task_in ns levels assumed ts
+-- no atom is of anything else than what is listed
+none_other : (q : Task) (s : Search) → All (IsPlainAtom q) s.atoms → (others : List Literal) → All (λ (l : Literal). Contains s.atoms l × (IsTruth q.listed l ⊎ IsBoundOf q.numbering q.listed l → ⊥)) others
+    → length others ≤ 2 * events q s
+none_other q s all [] each = omega arith
+none_other q s all (l ∷ others) each =
+    let other = All-contains (λ (m : Literal). Contains s.atoms m × (IsTruth q.listed m ⊎ IsBoundOf q.numbering q.listed m → ⊥)) (l ∷ others) l each (0, omega arith, refl) in
+    absurd (other.1 (elim (All-contains (IsPlainAtom q) s.atoms l all other.0) [
+      | inl truth ↦ inl truth
+      | inr tabled ↦ inr (record { plain = l; tabled = tabled; written = l; same = says_itself l; is_tight = false; is = refl })
+    ]))
+
+-- what was few stays few, with one search more
+few_still : (q : Task) (old new : Search) → IsPlain q old new → AreFew q old → HasRoom q old → AreFew q new
+few_still q old new plain few room =
+    let more = plain.begun in
+    let count = ap (λ (fs : List Found). length fs) plain.found in
+    record {
+      atoms = λ others once each. none_other q new plain.atoms others each;
+      begun = omega (arith, more, room, count);
+      spread = subst (AreSpread q) (sym plain.found) few.spread;
+    }
+
+-- what a list leads to, where a check of terms and their tables stands that may be made of one before
+module _ (ns : List Node) (levels : List Level) (assumed : List TermLit) (q : Task) (before work : WorkList Note) (asked : MayCheck ns levels assumed q before)
+    (plain : IsPlain q (search_after ns before) (search_after ns work)) where
+  pub few_at : AreFew q (search_after ns work)
+  few_at = few_still q (search_after ns before) (search_after ns work) plain asked.goes_on.few asked.goes_on.room
 
   abbrev pub legal_at : (x : Point) → Lead q at_first no_point (noted_list ns work).lines x → AreLegal q (noted_list ns work).lines
-  legal_at x lead = record { point = x; lead = lead; few = (plain_legal q (noted_list ns work).lines x lead refl plain.atoms plain.begun).few }
+  legal_at x lead = record { point = x; lead = lead; few = few_at }
 
   -- each unit was used, and one more was wanted
   pub spent_at : IsWanting ns q work → IsSpent work → IsSpentLegally q (noted_list ns work)
@@ -203,35 +251,38 @@ module _ (plain_legal : PlainWorkIsLegal) (ns : List Node) (levels : List (List 
     model_stop t Spent f h told = tt
     model_stop t Memory f h told = tt
 
-  -- a term of what is asked, before anything is noted
-  module _ (none : work.lines ≡ []) where
-    term_stop : (root : ℕ) → Contains (asserted_numbers levels ++ terms_named assumed) root → (place : Place) → IsTermPlace ns (term_in ns root) place → IsStop ns q work place
-    term_stop root has place h =
-        let count : unit_count (map (noted_line ns) work.lines) ≡ 0 = ap (λ (ls : List (WorkLine Note)). unit_count (map (noted_line ns) ls)) none in
-        record {
-          within = subst (IsSiteWithin ns) (sym h.site) h.stop.within;
-          legally = record {
-            within = omega (arith, count);
-            legal = legal_at no_point (lead_none q ns work none);
-            leaves = h.stop.leaves;
-            due = subst (λ (s : sites.Site). IsDue q (noted_list ns work).lines (search_after ns work) no_point (site_of ns s)) (sym h.site) tt;
-            at = subst (λ (s : sites.Site). IsOperationAt q (search_after ns work) no_point (site_of ns s) (operation_of place.wide)) (sym h.site)
-                (record { listed = listed_part ns levels assumed root has (term_in ns h.term) h.stop.part; of = h.stop.of });
-          };
-        }
+-- a term of what is asked, before anything more is noted
+module _ (ns : List Node) (levels : List Level) (assumed : List TermLit) (q : Task) (work : WorkList Note) (asked : MayCheck ns levels assumed q work) (few : unit_count work.lines ≤ work.limit)
+    (x : Point) (lead : Lead q at_first no_point (noted_list ns work).lines x) where
+  term_stop : (root : ℕ) → Contains (asserted_numbers (added_by_level levels) ++ terms_named assumed) root → (place : Place) → IsTermPlace ns (term_in ns root) place → IsStop ns q work place
+  term_stop root has place h =
+      let count = same_units ns work.lines in
+      record {
+        within = subst (IsSiteWithin ns) (sym h.site) h.stop.within;
+        legally = record {
+          within = omega (arith, count, few);
+          legal = record { point = x; lead = lead; few = asked.goes_on.few };
+          leaves = h.stop.leaves;
+          due = subst (λ (s : sites.Site). IsDue q (noted_list ns work).lines (search_after ns work) x (site_of ns s)) (sym h.site) tt;
+          at = subst (λ (s : sites.Site). IsOperationAt q (search_after ns work) x (site_of ns s) (operation_of place.wide)) (sym h.site)
+              (record {
+                listed = asked.goes_on.listed (term_in ns h.term) (listed_part ns levels assumed root has (term_in ns h.term) h.stop.part);
+                of = inl (subst (λ (number : Numbering). Contains (term_operations number (term_in ns h.term)) (operation_of place.wide)) (sym asked.goes_on.numbering) h.stop.of);
+              });
+        };
+      }
 
-    pub root_stop : (e : Stop) → IsRootStop ns (asserted_numbers levels ++ terms_named assumed) e → OnWide e (IsStop ns q work)
-    root_stop (Wide place) h = term_stop h.0 h.1 place h.2
-    root_stop Spent h = tt
-    root_stop Memory h = tt
+  pub root_stop : (e : Stop) → IsRootStop ns (asserted_numbers (added_by_level levels) ++ terms_named assumed) e → OnWide e (IsStop ns q work)
+  root_stop (Wide place) h = term_stop h.0 h.1 place h.2
+  root_stop Spent h = tt
+  root_stop Memory h = tt
 
 -- a search that ended with no answer, where each unit was used
-pub spent_of : PlainWorkIsLegal → (ns : List Node) (levels : List (List ℕ)) (assumed : List TermLit) (ts : List spec.Term) (work : WorkList Note) (e : Stop)
-    → IsPlain (task_in ns levels assumed ts) (search_after ns work) → EndsWith ns (task_in ns levels assumed ts) work e → OnSpent e (IsSpent work)
-    → OnSpent e (IsSpentLegally (task_in ns levels assumed ts) (noted_list ns work))
-spent_of plain_legal ns levels assumed ts work (Wide place) plain h spent = tt
-spent_of plain_legal ns levels assumed ts work Spent plain h spent = spent_at plain_legal ns levels assumed ts work plain h spent
-spent_of plain_legal ns levels assumed ts work Memory plain h spent = tt
+pub spent_of : (ns : List Node) (levels : List Level) (assumed : List TermLit) (q : Task) (before work : WorkList Note) (e : Stop) → MayCheck ns levels assumed q before
+    → IsPlain q (search_after ns before) (search_after ns work) → EndsWith ns q work e → OnSpent e (IsSpent work) → OnSpent e (IsSpentLegally q (noted_list ns work))
+spent_of ns levels assumed q before work (Wide place) asked plain h spent = tt
+spent_of ns levels assumed q before work Spent asked plain h spent = spent_at ns levels assumed q before work asked plain h spent
+spent_of ns levels assumed q before work Memory asked plain h spent = tt
 
 pub root_unspent : (ns : List Node) (roots : List ℕ) (e : Stop) (P : Type 0) → IsRootStop ns roots e → OnSpent e P
 root_unspent ns roots (Wide place) P h = tt

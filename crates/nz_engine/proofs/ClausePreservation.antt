@@ -1,4 +1,4 @@
--- What is prepared stays so when a term is covered, when an assertion is given, and when a search has learned.
+-- What is prepared stays so when a term is covered, when an assertion is given, when a number is counted, and when a search has learned.
 use Rattle.std.proofs.Common.{◌≡◌, ℕ, suc, ◌<◌, ◌≤◌, inl, inr, Bool, true, false, max, List, [], ◌∷◌, ◌++◌, length, get_or, map, Option, Some, None, refl, sym, ap, subst, ◌∙◌, arith}
 use Rattle.std.specs.Prelude.{All, Contains, IsSome, IsSomeAnd, slice_get, slice_index_or, unwrap_or, option_map}
 use Rattle.std.specs.List.{AllByRecursion}
@@ -13,6 +13,7 @@ use Rattle.nz_spec.specs.search.Decide.{asserted_numbers}
 use Rattle.nz_spec.specs.clauses.Gates.{is_boolean_term}
 use Rattle.nz_spec.specs.clauses.Literal.{term_literal}
 use Rattle.nz_spec.specs.terms.Taken.{IsTaken, TakenTermsAreInOrder}
+use Rattle.nz_spec.specs.terms.Term as spec_term
 use Rattle.nz_log.specs.declared.atoms.Atom.{Atom}
 use Rattle.nz_log.specs.declared.atoms.Atom.TheVariants.{Term, AtMost}
 use Rattle.nz_log.specs.declared.lits.Lit.{Lit}
@@ -29,8 +30,9 @@ use Rattle.nz_cform.specs.Listings.{listed_at}
 use Rattle.nz_cform.specs.Laws.{CoversStay, RowsNameCovered}
 use Rattle.nz_sat.specs.declared.clauses.Held.{Held}
 use Rattle.nz_sat.specs.Sats.{AreHeld, HoldsMore, held_of}
+use Rattle.nz_search.specs.Levels.{Level, asserted_by_level, numbers_by_level}
 use Rattle.nz_engine.specs.Levels.{IsPlaced, count_in}
-use Rattle.nz_engine.specs.Preparing.{PreparedState, AreSearched, CoversAlso, HoldsUnit, IsMadeOf, IsOfForm, IsPrepared, IsSearched, unit_of}
+use Rattle.nz_engine.specs.Preparing.{PreparedState, AreSearched, CoversAlso, HoldsUnit, IsMadeOf, IsNumbered, IsOfForm, IsPrepared, IsSearched, unit_of}
 use Rattle.nz_engine.proofs.LevelPreservation.{none_or_some, some_of, some_within, still_searched}
 use Rattle.nz_engine.proofs.AssertionPlaces.{count_more, placed_in_all}
 use Rattle.nz_engine.specs.SearchLaws.{RowLaws}
@@ -137,7 +139,7 @@ row_searched named laws ns table levels s f order covers i t row taken l has =
         some_within (listed_at f.bounds l.atom) (level_at s i)
         (covers.bounds.listed i l.atom (record { term = t; row = row; literal = l; has = has; on = refl; bound = b; is_bound = at }))
 
-module _ (ns : List Node) (levels roots : List (List ℕ)) (p q : PreparedState) (t level : ℕ) (c : CoversAlso ns p t level q) (h : IsPrepared ns levels roots p) where
+module _ (ns : List Node) (levels : List Level) (roots : List (List ℕ)) (p q : PreparedState) (t level : ℕ) (c : CoversAlso ns p t level q) (h : IsPrepared ns levels roots p) where
   told_stays : (n u : ℕ) → IsToldWithin p.log n u → IsToldWithin q.log n u
   told_stays n u told =
       elim (none_or_some (covered_at p.form u)) [
@@ -149,7 +151,7 @@ module _ (ns : List Node) (levels roots : List (List ℕ)) (p q : PreparedState)
   cover_taken : TakenTermsAreInOrder → IsTaken (term_in ns t) → (u : ℕ) → IsSome (covered_at q.form u) → IsTaken (term_in ns u)
   cover_taken parts own u some =
       elim (none_or_some (covered_at p.form u)) [
-        | inl none ↦ parts.parts (term_in ns t) (term_in ns u) own (c.made u none some)
+        | inl none ↦ parts.parts (term_in ns t) (term_in ns u) own (subst (λ (us : List spec_term.Term). Contains us (term_in ns u)) (parts.listing (term_in ns t) own) (c.made u none some))
         | inr was ↦ h.taken u (subst (λ (o : Option ℕ). IsSome o) (sym was.1) refl)
       ]
 
@@ -157,7 +159,7 @@ module _ (ns : List Node) (levels roots : List (List ℕ)) (p q : PreparedState)
   row_taken : TakenTermsAreInOrder → IsTaken (term_in ns t) → (i u : ℕ) → IsRowAt q.log i u → IsTaken (term_in ns u)
   row_taken parts own i u row = cover_taken parts own u (subst (λ (o : Option ℕ). IsSome o) (sym (c.covers.rows.of_covered i u row)) refl)
 
-  cover_leveled : RowsNameCovered → TakenTermsAreInOrder → IsTable ns → IsTaken (term_in ns t) → IsLog ns levels q.log → IsLeveled q.log
+  cover_leveled : RowsNameCovered → TakenTermsAreInOrder → IsTable ns → IsTaken (term_in ns t) → IsLog ns (asserted_by_level levels) q.log → IsLeveled q.log
   cover_leveled named parts table own order i e at l has =
       elim ((c.added.live i).0 (subst (λ o. IsSome o) (sym at) refl)) [
         | inl live ↦ still_names p.log q.log c.kept e.level l (told_stays e.level) (h.leveled i e (sym (c.kept.clauses i live) ∙ at) l has)
@@ -165,7 +167,7 @@ module _ (ns : List Node) (levels roots : List (List ℕ)) (p q : PreparedState)
             let row = All-contains (λ k. (u : ℕ) × IsRowAt q.log k u) c.ids i c.added.rows new in
             let own_level : level_at q.log i ≡ e.level = ap (λ (o : Option Entry). elim o [ None ↦ 0 | Some x ↦ x.level ]) at in
             let there : Contains (literals_at q.log i) l = subst (λ (o : Option Entry). Contains (elim o [ None ↦ [] | Some x ↦ x.literals ]) l) (sym at) has in
-            let names = named ns levels q.log q.form table order c.covers i row.0 row.1 (row_taken parts own i row.0 row.1) l there in
+            let names = named ns (asserted_by_level levels) q.log q.form table order c.covers i row.0 row.1 (row_taken parts own i row.0 row.1) l there in
             record {
               atom = names.atom;
               at = names.at;
@@ -188,7 +190,7 @@ module _ (ns : List Node) (levels roots : List (List ℕ)) (p q : PreparedState)
   cover_of i (Term u) of = (let n = some_of (covered_at p.form u) of.0 in subst (λ (o : Option ℕ). IsSome o) (sym (c.grown.terms.stays u n.0 n.1)) refl, of.1)
   cover_of i (AtMost b) of = let n = some_of (listed_at p.form.bounds i) of in subst (λ (o : Option ℕ). IsSome o) (sym (c.grown.bounds.stays i n.0 n.1)) refl
 
-  cover_searched : RowsNameCovered → TakenTermsAreInOrder → RowLaws → IsTable ns → IsTaken (term_in ns t) → IsLog ns levels q.log → AreSearched ns q.log q.form q.sat.clauses
+  cover_searched : RowsNameCovered → TakenTermsAreInOrder → RowLaws → IsTable ns → IsTaken (term_in ns t) → IsLog ns (asserted_by_level levels) q.log → AreSearched ns q.log q.form q.sat.clauses
   cover_searched named parts laws table own order =
       let P = λ (x : Held). All (λ (l : Lit). IsSearched ns q.log q.form l.atom) (literals_at q.log x.id) in
       subst (AreSearched ns q.log q.form) (sym c.joined)
@@ -197,7 +199,7 @@ module _ (ns : List Node) (levels roots : List (List ℕ)) (p q : PreparedState)
       (All-weaker (λ i. (u : ℕ) × IsRowAt q.log i u) (λ i. P (held_of q.log i))
       (λ i row.
       All-weaker (Contains (literals_at q.log i)) (λ (l : Lit). IsSearched ns q.log q.form l.atom)
-      (λ l has. row_searched named laws ns table levels q.log q.form order c.covers i row.0 row.1 (row_taken parts own i row.0 row.1) l has)
+      (λ l has. row_searched named laws ns table (asserted_by_level levels) q.log q.form order c.covers i row.0 row.1 (row_taken parts own i row.0 row.1) l has)
       (literals_at q.log i) (All-contains_itself (literals_at q.log i)))
       c.ids c.added.rows)))
 
@@ -239,10 +241,11 @@ module _ (ns : List Node) (levels roots : List (List ℕ)) (p q : PreparedState)
       ]
 
   pub covered : AtomsOfTerms → RowsNameCovered → TakenTermsAreInOrder → RowLaws → IsTable ns → t < length ns → IsTaken (term_in ns t) → Contains (live_at roots level) t → level < length roots
-      → count_in levels level ≤ p.given → IsPrepared ns levels roots q
-  covered atoms named parts laws table within own has low few =
-      let order = c.sound levels h.order in
+      → count_in (asserted_by_level levels) level ≤ p.given → count_in (numbers_by_level levels) level ≤ p.numbered → IsPrepared ns levels roots q
+  covered atoms named parts laws table within own has low few less =
+      let order = c.sound (asserted_by_level levels) h.order in
       let given = c.given in
+      let numbered = c.numbered in
       record {
         order = order;
         covers = c.covers;
@@ -253,18 +256,28 @@ module _ (ns : List Node) (levels roots : List (List ℕ)) (p q : PreparedState)
         held = cover_held;
         searched = cover_searched named parts laws table own order;
         rows = cover_rows;
-        units = λ k u below at. still_units p.log q.log c.kept atoms levels p q (map (held_of q.log) c.ids) refl refl h.held c.joined k u (h.units k u (omega (arith, below, given)) at);
+        units = λ k u below at.
+            still_units p.log q.log c.kept atoms (asserted_by_level levels) p q (map (held_of q.log) c.ids) refl refl h.held c.joined k u (h.units k u (omega (arith, below, given)) at);
+        numbers = λ k u below at.
+            let was = h.numbers k u (omega (arith, below, numbered)) at in
+            record { level = was.level; covered = c.grown.terms.stays u was.level was.covered; behind = was.behind };
         within = let was = h.within in omega (arith, was, given);
+        numbers_within = let was = h.numbers_within in omega (arith, was, numbered);
         lower = λ u.
             let told = c.told u in
-            let more = count_more levels (told_level q.log u) level told in
+            let more = count_more (asserted_by_level levels) (told_level q.log u) level told in
             omega (arith, more, few, given);
+        numbers_lower = λ u.
+            let told = c.told u in
+            let more = count_more (numbers_by_level levels) (told_level q.log u) level told in
+            omega (arith, more, less, numbered);
       }
 
 -- ---- An assertion is given
 
-module _ (ns : List Node) (levels roots : List (List ℕ)) (p q : PreparedState) (id t n : ℕ) (puts : Puts p.log id (given_entry q.log p.given t n) q.log)
-    (there : HasTerm q.log.atoms t) (joined : q.sat.clauses ≡ p.sat.clauses ++ held_of q.log id ∷ []) (form : q.form ≡ p.form) (given : q.given ≡ suc p.given) (placed : IsPlaced levels p.given t n)
+module _ (ns : List Node) (levels : List Level) (roots : List (List ℕ)) (p q : PreparedState) (id t n : ℕ) (puts : Puts p.log id (given_entry q.log p.given t n) q.log)
+    (there : HasTerm q.log.atoms t) (joined : q.sat.clauses ≡ p.sat.clauses ++ held_of q.log id ∷ []) (form : q.form ≡ p.form) (given : q.given ≡ suc p.given) (numbered : q.numbered ≡ p.numbered)
+    (placed : IsPlaced (asserted_by_level levels) p.given t n)
     (told : told_level p.log t ≤ n) (h : IsPrepared ns levels roots p) where
   put_kept : Keeps p.log q.log
   put_kept =
@@ -288,7 +301,7 @@ module _ (ns : List Node) (levels roots : List (List ℕ)) (p q : PreparedState)
             (subst (Contains p.sat.clauses) (sym (held_kept p.log q.log put_kept i (lives p.log i row.0 was))) (h.rows i u (row.0, was, row.2))))
       ]
 
-  given_unit : HoldsUnit levels q p.given t
+  given_unit : HoldsUnit (asserted_by_level levels) q p.given t
   given_unit =
       let named : terms_at q.log.atoms (lit_of q.log.atoms (yes t)) ≡ t ∷ [] = ap (λ (o : Option Atom). elim o [ None ↦ [] | Some a ↦ terms_of a ]) there in
       let same_told : told_level q.log t ≡ told_level p.log t = ap (λ ts. unwrap_or (slice_index_or ts t None) 0) puts.told in
@@ -300,20 +313,21 @@ module _ (ns : List Node) (levels roots : List (List ℕ)) (p q : PreparedState)
         there = subst (λ hs. Contains hs (held_of q.log id)) (sym joined) (Contains-push p.sat.clauses (held_of q.log id));
         named = there;
         literals = ap (λ (o : Option Entry). elim o [ None ↦ [] | Some x ↦ x.literals ]) puts.made;
-        behind = subst (λ m. count_in levels m ≤ p.given) (sym same) placed.behind;
+        behind = subst (λ m. count_in (asserted_by_level levels) m ≤ p.given) (sym same) placed.behind;
       }
 
-  given_units : AtomsOfTerms → (k u : ℕ) → k < q.given → slice_get (asserted_numbers levels) k ≡ Some u → HoldsUnit levels q k u
+  given_units : AtomsOfTerms → (k u : ℕ) → k < q.given → slice_get (asserted_numbers (asserted_by_level levels)) k ≡ Some u → HoldsUnit (asserted_by_level levels) q k u
   given_units atoms k u below at =
+      let asserted = asserted_by_level levels in
       elim (eqb_tells k p.given) [
         | inl same ↦
-            let both : Some t ≡ Some u = sym (placed_in_all levels p.given t n placed) ∙ ap (slice_get (asserted_numbers levels)) (sym same.1) ∙ at in
+            let both : Some t ≡ Some u = sym (placed_in_all asserted p.given t n placed) ∙ ap (slice_get (asserted_numbers asserted)) (sym same.1) ∙ at in
             let one : t ≡ u = cc in
-            subst (λ j. HoldsUnit levels q j u) (sym same.1) (subst (HoldsUnit levels q p.given) one given_unit)
+            subst (λ j. HoldsUnit asserted q j u) (sym same.1) (subst (HoldsUnit asserted q p.given) one given_unit)
         | inr other ↦
             let differ = other.1 in
             let inside : k < p.given = omega (arith, below, given, differ) in
-            still_units p.log q.log put_kept atoms levels p q (held_of q.log id ∷ []) refl refl h.held joined k u (h.units k u inside at)
+            still_units p.log q.log put_kept atoms asserted p q (held_of q.log id ∷ []) refl refl h.held joined k u (h.units k u inside at)
       ]
 
   given_held : AreHeld q.log q.sat.clauses
@@ -336,7 +350,13 @@ module _ (ns : List Node) (levels roots : List (List ℕ)) (p q : PreparedState)
       (still_all p.log q.log put_kept ns p q refl refl (λ i a of. subst (λ (f : FormState). IsOfForm ns f i a) (sym form) of) p.sat.clauses h.held h.searched)
       (All-from_recursion P (held_of q.log id ∷ []) (own, tt)))
 
-  pub assertion_given : AtomsOfTerms → CoversStay → LogsStayLeveled → IsSome (covered_at p.form t) → is_boolean_term (term_in ns t) ≡ true → IsLog ns levels q.log → IsPrepared ns levels roots q
+  -- no level told is another one
+  given_told : (u : ℕ) (ls : List (List ℕ)) (k : ℕ) → count_in ls (told_level p.log u) ≤ k → count_in ls (told_level q.log u) ≤ k
+  given_told u ls k was =
+      let same : told_level q.log u ≡ told_level p.log u = ap (λ ts. unwrap_or (slice_index_or ts u None) 0) puts.told in
+      subst (λ m. count_in ls m ≤ k) (sym same) was
+
+  pub assertion_given : AtomsOfTerms → CoversStay → LogsStayLeveled → IsSome (covered_at p.form t) → is_boolean_term (term_in ns t) ≡ true → IsLog ns (asserted_by_level levels) q.log → IsPrepared ns levels roots q
   assertion_given atoms covers leveled some boolean order =
       record {
         order = order;
@@ -350,18 +370,62 @@ module _ (ns : List Node) (levels roots : List (List ℕ)) (p q : PreparedState)
         searched = given_searched some boolean;
         rows = given_rows;
         units = given_units atoms;
-        within = let inside = slice_get_within (asserted_numbers levels) p.given t (placed_in_all levels p.given t n placed) in omega (arith, inside, given);
-        lower = λ u.
-            let was = h.lower u in
-            let same : told_level q.log u ≡ told_level p.log u = ap (λ ts. unwrap_or (slice_index_or ts u None) 0) puts.told in
-            let few : count_in levels (told_level q.log u) ≤ p.given = subst (λ m. count_in levels m ≤ p.given) (sym same) was in
-            omega (arith, few, given);
+        numbers = λ k u below at.
+            let was = h.numbers k u (omega (arith, below, numbered)) at in
+            record { level = was.level; covered = ap (λ f. covered_at f u) form ∙ was.covered; behind = was.behind };
+        within =
+            let asserted = asserted_by_level levels in
+            let inside = slice_get_within (asserted_numbers asserted) p.given t (placed_in_all asserted p.given t n placed) in
+            omega (arith, inside, given);
+        numbers_within = let was = h.numbers_within in omega (arith, was, numbered);
+        lower = λ u. let few = given_told u (asserted_by_level levels) p.given (h.lower u) in omega (arith, few, given);
+        numbers_lower = λ u. let few = given_told u (numbers_by_level levels) p.numbered (h.numbers_lower u) in omega (arith, few, numbered);
       }
+
+-- ---- A number is counted
+
+-- a number that is covered is the next one
+pub number_counted : (ns : List Node) (levels : List Level) (roots : List (List ℕ)) (p : PreparedState) (t n count : ℕ) → count ≡ suc p.numbered → IsPlaced (numbers_by_level levels) p.numbered t n
+    → IsSome (covered_at p.form t) → IsPrepared ns levels roots p → IsPrepared ns levels roots (record p { numbered = count })
+number_counted ns levels roots p t n count is placed some h =
+    let numbers = numbers_by_level levels in
+    let q : PreparedState = record p { numbered = count } in
+    record {
+      order = h.order;
+      covers = h.covers;
+      below = h.below;
+      made = h.made;
+      taken = h.taken;
+      leveled = h.leveled;
+      held = h.held;
+      searched = h.searched;
+      rows = h.rows;
+      units = λ k u below at.
+          let was = h.units k u below at in
+          record { held = was.held; there = was.there; named = was.named; literals = was.literals; behind = was.behind };
+      numbers = λ k u below at. elim (eqb_tells k p.numbered) [
+        | inl same ↦
+            let both : Some t ≡ Some u = sym (placed_in_all numbers p.numbered t n placed) ∙ ap (slice_get (asserted_numbers numbers)) (sym same.1) ∙ at in
+            let one : t ≡ u = cc in
+            let here = some_of (covered_at p.form t) some in
+            let told : told_level p.log t ≡ here.0 = ap (λ o. unwrap_or o 0) (h.covers.rows.told t ∙ here.1) in
+            let few : count_in numbers here.0 ≤ p.numbered = subst (λ m. count_in numbers m ≤ p.numbered) told (h.numbers_lower t) in
+            subst (λ v. IsNumbered numbers q k v) one (record { level = here.0; covered = here.1; behind = subst (λ j. count_in numbers here.0 ≤ j) (sym same.1) few })
+        | inr other ↦
+            let differ = other.1 in
+            let was = h.numbers k u (omega (arith, below, is, differ)) at in
+            record { level = was.level; covered = was.covered; behind = was.behind }
+      ];
+      within = h.within;
+      numbers_within = let inside = slice_get_within (asserted_numbers numbers) p.numbered t (placed_in_all numbers p.numbered t n placed) in omega (arith, inside, is);
+      lower = h.lower;
+      numbers_lower = λ u. let few = h.numbers_lower u in omega (arith, few, is);
+    }
 
 -- ---- A search has learned
 
-module _ (ns : List Node) (levels roots : List (List ℕ)) (p q : PreparedState) (grows : growth.Grows p.log q.log) (form : q.form ≡ p.form) (given : q.given ≡ p.given)
-    (more : HoldsMore q.log p.sat.clauses q.sat.clauses) (h : IsPrepared ns levels roots p) where
+module _ (ns : List Node) (levels : List Level) (roots : List (List ℕ)) (p q : PreparedState) (grows : growth.Grows p.log q.log) (form : q.form ≡ p.form) (given : q.given ≡ p.given)
+    (numbered : q.numbered ≡ p.numbered) (more : HoldsMore q.log p.sat.clauses q.sat.clauses) (h : IsPrepared ns levels roots p) where
   learned_kept : Keeps p.log q.log
   learned_kept = record { clauses = grows.kept; atoms = grows.atoms }
 
@@ -382,7 +446,12 @@ module _ (ns : List Node) (levels roots : List (List ℕ)) (p q : PreparedState)
       (Contains-append_left p.sat.clauses more.learned (held_of q.log i)
       (subst (Contains p.sat.clauses) (sym (held_kept p.log q.log learned_kept i live)) (h.rows i t (row.0, sym (origin_kept p.log q.log learned_kept i live) ∙ row.1, row.2))))
 
-  pub learned : AtomsOfTerms → CoversStay → AreSearched ns q.log q.form q.sat.clauses → IsLog ns levels q.log → IsPrepared ns levels roots q
+  learned_told : (u : ℕ) (ls : List (List ℕ)) (k : ℕ) → count_in ls (told_level p.log u) ≤ k → count_in ls (told_level q.log u) ≤ k
+  learned_told u ls k was =
+      let same : told_level q.log u ≡ told_level p.log u = ap (λ ts. unwrap_or (slice_index_or ts u None) 0) grows.told in
+      subst (λ m. count_in ls m ≤ k) (sym same) was
+
+  pub learned : AtomsOfTerms → CoversStay → AreSearched ns q.log q.form q.sat.clauses → IsLog ns (asserted_by_level levels) q.log → IsPrepared ns levels roots q
   learned atoms covers searched order =
       record {
         order = order;
@@ -395,12 +464,14 @@ module _ (ns : List Node) (levels roots : List (List ℕ)) (p q : PreparedState)
         searched = searched;
         rows = learned_rows;
         units = λ k u below at.
-            still_units p.log q.log learned_kept atoms levels p q more.learned refl refl h.held more.joined k u (h.units k u (omega (arith, below, given)) at);
+            still_units p.log q.log learned_kept atoms (asserted_by_level levels) p q more.learned refl refl h.held more.joined k u (h.units k u (omega (arith, below, given)) at);
+        numbers = λ k u below at.
+            let was = h.numbers k u (omega (arith, below, numbered)) at in
+            record { level = was.level; covered = ap (λ f. covered_at f u) form ∙ was.covered; behind = was.behind };
         within = let was = h.within in omega (arith, was, given);
-        lower = λ u.
-            let same : told_level q.log u ≡ told_level p.log u = ap (λ ts. unwrap_or (slice_index_or ts u None) 0) grows.told in
-            let few : count_in levels (told_level q.log u) ≤ p.given = subst (λ m. count_in levels m ≤ p.given) (sym same) (h.lower u) in
-            omega (arith, few, given);
+        numbers_within = let was = h.numbers_within in omega (arith, was, numbered);
+        lower = λ u. let few = learned_told u (asserted_by_level levels) p.given (h.lower u) in omega (arith, few, given);
+        numbers_lower = λ u. let few = learned_told u (numbers_by_level levels) p.numbered (h.numbers_lower u) in omega (arith, few, numbered);
       }
 
 -- ---- Atoms join
@@ -419,12 +490,12 @@ joins_grow leveled old new joins =
     }
 
 -- and what is prepared stays so
-pub joined_prepared : AtomsOfTerms → LogsStay → LogsStayLeveled → CoversStay → (ns : List Node) (levels roots : List (List ℕ)) (p q : PreparedState) → JoinsAtoms p.log q.log
-    → AreAtoms q.log.atoms → q.form ≡ p.form → q.given ≡ p.given → q.sat.clauses ≡ p.sat.clauses → IsPrepared ns levels roots p → IsPrepared ns levels roots q
-joined_prepared atoms stay leveled covers ns levels roots p q joins all form given clauses h =
+pub joined_prepared : AtomsOfTerms → LogsStay → LogsStayLeveled → CoversStay → (ns : List Node) (levels : List Level) (roots : List (List ℕ)) (p q : PreparedState) → JoinsAtoms p.log q.log
+    → AreAtoms q.log.atoms → q.form ≡ p.form → q.given ≡ p.given → q.numbered ≡ p.numbered → q.sat.clauses ≡ p.sat.clauses → IsPrepared ns levels roots p → IsPrepared ns levels roots q
+joined_prepared atoms stay leveled covers ns levels roots p q joins all form given numbered clauses h =
     let grows = joins_grow leveled p.log q.log joins in
     let kept : Keeps p.log q.log = record { clauses = grows.kept; atoms = grows.atoms } in
     let held : AreHeld q.log q.sat.clauses = subst (AreHeld q.log) (sym clauses) (still_held p.log q.log kept p.sat.clauses h.held) in
-    learned ns levels roots p q grows form given (record { learned = []; joined = clauses ∙ sym (append-nil p.sat.clauses); held = held }) h atoms covers
+    learned ns levels roots p q grows form given numbered (record { learned = []; joined = clauses ∙ sym (append-nil p.sat.clauses); held = held }) h atoms covers
     (subst (AreSearched ns q.log q.form) (sym clauses)
-    (still_all p.log q.log kept ns p q refl refl (λ i a of. subst (λ (f : FormState). IsOfForm ns f i a) (sym form) of) p.sat.clauses h.held h.searched)) (stay.joined ns levels p.log q.log joins all h.order)
+    (still_all p.log q.log kept ns p q refl refl (λ i a of. subst (λ (f : FormState). IsOfForm ns f i a) (sym form) of) p.sat.clauses h.held h.searched)) (stay.joined ns (asserted_by_level levels) p.log q.log joins all h.order)

@@ -2,7 +2,7 @@
 use Rattle.std.proofs.Common.{◌≡◌, ℕ, List, [], ◌∷◌, ◌++◌, append-nil, map, Option, Some, None, get_or, refl, sym, ap, subst, ◌∙◌, arith}
 use Rattle.std.specs.Prelude.{All, Contains, IsSome}
 use Rattle.std.proofs.lemmas.List.{map-append}
-use Rattle.std.proofs.lemmas.List.Elements.{All-append, All-contains, All-from_recursion, All-map, All-weaker, Contains-get_or}
+use Rattle.std.proofs.lemmas.List.Elements.{All-append, All-contains, All-from_recursion, All-map, All-weaker, Contains-append_left, Contains-get_or}
 use Rattle.nz_spec.specs.terms.Table.{Node}
 use Rattle.nz_log.specs.declared.lits.Lit.{Lit}
 use Rattle.nz_term.specs.declared.term_lits.TermLit.{TermLit}
@@ -15,15 +15,16 @@ use Rattle.nz_reals.specs.Stands.{IsOver}
 use Rattle.nz_reals.specs.State.{Theory, known_at}
 use Rattle.nz_sat.specs.declared.clauses.Held.{Held}
 use Rattle.nz_sat.specs.Sats.{AreHeld, AreOn, HoldsMore, SatState, held_of}
+use Rattle.nz_search.specs.Levels.{Level, asserted_by_level}
 use Rattle.nz_engine.specs.declared.prepared.Prepared.TheInside.{Inside}
 use Rattle.nz_engine.specs.Checking.{IsPosed, IsReady}
-use Rattle.nz_engine.specs.Preparing.{Excludes, PreparedState, ids_held}
+use Rattle.nz_engine.specs.Preparing.{AreJust, Excludes, PreparedState, atoms_of, ids_held}
 use Rattle.nz_engine.specs.SearchLaws.{SearchLaws}
-use Rattle.nz_engine.proofs.SearchAtoms.{are_named, ids_told, ids_within, named_have, named_ids, named_lits, named_searched, posed_after}
+use Rattle.nz_engine.proofs.SearchAtoms.{are_named, ids_told, ids_within, named_have, named_ids, named_just, named_lits, named_searched, posed_after}
 
 -- what stands inside, as it is seen
 abbrev pub prepared_in : Inside → PreparedState
-prepared_in i = record { log = i.log; form = i.form; sat = i.sat; given = i.given; above = i.above }
+prepared_in i = record { log = i.log; form = i.form; sat = i.sat; given = i.given; numbered = i.numbered; above = i.above; noted = i.noted.items }
 
 -- the literals of such a clause are on the atoms
 on_atoms : (log : LogState) (atoms : List ℕ) (id : ℕ) → IsExclusion log atoms id → All (λ (l : Lit). Contains atoms l.atom) (literals_at log id)
@@ -119,25 +120,38 @@ module _ (p : PreparedState) {atoms : List ℕ} (q : PreparedState) (x : Exclude
       (All-append P p.sat.clauses (map (held_of q.log) x.ids) (still_on p.log q.log x.adds.keeps p.sat.clauses were atoms on)
       (All-map P (held_of q.log) x.ids (All-weaker (IsExclusion q.log atoms) (λ id. All (λ (l : Lit). Contains atoms l.atom) (literals_at q.log id)) (on_atoms q.log atoms) x.ids x.exclusions)))
 
-pub ready_excluded : SearchLaws → {ns : List Node} {assumed : List TermLit} {old p : PreparedState} {ids : List ℕ} {lits : List Lit} → IsReady ns assumed old p ids lits → (q : PreparedState)
-    → Excludes p.log p.sat ids q.log q.sat → q.form ≡ p.form → q.given ≡ p.given → q.above ≡ p.above → IsReady ns assumed old q ids lits
-ready_excluded laws {ns} {assumed} {old} {p} {ids} {lits} r q x form given above =
+pub ready_excluded : SearchLaws → {ns : List Node} {assumed : List TermLit} {first : ℕ} {old p : PreparedState} {ids : List ℕ} {lits : List Lit} → IsReady ns assumed first old p ids lits → (q : PreparedState)
+    → Excludes p.log p.sat ids q.log q.sat → q.form ≡ p.form → q.given ≡ p.given → q.numbered ≡ p.numbered → q.above ≡ p.above → q.noted ≡ p.noted → IsReady ns assumed first old q ids lits
+ready_excluded laws {ns} {assumed} {first} {old} {p} {ids} {lits} r q x form given numbered above noted =
     let n = r.handed in
-    let first = r.some.1 in
-    let grows = x.adds.grows (ids_told laws.rows laws.atoms first n) in
-    let were = first.standing.raised.held in
-    let after : (levels : List (List ℕ)) → IsPosed ns levels assumed p → IsPosed ns levels assumed q = λ levels h.
-    posed_after laws.atoms laws.covers r q form given above levels grows (holds_exclusions p q x were)
-    (named_searched laws.rows laws.atoms h n q grows form (exclusions_on p q x were (are_named laws.rows laws.atoms h n).clauses)) (x.adds.sound ns levels (ids_within laws.rows laws.atoms h n))
+    let posed = r.some.1 in
+    let grows = x.adds.grows (ids_told laws.rows laws.atoms posed n) in
+    let were = posed.standing.raised.held in
+    let after : (levels : List Level) → IsPosed ns levels assumed p → IsPosed ns levels assumed q = λ levels h.
+    posed_after laws.atoms laws.covers r q form given numbered above levels grows (holds_exclusions p q x were)
+    (named_searched laws.rows laws.atoms h n q grows form noted (exclusions_on p q x were (are_named laws.rows laws.atoms h n).clauses)) (x.adds.sound ns (asserted_by_level levels) (ids_within laws.rows laws.atoms h n))
     (subst (λ (t : Theory). IsOver t ns) (sym x.theory)) h in
+    let ids_are = named_ids laws.rows laws.atoms posed n q grows form noted in
     record {
       handed = record {
         terms = subst (λ (f : FormState). IsListing f.terms) (sym form) n.terms;
         bounds = subst (λ (f : FormState). IsListing f.bounds) (sym form) n.bounds;
-        numbers = named_ids laws.rows laws.atoms first n q grows form;
-        on_atoms = named_lits laws.rows laws.atoms first n q grows form;
-        there = named_have laws.rows laws.atoms first n q grows form;
+        noted = ids_are;
+        numbers = subst (λ (is : List ℕ). AreJust (atoms_of ns q) is) (sym ids_are) (named_just laws.rows laws.atoms posed n q grows form noted);
+        on_atoms = named_lits laws.rows laws.atoms posed n q grows form noted;
+        there = named_have laws.rows laws.atoms posed n q grows form noted;
       };
+      joined = r.joined;
+      behind = r.behind;
+      kept = record {
+        clauses = λ i live. grows.kept i (subst (λ (o : Option Entry). IsSome o) (sym (r.kept.clauses i live)) live) ∙ r.kept.clauses i live;
+        atoms = λ i a at. grows.atoms i a (r.kept.atoms i a at);
+      };
+      held = λ id has.
+          subst (λ (hs : List Held). Contains (ids_held hs) id) (sym x.joined)
+          (subst (λ (is : List ℕ). Contains is id) (sym (map-append (λ (h : Held). h.id) p.sat.clauses (map (held_of q.log) x.ids)))
+          (Contains-append_left (ids_held p.sat.clauses) (ids_held (map (held_of q.log) x.ids)) id (r.held id has)));
+      form = form ∙ r.form;
       posed = λ levels h. after levels (r.posed levels h);
-      some = (r.some.0, after r.some.0 first);
+      some = (r.some.0, after r.some.0 posed);
     }

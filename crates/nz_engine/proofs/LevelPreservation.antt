@@ -1,15 +1,15 @@
 -- What is prepared stays so when levels go on, when a level is put above them, when the table grows, and when levels are cut.
-use Rattle.std.proofs.Common.{◌≡◌, ℕ, suc, ◌<◌, ◌≤◌, ◌⊎◌, inl, inr, Bool, true, false, true≢false, List, [], ◌∷◌, ◌++◌, length, get_or, take, Option, Some, None, refl, sym, ap, subst, ◌∙◌, arith, cond}
+use Rattle.std.proofs.Common.{◌≡◌, ℕ, suc, ◌<◌, ◌≤◌, ◌⊎◌, inl, inr, Bool, true, false, true≢false, List, [], ◌∷◌, ◌++◌, length, get_or, map, min, take, Option, Some, None, refl, sym, ap, subst, ◌∙◌, arith, cond}
 use Rattle.std.specs.Prelude.{All, Contains, IsSome, IsSomeAnd, filter, is_some, nat_le, unwrap_or, option_map, slice_get, if◌then◌else◌}
 use Rattle.std.specs.List.{AllByRecursion}
 use Rattle.std.proofs.lemmas.Bool.{leb-true, le-leb}
-use Rattle.std.proofs.lemmas.List.{length-append, take-append-le}
+use Rattle.std.proofs.lemmas.List.{length-append, length-map, take-append-le, take-map}
 use Rattle.std.proofs.lemmas.List.Elements.{All-contains, All-contains_itself, All-from_recursion, All-weaker, Contains-append_right, recursion_from_All}
 use Rattle.nz_lists.proofs.Elements.{AllByRecursion-weaker}
-use Rattle.nz_lists.proofs.Members.{has_cases, has_none, has_found}
+use Rattle.nz_lists.proofs.Members.{has_cases, has_none}
 use Rattle.nz_lists.proofs.Options.{kept_if}
 use Rattle.nz_spec.specs.terms.Table.{Node, IsTable, TermStays, term_in}
-use Rattle.nz_spec.specs.terms.Order.{post_order}
+use Rattle.nz_spec.specs.terms.Order.{listing_order}
 use Rattle.nz_spec.specs.search.Decide.{asserted_numbers}
 use Rattle.nz_spec.specs.clauses.Gates.{is_boolean_term}
 use Rattle.nz_spec.specs.terms.Taken.{IsTaken}
@@ -19,7 +19,7 @@ use Rattle.nz_log.specs.declared.lits.Lit.{Lit}
 use Rattle.nz_log.specs.Atoms.{HasTerm, lit_of, terms_of}
 use Rattle.nz_log.specs.Leveled.{IsToldWithin, LogsStayLeveled}
 use Rattle.nz_log.specs.Logs.{Origin, Entry, entry_at, IsLive, level_at, literals_at, told_of, told_level, kept_below, told_below}
-use Rattle.nz_log.specs.Sound.{live_at, LogsStay}
+use Rattle.nz_log.specs.Sound.{IsLog, live_at, LogsStay}
 use Rattle.nz_term.specs.TermLits.{yes}
 use Rattle.nz_cform.specs.Covering.{IsRowAt}
 use Rattle.nz_cform.specs.Forms.{covered_at}
@@ -28,9 +28,10 @@ use Rattle.nz_cform.specs.Listings.{ListingState, listed_at}
 use Rattle.nz_cform.specs.Laws.{CoversStay}
 use Rattle.nz_sat.specs.declared.clauses.Held.{Held}
 use Rattle.nz_sat.specs.Sats.{AreHeld, held_of, held_up_to}
+use Rattle.nz_search.specs.Levels.{Level, added_by_level, asserted_by_level, numbers_by_level}
 use Rattle.nz_engine.specs.Levels.{count_in, count_of}
-use Rattle.nz_engine.specs.Preparing.{PreparedState, AreSearched, HoldsUnit, IsMadeOf, IsOfForm, IsPrepared, IsSearched, IsStanding, CutsTo, KeepsBounds}
-use Rattle.nz_engine.proofs.AssertionPlaces.{GoOn, count_all, count_cut, count_more, in_all, live_cut, longer_cut, lower_or_not, place_of}
+use Rattle.nz_engine.specs.Preparing.{PreparedState, AreSearched, HoldsUnit, IsMadeOf, IsNumbered, IsOfForm, IsPrepared, IsSearched, IsStanding, CutsTo, KeepsBounds}
+use Rattle.nz_engine.proofs.AssertionPlaces.{GoOn, TermsGoOn, count_all, count_cut, count_more, in_all, live_cut, longer_cut, lower_or_not}
 
 pub none_or_some : {X : Type 0} (o : Option X) → (o ≡ None) ⊎ ((x : X) × (o ≡ Some x))
 none_or_some None = inl refl
@@ -66,84 +67,103 @@ pub still_searched : (ns more : List Node) (p q : PreparedState) (i : ℕ) → (
     → ((a : Atom) → slice_get p.log.atoms i ≡ Some a → IsOfForm ns p.form i a → IsOfForm more q.form i a) → IsSearched ns p.log p.form i → IsSearched more q.log q.form i
 still_searched ns more p q i stay of s = record { atom = s.atom; at = stay s.atom s.at; of = of s.atom s.at s.of }
 
--- ---- Nothing yet
-
 -- ---- Levels go on
 
-module _ (ns : List Node) (old new : List (List ℕ)) (p : PreparedState) (on : GoOn old new) (h : IsPrepared ns old old p) where
-  -- a unit's level is one of the old ones
-  unit_below : (k t : ℕ) → k < p.given → (u : HoldsUnit old p k t) → u.held.level < length old
-  unit_below k t below u =
-      elim (lower_or_not u.held.level (length old)) [
-        | inl low ↦ low
-        | inr past ↦
-            let all = count_all old u.held.level past in
-            let behind = u.behind in
-            let within = h.within in
-            absurd (omega (arith, all, behind, within, below))
-      ]
+-- what no more than so many stand below is in one of the levels
+level_below : (levels : List (List ℕ)) (n k given : ℕ) → count_in levels n ≤ k → k < given → given ≤ count_of levels → n < length levels
+level_below levels n k given behind below within =
+    elim (lower_or_not n (length levels)) [
+      | inl low ↦ low
+      | inr past ↦ let all = count_all levels n past in absurd (omega (arith, all, behind, within, below))
+    ]
 
-  goes_units : (k t : ℕ) → k < p.given → slice_get (asserted_numbers new) k ≡ Some t → HoldsUnit new p k t
+module _ (ns : List Node) (old new : List Level) (p : PreparedState) (on : GoOn old new) (h : IsPrepared ns old (added_by_level old) p) where
+  goes_units : (k t : ℕ) → k < p.given → slice_get (asserted_numbers (asserted_by_level new)) k ≡ Some t → HoldsUnit (asserted_by_level new) p k t
   goes_units k t below at =
       let within = h.within in
-      let u = h.units k t below (on.front k t (omega (arith, below, within)) at) in
+      let u = h.units k t below (on.asserted.front k t (omega (arith, below, within)) at) in
       record {
         held = u.held;
         there = u.there;
         named = u.named;
         literals = u.literals;
-        behind = subst (λ n. n ≤ k) (sym (on.counts u.held.level (unit_below k t below u))) u.behind;
+        behind = subst (λ n. n ≤ k) (sym (on.asserted.counts u.held.level (level_below (asserted_by_level old) u.held.level k p.given u.behind below within))) u.behind;
       }
 
-  goes_lower : (t : ℕ) → count_in new (told_level p.log t) ≤ p.given
-  goes_lower t =
+  goes_numbers : (k t : ℕ) → k < p.numbered → slice_get (asserted_numbers (numbers_by_level new)) k ≡ Some t → IsNumbered (numbers_by_level new) p k t
+  goes_numbers k t below at =
+      let within = h.numbers_within in
+      let u = h.numbers k t below (on.numbers.front k t (omega (arith, below, within)) at) in
+      record {
+        level = u.level;
+        covered = u.covered;
+        behind = subst (λ n. n ≤ k) (sym (on.numbers.counts u.level (level_below (numbers_by_level old) u.level k p.numbered u.behind below within))) u.behind;
+      }
+
+  -- the counts below a level told are those of before
+  goes_lower : (of : Level → List ℕ) (given t : ℕ) → TermsGoOn (map of old) (map of new) → count_in (map of old) (told_level p.log t) ≤ given → count_in (map of new) (told_level p.log t) ≤ given
+  goes_lower of given t kind was =
       elim (told_or (told_of p.log t)) [
-        | inl none ↦ subst (λ n. count_in new n ≤ p.given) (sym none) (omega arith)
+        | inl none ↦ subst (λ n. count_in (map of new) n ≤ given) (sym none) (omega arith)
         | inr some ↦
-            let below : told_level p.log t < length old = h.below t (told_level p.log t) (sym (h.covers.rows.told t) ∙ some) in
-            subst (λ n. n ≤ p.given) (sym (on.counts (told_level p.log t) below)) (h.lower t)
+            let below : told_level p.log t < length (added_by_level old) = h.below t (told_level p.log t) (sym (h.covers.rows.told t) ∙ some) in
+            let all = length-map old (λ (l : Level). l.asserted ++ l.numbers) in
+            let own = length-map old of in
+            subst (λ n. n ≤ given) (sym (kind.counts (told_level p.log t) (omega (arith, below, all, own)))) was
       ]
 
-  pub goes_on : LogsStay → IsPrepared ns new new p
+  pub goes_on : LogsStay → IsPrepared ns new (added_by_level new) p
   goes_on stay =
       record {
-        order = stay.asserted ns old new p.log on.more h.order;
+        order = stay.asserted ns (asserted_by_level old) (asserted_by_level new) p.log on.asserted.more h.order;
         covers = h.covers;
-        below = λ t n at. let low = h.below t n at in let longer = on.longer in omega (arith, low, longer);
-        made = λ t n at. made_of_more ns (live_at old n) (live_at new n) t
-            (λ r has. let place = place_of (live_at old n) r has in has_found (live_at new n) place.0 r (on.more n place.0 r place.1)) (h.made t n at);
+        below = λ t n at.
+            let low = h.below t n at in
+            let longer = on.longer in
+            let first = length-map old (λ (l : Level). l.asserted ++ l.numbers) in
+            let second = length-map new (λ (l : Level). l.asserted ++ l.numbers) in
+            omega (arith, low, longer, first, second);
+        made = λ t n at. made_of_more ns (live_at (added_by_level old) n) (live_at (added_by_level new) n) t (on.roots n) (h.made t n at);
         taken = h.taken;
         leveled = h.leveled;
         held = h.held;
         searched = h.searched;
         rows = h.rows;
         units = goes_units;
-        within = let within = h.within in let total = on.total in omega (arith, within, total);
-        lower = goes_lower;
+        numbers = goes_numbers;
+        within = let within = h.within in let total = on.asserted.total in omega (arith, within, total);
+        numbers_within = let within = h.numbers_within in let total = on.numbers.total in omega (arith, within, total);
+        lower = λ t. goes_lower (λ (l : Level). l.asserted) p.given t on.asserted (h.lower t);
+        numbers_lower = λ t. goes_lower (λ (l : Level). l.numbers) p.numbered t on.numbers (h.numbers_lower t);
       }
 
 -- ---- A level above
 
-pub raised : (ns : List Node) (levels : List (List ℕ)) (more : List ℕ) (p : PreparedState) → IsPrepared ns levels levels p → IsPrepared ns levels (levels ++ more ∷ []) p
+pub raised : (ns : List Node) (levels : List Level) (more : List ℕ) (p : PreparedState) → IsPrepared ns levels (added_by_level levels) p
+    → IsPrepared ns levels (added_by_level levels ++ more ∷ []) p
 raised ns levels more p h =
+    let added = added_by_level levels in
     record {
       order = h.order;
       covers = h.covers;
-      below = λ t n at. let low = h.below t n at in let long = length-append levels (more ∷ []) in omega (arith, low, long);
+      below = λ t n at. let low = h.below t n at in let long = length-append added (more ∷ []) in omega (arith, low, long);
       made = λ t n at.
           let low = h.below t n at in
-          subst (λ ls. IsMadeOf ns ls t) (sym (ap asserted_numbers (take-append-le (suc n) levels (more ∷ []) (omega (arith, low))))) (h.made t n at);
+          subst (λ ls. IsMadeOf ns ls t) (sym (ap asserted_numbers (take-append-le (suc n) added (more ∷ []) (omega (arith, low))))) (h.made t n at);
       taken = h.taken;
       leveled = h.leveled;
       held = h.held;
       searched = h.searched;
       rows = h.rows;
       units = h.units;
+      numbers = h.numbers;
       within = h.within;
+      numbers_within = h.numbers_within;
       lower = h.lower;
+      numbers_lower = h.numbers_lower;
     }
 
-pub standing : (ns : List Node) (levels : List (List ℕ)) (more : List ℕ) (p : PreparedState) → IsPrepared ns levels levels p → IsStanding ns levels more p
+pub standing : (ns : List Node) (levels : List Level) (more : List ℕ) (p : PreparedState) → IsPrepared ns levels (added_by_level levels) p → IsStanding ns levels more p
 standing ns levels more p h = record { raised = raised ns levels more p h; plain = λ e. h }
 
 -- ---- The table grows
@@ -156,23 +176,23 @@ grown_of terms ns more p within i (Term t) of =
     (of.0, ap is_boolean_term (terms ns more t (within t n.0 n.1)) ∙ of.1)
 grown_of terms ns more p within i (AtMost b) of = of
 
-pub grown : TermStays → LogsStay → CoversStay → (ns more : List Node) (levels roots : List (List ℕ)) (p : PreparedState) → IsTable ns → IsPrepared ns levels roots p
+pub grown : TermStays → LogsStay → CoversStay → (ns more : List Node) (levels : List Level) (roots : List (List ℕ)) (p : PreparedState) → IsTable ns → IsPrepared ns levels roots p
     → IsPrepared (ns ++ more) levels roots p
 grown terms stay covers ns more levels roots p table h =
     record {
-      order = stay.table ns more levels p.log h.order;
+      order = stay.table ns more (asserted_by_level levels) p.log h.order;
       covers = covers.table ns more p.log p.form table h.covers;
       below = h.below;
       made = λ t n at.
           let of = h.made t n at in
           let inside = h.covers.within t n at in
           let there = of.within in
-          let part = subst (λ u. Contains (post_order (term_in ns of.root)) u) (sym (terms ns more t inside)) of.part in
+          let part = subst (λ u. Contains (listing_order (term_in ns of.root)) u) (sym (terms ns more t inside)) of.part in
           record {
             root = of.root;
             has = of.has;
             within = let long = length-append ns more in omega (arith, long, there);
-            part = subst (λ u. Contains (post_order u) (term_in (ns ++ more) t)) (sym (terms ns more of.root there)) part;
+            part = subst (λ u. Contains (listing_order u) (term_in (ns ++ more) t)) (sym (terms ns more of.root there)) part;
           };
       taken = λ t some.
           let n = some_of (covered_at p.form t) some in
@@ -186,8 +206,11 @@ grown terms stay covers ns more levels roots p table h =
           (literals_at p.log x.id) (h.searched k d inside);
       rows = h.rows;
       units = h.units;
+      numbers = h.numbers;
       within = h.within;
+      numbers_within = h.numbers_within;
       lower = h.lower;
+      numbers_lower = h.numbers_lower;
     }
 
 -- ---- Levels are cut
@@ -248,7 +271,7 @@ told_low : (m : ℕ) (o : Option ℕ) → (unwrap_or (told_below m o) 0 ≤ m) �
 told_low m None = (omega arith, omega arith)
 told_low m (Some n) = told_test m n (nat_le n m) refl
 
-module _ (ns : List Node) (levels roots : List (List ℕ)) (p q : PreparedState) (m : ℕ) (c : CutsTo p m (count_of (take (suc m) levels)) q) (h : IsPrepared ns levels roots p) where
+module _ (ns : List Node) (levels : List Level) (roots : List (List ℕ)) (p q : PreparedState) (m : ℕ) (c : CutsTo p m (take (suc m) levels) q) (h : IsPrepared ns levels roots p) where
   c_terms : (t : ℕ) → covered_at q.form t ≡ told_below m (covered_at p.form t)
   c_terms t = c.form.terms.levels t
 
@@ -318,17 +341,27 @@ module _ (ns : List Node) (levels roots : List (List ℕ)) (p q : PreparedState)
       subst (λ x. Contains q.sat.clauses x) (sym (held_of_same i was.0 was.1))
       (subst (λ hs. Contains hs (held_of p.log i)) (sym c.clauses) (kept_up_to m p.sat.clauses (held_of p.log i) (h.rows i t (row.0, was.2, row.2)) was.1))
 
-  cut_units : (k t : ℕ) → k < q.given → slice_get (asserted_numbers (take (suc m) levels)) k ≡ Some t → HoldsUnit (take (suc m) levels) q k t
-  cut_units k t below at =
-      let count = c.given in
-      let inside : k < p.given = omega (arith, count, below) in
-      let few : k < count_in levels (suc m) = omega (arith, count, below) in
-      let u = h.units k t inside (in_all levels (suc m) k t at) in
-      let behind : count_in levels u.held.level ≤ k = u.behind in
-      let low : u.held.level ≤ m = elim (lower_or_not m u.held.level) [
-        | inl high ↦ let more = count_more levels (suc m) u.held.level (omega (arith, high)) in absurd (omega (arith, more, behind, few))
+  -- what is given of a kind is in the first levels
+  cut_count : (of : Level → List ℕ) → count_of (map of (take (suc m) levels)) ≡ count_in (map of levels) (suc m)
+  cut_count of = ap count_of (sym (take-map of (suc m) levels))
+
+  -- and stands in a level that is kept
+  cut_low : (of : Level → List ℕ) (n k : ℕ) → count_in (map of levels) n ≤ k → k < count_in (map of levels) (suc m) → n ≤ m
+  cut_low of n k behind few =
+      elim (lower_or_not m n) [
+        | inl high ↦ let more = count_more (map of levels) (suc m) n (omega (arith, high)) in absurd (omega (arith, more, behind, few))
         | inr fine ↦ fine
-      ] in
+      ]
+
+  cut_behind : (of : Level → List ℕ) (n k : ℕ) → n ≤ suc m → count_in (map of levels) n ≤ k → count_in (map of (take (suc m) levels)) n ≤ k
+  cut_behind of n k low behind =
+      subst (λ ls. count_in ls n ≤ k) (take-map of (suc m) levels) (subst (λ i. i ≤ k) (sym (count_cut (map of levels) m n low)) behind)
+
+  cut_at : (of : Level → List ℕ) (k t : ℕ) → slice_get (asserted_numbers (map of (take (suc m) levels))) k ≡ Some t → slice_get (asserted_numbers (map of levels)) k ≡ Some t
+  cut_at of k t at = in_all (map of levels) (suc m) k t (subst (λ ls. slice_get (asserted_numbers ls) k ≡ Some t) (sym (take-map of (suc m) levels)) at)
+
+  cut_unit : (k t : ℕ) (u : HoldsUnit (asserted_by_level levels) p k t) → u.held.level ≤ m → HoldsUnit (asserted_by_level (take (suc m) levels)) q k t
+  cut_unit k t u low =
       let own = All-contains (λ (x : Held). IsLive p.log x.id × (level_at p.log x.id ≡ x.level)) p.sat.clauses u.held h.held u.there in
       let same = same_entry u.held.id own.0 (subst (λ n. n ≤ m) (sym own.1) low) in
       record {
@@ -337,25 +370,48 @@ module _ (ns : List Node) (levels roots : List (List ℕ)) (p q : PreparedState)
         named = subst (λ (atoms : List Atom). HasTerm atoms t) (sym c.log.atoms) u.named;
         literals = ap (λ (o : Option Entry). elim o [ None ↦ [] | Some e ↦ e.literals ]) same ∙ u.literals
             ∙ ap (λ (atoms : List Atom). lit_of atoms (yes t) ∷ []) (sym c.log.atoms);
-        behind = subst (λ n. n ≤ k) (sym (count_cut levels m u.held.level (omega (arith, low)))) behind;
+        behind = cut_behind (λ (l : Level). l.asserted) u.held.level k (omega (arith, low)) u.behind;
       }
 
-  cut_lower : (t : ℕ) → count_in (take (suc m) levels) (told_level q.log t) ≤ q.given
-  cut_lower t =
+  cut_units : (k t : ℕ) → k < q.given → slice_get (asserted_numbers (asserted_by_level (take (suc m) levels))) k ≡ Some t → HoldsUnit (asserted_by_level (take (suc m) levels)) q k t
+  cut_units k t below at =
+      let of = λ (l : Level). l.asserted in
+      let count = c.given in
+      let first = cut_count of in
+      let u = h.units k t (omega (arith, count, below)) (cut_at of k t at) in
+      cut_unit k t u (cut_low of u.held.level k u.behind (omega (arith, count, below, first)))
+
+  cut_numbers : (k t : ℕ) → k < q.numbered → slice_get (asserted_numbers (numbers_by_level (take (suc m) levels))) k ≡ Some t → IsNumbered (numbers_by_level (take (suc m) levels)) q k t
+  cut_numbers k t below at =
+      let of = λ (l : Level). l.numbers in
+      let count = c.numbered in
+      let first = cut_count of in
+      let u = h.numbers k t (omega (arith, count, below)) (cut_at of k t at) in
+      let low : u.level ≤ m = cut_low of u.level k u.behind (omega (arith, count, below, first)) in
+      record {
+        level = u.level;
+        covered = c_terms t ∙ ap (told_below m) u.covered ∙ ap (λ (b : Bool). if b then Some u.level else None) (le-leb u.level m low);
+        behind = cut_behind of u.level k (omega (arith, low)) u.behind;
+      }
+
+  -- below a level told there are no more than before, and no more than are kept
+  cut_lower : (of : Level → List ℕ) (given t : ℕ) → count_in (map of levels) (told_level p.log t) ≤ given
+      → count_in (map of (take (suc m) levels)) (told_level q.log t) ≤ min given (count_of (map of (take (suc m) levels)))
+  cut_lower of given t was =
+      let ls = map of levels in
       let n = told_level q.log t in
       let low : (n ≤ m) × (n ≤ told_level p.log t) = subst (λ o. (unwrap_or o 0 ≤ m) × (unwrap_or o 0 ≤ told_level p.log t)) (sym (c.log.told t)) (told_low m (told_of p.log t)) in
       let most = low.0 in
-      let same = count_cut levels m n (omega (arith, most)) in
-      let first = count_more levels n (told_level p.log t) low.1 in
-      let second = count_more levels n (suc m) (omega (arith, most)) in
-      let was = h.lower t in
-      let count = c.given in
-      omega (arith, same, first, second, was, count)
+      let same = cut_behind of n (count_in ls n) (omega (arith, most)) (omega arith) in
+      let first = count_more ls n (told_level p.log t) low.1 in
+      let second = count_more ls n (suc m) (omega (arith, most)) in
+      let all = cut_count of in
+      omega (arith, same, first, second, was, all)
 
   pub cut_prepared : CoversStay → LogsStayLeveled → KeepsBounds p.form q.form → IsPrepared ns (take (suc m) levels) (take (suc m) roots) q
   cut_prepared covers leveled keeps =
       record {
-        order = c.sound ns levels h.order;
+        order = subst (λ ls. IsLog ns ls q.log) (take-map (λ (l : Level). l.asserted) (suc m) levels) (c.sound ns (asserted_by_level levels) h.order);
         covers = covers.dropped ns p.log q.log p.form q.form m c.log c.form h.covers;
         below = λ t n at.
             let was = told_parts m (covered_at p.form t) n (sym (c_terms t) ∙ at) in
@@ -372,8 +428,11 @@ module _ (ns : List Node) (levels roots : List (List ℕ)) (p q : PreparedState)
         searched = cut_searched keeps;
         rows = cut_rows;
         units = cut_units;
+        numbers = cut_numbers;
         within = let count = c.given in omega (arith, count);
-        lower = cut_lower;
+        numbers_within = let count = c.numbered in omega (arith, count);
+        lower = λ t. subst (λ n. count_in (asserted_by_level (take (suc m) levels)) (told_level q.log t) ≤ n) (sym c.given) (cut_lower (λ (l : Level). l.asserted) p.given t (h.lower t));
+        numbers_lower = λ t. subst (λ n. count_in (numbers_by_level (take (suc m) levels)) (told_level q.log t) ≤ n) (sym c.numbered) (cut_lower (λ (l : Level). l.numbers) p.numbered t (h.numbers_lower t));
       }
 
 -- ---- Nothing is taken off

@@ -5,7 +5,7 @@ use Rattle.std.specs.List.{AllByRecursion}
 use Rattle.std.proofs.lemmas.Option.{slice_get-get_or}
 use Rattle.std.proofs.lemmas.List.{get_or-map, length-map}
 use Rattle.std.proofs.lemmas.List.Elements.{All-contains, All-from_recursion, All-weaker, recursion_from_All}
-use Rattle.nz_lists.proofs.Elements.{AllByRecursion-append}
+use Rattle.nz_lists.proofs.Elements.{AllByRecursion-append, AllByRecursion-weaker}
 use Rattle.nz_fractions.specs.Fraction.{◌=ℚ◌}
 use Rattle.nz_spec.specs.simplex.Basis.{Valuation}
 use Rattle.nz_spec.specs.search.Decide.{IsValueOf, AreModelValues, asserted_numbers}
@@ -15,9 +15,9 @@ use Rattle.nz_spec.specs.terms.FormOf.{number_in, TermHasItsNumber}
 use Rattle.nz_spec.specs.clauses.Gates.{is_boolean_term}
 use Rattle.nz_spec.specs.clauses.Literal.{term_literal, are_same_sign, AreTrueLiterals}
 use Rattle.nz_spec.specs.terms.Model.{IsAssignment}
-use Rattle.nz_spec.specs.terms.Order.{listing_order, post_order, post_orders}
+use Rattle.nz_spec.specs.terms.Order.{companions, companions_of, listing_order, listing_orders}
 use Rattle.nz_spec.specs.terms.Table.{Node, IsTable, term_in, terms_at, listed_value, assignment_by, TermOfNode, AssignsByNumber}
-use Rattle.nz_spec.specs.terms.Taken.{IsTaken, IsTakenBoolean, TakenTermsAreInOrder}
+use Rattle.nz_spec.specs.terms.Taken.{IsTaken, IsTakenBoolean}
 use Rattle.nz_spec.specs.terms.Term.{Sort, bool_sort, int_sort, real_sort, is_int_sort, Constant, constant, falsum, Term, apply, no_terms, Assignment, Value, truth, number_of, value_of, is_true, is_bool, default_value, IsTrueUnder}
 use Rattle.nz_log.specs.declared.atoms.Atom.{Atom}
 use Rattle.nz_log.specs.declared.atoms.Atom.TheVariants as atoms
@@ -25,48 +25,53 @@ use Rattle.nz_log.specs.declared.lits.Lit.{Lit}
 use Rattle.nz_term.specs.declared.term_lits.TermLit.{TermLit}
 use Rattle.nz_log.specs.Atoms.{AtomsOfTerms, HasTerm, literal_in, lit_of, lits_of, term_place, with_sign}
 use Rattle.nz_log.specs.Logs.{literals_at}
-use Rattle.nz_term.specs.TermLits.{literal_of, yes}
-use Rattle.nz_cform.specs.Covering.{kids_at}
+use Rattle.nz_term.specs.TermLits.{literal_of}
+use Rattle.nz_cform.specs.Covering.{HasCovered, kids_at}
 use Rattle.nz_cform.specs.Forms.{IsCoveredWithin, covered_at}
 use Rattle.nz_cform.specs.Laws.{MeetsRows, RowsMeetTables}
 use Rattle.nz_reals.specs.Chosen.{HasWorths}
 use Rattle.nz_reals.specs.State.{told_lits}
 use Rattle.nz_sat.specs.declared.clauses.Held.{Held}
 use Rattle.nz_sat.specs.Sats.{IsTrueClause, IsTrueLit, held_of, truth_of}
-use Rattle.nz_engine.specs.Checking.{HasCoveredWorths, HasFound, IsPosed, terms_named, truth_in, value_at}
+use Rattle.nz_search.specs.Levels.{Level, added_by_level, asserted_by_level}
+use Rattle.nz_engine.specs.Checking.{HasCoveredWorths, HasFound, IsPosed, truth_in, value_at}
 use Rattle.nz_engine.specs.Preparing.{PreparedState, HoldsUnit, IsOfForm, IsPrepared, IsSearched, atoms_of, boolean_terms, unit_of}
 use Rattle.nz_engine.proofs.LevelPreservation.{some_of, some_within}
 use Rattle.nz_engine.proofs.ConstantValues.{constant_values, is_assignment, listed_behind, listed_first, listed_truth, no_truth}
 use Rattle.nz_engine.proofs.Onces.{boolean_there}
 use Rattle.nz_engine.proofs.NamedTerms.{all_named}
+use Rattle.nz_engine.proofs.PartsNamed.{unit_covered}
 use Rattle.nz_engine.proofs.ClausePreservation.{literal_at_atom}
 use Rattle.nz_engine.proofs.SearchAtoms.{searched_in, truth_there}
 
 -- ---- Parts
 
--- what holds of arguments and what they are made of holds of what all are made of
-each_argument : (P : Term → Type 0) (f : ℕ → Term) (ks : List ℕ) → AllByRecursion (λ k. AllByRecursion P (post_order (f k))) ks → AllByRecursion P (post_orders (terms_at f ks))
+-- what holds of what is listed with each argument holds of what is listed with all
+each_argument : (P : Term → Type 0) (f : ℕ → Term) (ks : List ℕ) → AllByRecursion (λ k. AllByRecursion P (listing_order (f k))) ks → AllByRecursion P (listing_orders (terms_at f ks))
 each_argument P f [] h = tt
-each_argument P f (k ∷ ks) h = AllByRecursion-append P (post_order (f k)) (post_orders (terms_at f ks)) h.0 (each_argument P f ks h.1)
+each_argument P f (k ∷ ks) h = AllByRecursion-append P (listing_order (f k)) (listing_orders (terms_at f ks)) h.0 (each_argument P f ks h.1)
 
--- what holds of each term of some numbers, of which arguments are among them, holds of all that these are made of
+-- what holds of each term of some numbers, of which arguments are among them, and of its companions, holds of all that is listed with these
 module _ (of_node : TermOfNode) (ns : List Node) (table : IsTable ns) (Has : ℕ → Type 0) (P : Term → Type 0) (inside : (t : ℕ) → Has t → t < length ns)
-    (arguments : (t : ℕ) → Has t → All Has (kids_at ns t)) (own : (t : ℕ) → Has t → P (term_in ns t)) where
-  parts_up_to : (fuel t : ℕ) → t < fuel → Has t → AllByRecursion P (post_order (term_in ns t))
+    (arguments : (t : ℕ) → Has t → All Has (kids_at ns t)) (beside : (t : ℕ) → Has t → AllByRecursion P (companions_of (term_in ns t))) (own : (t : ℕ) → Has t → P (term_in ns t)) where
+  parts_up_to : (fuel t : ℕ) → t < fuel → Has t → AllByRecursion P (listing_order (term_in ns t))
   parts_up_to zero t below has = absurd (omega arith)
   parts_up_to (suc fuel) t below has =
       let n : Node = get_or ns t (record { head = falsum; kids = [] }) in
       let at : slice_get ns t ≡ Some n = slice_get-get_or ns t (record { head = falsum; kids = [] }) (inside t has) in
       let whole : term_in ns t ≡ apply n.head (terms_at (term_in ns) n.kids) = of_node ns table t n at in
       let kids : All Has n.kids = subst (All Has) (ap (λ o. elim o [ None ↦ [] | Some m ↦ m.kids ]) at) (arguments t has) in
-      let each : All (λ k. AllByRecursion P (post_order (term_in ns k))) n.kids =
+      let each : All (λ k. AllByRecursion P (listing_order (term_in ns k))) n.kids =
       λ k d below_kids. parts_up_to fuel (get_or n.kids k d) (let lower : get_or n.kids k d < t = table.before t n at k d below_kids in omega (arith, lower, below)) (kids k d below_kids) in
-      let last : P (apply n.head (terms_at (term_in ns) n.kids)) = subst P whole (own t has) in
-      subst (λ u. AllByRecursion P (post_order u)) (sym whole)
-      (AllByRecursion-append P (post_orders (terms_at (term_in ns) n.kids)) (apply n.head (terms_at (term_in ns) n.kids) ∷ [])
-      (each_argument P (term_in ns) n.kids (recursion_from_All (λ k. AllByRecursion P (post_order (term_in ns k))) n.kids each)) (last, tt))
+      let ts = terms_at (term_in ns) n.kids in
+      let last : P (apply n.head ts) = subst P whole (own t has) in
+      subst (λ u. AllByRecursion P (listing_order u)) (sym whole)
+      (AllByRecursion-append P (listing_orders ts ++ companions n.head ts) (apply n.head ts ∷ [])
+      (AllByRecursion-append P (listing_orders ts) (companions n.head ts)
+      (each_argument P (term_in ns) n.kids (recursion_from_All (λ k. AllByRecursion P (listing_order (term_in ns k))) n.kids each))
+      (subst (λ u. AllByRecursion P (companions_of u)) whole (beside t has))) (last, tt))
 
-  pub all_parts : (t : ℕ) → Has t → AllByRecursion P (post_order (term_in ns t))
+  pub all_parts : (t : ℕ) → Has t → AllByRecursion P (listing_order (term_in ns t))
   all_parts t has = parts_up_to (suc t) t (omega arith) has
 
 -- ---- Answers
@@ -91,13 +96,13 @@ real_of real_sort a b = refl
 
 -- ---- What was found
 
-module _ (rows_meet : RowsMeetTables) (decides : TablesDecide) (order : TakenTermsAreInOrder) (numbers : TermHasItsNumber) (of_node : TermOfNode) (assigns : AssignsByNumber) (own : AtomsOfTerms) (ns : List Node)
-    (levels : List (List ℕ)) (assumed : List TermLit) (p : PreparedState) (posed : IsPosed ns levels assumed p) (found : HasFound ns assumed p) (ps : List (ℕ × Value))
+module _ (rows_meet : RowsMeetTables) (decides : TablesDecide) (numbers : TermHasItsNumber) (of_node : TermOfNode) (assigns : AssignsByNumber) (own : AtomsOfTerms) (ns : List Node)
+    (levels : List Level) (assumed : List TermLit) (p : PreparedState) (posed : IsPosed ns levels assumed p) (found : HasFound ns assumed p) (ps : List (ℕ × Value))
     (covered : HasCoveredWorths ns p ps) where
   abbrev adds : HasWorths p.sat.theory ns covered.marks (flat_map (value_at ns p) p.form.terms.ids) ps
   adds = covered.worths
 
-  ready : IsPrepared ns levels (levels ++ terms_named assumed ∷ []) p
+  ready : IsPrepared ns levels (added_by_level levels ++ posed.more ∷ []) p
   ready = posed.standing.raised
 
   abbrev values : Assignment
@@ -119,8 +124,10 @@ module _ (rows_meet : RowsMeetTables) (decides : TablesDecide) (order : TakenTer
 
   -- ---- Atoms
 
-  among : (i : ℕ) → IsSearched ns p.log p.form i → Contains (atoms_of ns p) i
-  among i s = searched_in ns p own ready.order.atoms found.handed.terms found.handed.bounds found.handed.there.covered i s
+  among : (i : ℕ) → IsSearched ns p.log p.form i → Contains p.noted i
+  among i s =
+      All-contains (Contains p.noted) (atoms_of ns p) i found.handed.numbers.each
+      (searched_in ns p own ready.order.atoms found.handed.terms found.handed.bounds found.handed.there.covered i s)
 
   boolean_here : (t : ℕ) → IsSome (covered_at p.form t) → is_boolean_term (term_in ns t) ≡ true → HasTerm p.log.atoms t
   boolean_here t some boolean =
@@ -133,7 +140,7 @@ module _ (rows_meet : RowsMeetTables) (decides : TablesDecide) (order : TakenTer
       let here = boolean_here t some boolean in
       let place = term_place p.log.atoms t in
       let has = among place (record { atom = atoms.Term t; at = here; of = (some, boolean) }) in
-      let known = some_of (truth_of p.sat place) (All-contains (λ (i : ℕ). IsSome (truth_of p.sat i)) (atoms_of ns p) place found.truths.atoms_decided has) in
+      let known = some_of (truth_of p.sat place) (All-contains (λ (i : ℕ). IsSome (truth_of p.sat i)) p.noted place found.truths.atoms_decided has) in
       (known.0, truth_there p t here ∙ known.1)
 
   -- ---- Rows
@@ -162,7 +169,7 @@ module _ (rows_meet : RowsMeetTables) (decides : TablesDecide) (order : TakenTer
       by_atom (atoms.AtMost b) at x =
           let has = among l.atom x in
           let told : Contains (told_lits p.sat.theory) l = subst (λ (ls : List Lit). Contains ls l) (sym found.bounds.told) (found.bounds.all l has (b, at) holds) in
-          adds.met truths p.log.atoms (atoms_of ns p) found.forms found.told found.point found.of found.at l told has b at
+          adds.met truths p.log.atoms p.noted found.forms found.told found.point found.of found.at l told has b at
 
   rows_met : MeetsRows ns p.log truths worths
   rows_met i t row =
@@ -178,16 +185,20 @@ module _ (rows_meet : RowsMeetTables) (decides : TablesDecide) (order : TakenTer
   abbrev IsCovered : Term → Type 0
   IsCovered u = (i : ℕ) × IsSome (covered_at p.form i) × (term_in ns i ≡ u)
 
-  covered_parts : (t : ℕ) → IsSome (covered_at p.form t) → AllByRecursion IsCovered (post_order (term_in ns t))
+  covered_parts : (t : ℕ) → IsSome (covered_at p.form t) → AllByRecursion IsCovered (listing_order (term_in ns t))
   covered_parts =
       all_parts of_node ns posed.table (λ t. IsSome (covered_at p.form t)) IsCovered covered_within
       (λ t some.
       let n = some_of (covered_at p.form t) some in
       All-weaker (IsCoveredWithin p.form n.0) (λ k. IsSome (covered_at p.form k)) (λ k within. some_within (covered_at p.form k) n.0 within) (kids_at ns t) (ready.covers.arguments t n.0 n.1))
+      (λ t some.
+      let n = some_of (covered_at p.form t) some in
+      AllByRecursion-weaker (HasCovered ns p.form n.0) IsCovered (λ u c. (c.number, some_within (covered_at p.form c.number) n.0 c.covered, c.term)) (companions_of (term_in ns t))
+      (ready.covers.companions t n.0 n.1))
       (λ t some. (t, some, refl))
 
-  part_covered : (t : ℕ) → IsSome (covered_at p.form t) → (u : Term) → Contains (post_order (term_in ns t)) u → IsCovered u
-  part_covered t some u has = All-contains IsCovered (post_order (term_in ns t)) u (All-from_recursion IsCovered (post_order (term_in ns t)) (covered_parts t some)) has
+  part_covered : (t : ℕ) → IsSome (covered_at p.form t) → (u : Term) → Contains (listing_order (term_in ns t)) u → IsCovered u
+  part_covered t some u has = All-contains IsCovered (listing_order (term_in ns t)) u (All-from_recursion IsCovered (listing_order (term_in ns t)) (covered_parts t some)) has
 
   -- the node of a covered constant
   record IsNodeOf (i : ℕ) (c : Constant) : Type 0 where
@@ -244,20 +255,18 @@ module _ (rows_meet : RowsMeetTables) (decides : TablesDecide) (order : TakenTer
   tables_met : (t : ℕ) → IsSome (covered_at p.form t) → MeetsTables truths worths (number_in ns) values (listing_order (term_in ns t))
   tables_met t some =
       let taken : IsTaken (term_in ns t) = ready.taken t some in
-      let clauses = rows_meet ns levels p.log p.form posed.table ready.order ready.covers truths worths rows_met t some in
-      let same : listing_order (term_in ns t) ≡ post_order (term_in ns t) = order.listing (term_in ns t) taken in
-      let part : (u : Term) → Contains (listing_order (term_in ns t)) u → Contains (post_order (term_in ns t)) u = λ u has. subst (λ (us : List Term). Contains us u) same has in
+      let clauses = rows_meet ns (asserted_by_level levels) p.log p.form posed.table ready.order ready.covers truths worths rows_met t some in
       record {
-        gates = λ u has. clauses.gates u (part u has);
-        links = λ u has. clauses.links u (part u has);
-        units = λ u has. clauses.units u (part u has);
+        gates = clauses.gates;
+        links = clauses.links;
+        units = clauses.units;
         known = λ u has boolean.
-            let of = part_covered t some u (part u has) in
+            let of = part_covered t some u has in
             let own_boolean : is_boolean_term (term_in ns of.0) ≡ true = ap is_boolean_term of.2 ∙ boolean in
             let known = truth_known of.0 of.1 own_boolean in
             (known.0, subst (λ (x : Term). truths x ≡ Some known.0) of.2 (truth_is of.0 (covered_within of.0 of.1) own_boolean ∙ known.1));
-        constants = λ c sign has e. constant_truth c sign (part_covered t some (apply (constant c) no_terms) (part (apply (constant c) no_terms) has)) e;
-        numbers = λ c has other. constant_number c (part_covered t some (apply (constant c) no_terms) (part (apply (constant c) no_terms) has)) other;
+        constants = λ c sign has e. constant_truth c sign (part_covered t some (apply (constant c) no_terms) has) e;
+        numbers = λ c has other. constant_number c (part_covered t some (apply (constant c) no_terms) has) other;
         integral = λ u integer. absurd (decides.integers (term_in ns t) u taken integer);
       }
 
@@ -276,21 +285,15 @@ module _ (rows_meet : RowsMeetTables) (decides : TablesDecide) (order : TakenTer
 
   -- ---- What is asserted
 
-  asserted_true : All (λ t. value_of values (term_in ns t) ≡ truth true) (asserted_numbers levels)
+  asserted_true : All (λ t. value_of values (term_in ns t) ≡ truth true) (asserted_numbers (asserted_by_level levels))
   asserted_true k d below =
-      let t : ℕ = get_or (asserted_numbers levels) k d in
-      let all = posed.all_given in
-      let u : HoldsUnit levels p k t = ready.units k t (omega (arith, below, all)) (slice_get-get_or (asserted_numbers levels) k d below) in
-      let l = lit_of p.log.atoms (yes t) in
+      let t : ℕ = get_or (asserted_numbers (asserted_by_level levels)) k d in
+      let all = posed.all.given in
+      let u : HoldsUnit (asserted_by_level levels) p k t = ready.units k t (omega (arith, below, all)) (slice_get-get_or (asserted_numbers (asserted_by_level levels)) k d below) in
       let one_true = subst (IsTrueClause p.sat) u.literals (true_clause u.held u.there) in
       let P = λ (x : Lit). IsTrueLit p.sat x → truth_of p.sat (term_place p.log.atoms t) ≡ Some true in
       let holds : truth_of p.sat (term_place p.log.atoms t) ≡ Some true = All-contains P (unit_of p.log t) one_true.0 (All-from_recursion P (unit_of p.log t) ((λ e. e), tt)) one_true.1 one_true.2 in
-      let each = All-contains (λ (x : Held). All (λ (m : Lit). IsSearched ns p.log p.form m.atom) (literals_at p.log x.id)) p.sat.clauses u.held ready.searched u.there in
-      let s : IsSearched ns p.log p.form l.atom =
-      All-contains (λ (m : Lit). IsSearched ns p.log p.form m.atom) (literals_at p.log u.held.id) l each (subst (λ (c : List Lit). Contains c l) (sym u.literals) (0, omega arith, refl)) in
-      let both : Some s.atom ≡ Some (atoms.Term t) = sym s.at ∙ u.named in
-      let is : s.atom ≡ atoms.Term t = cc in
-      let of = subst (IsOfForm ns p.form l.atom) is s.of in
+      let of = unit_covered ready k t u in
       decided t true of.0 of.1 (truth_there p t u.named ∙ holds)
 
   assumed_true : All (λ (l : TermLit). value_of values (term_in ns l.term) ≡ truth l.sign) assumed
@@ -303,13 +306,13 @@ module _ (rows_meet : RowsMeetTables) (decides : TablesDecide) (order : TakenTer
       let taken = all_named (λ t. IsTakenBoolean (term_in ns t)) assumed posed.assumed_taken k d below in
       decided m.term m.sign (posed.assumed_covered k d below) taken.boolean (truth_there p m.term (found.handed.there.named k d below) ∙ holds)
 
-  pub made_true : AreModelValues ns (map (term_in ns) (asserted_numbers levels)) [] ps × AreTrueLiterals values (map (literal_of ns) assumed)
+  pub made_true : AreModelValues ns (map (term_in ns) (asserted_numbers (asserted_by_level levels))) [] ps × AreTrueLiterals values (map (literal_of ns) assumed)
   made_true = (
     record {
       values = each_value;
       makes = record {
         sorts = sorted;
-        asserted_hold = each_true ns values (asserted_numbers levels) (recursion_from_All (λ t. value_of values (term_in ns t) ≡ truth true) (asserted_numbers levels) asserted_true);
+        asserted_hold = each_true ns values (asserted_numbers (asserted_by_level levels)) (recursion_from_All (λ t. value_of values (term_in ns t) ≡ truth true) (asserted_numbers (asserted_by_level levels)) asserted_true);
         assumed_hold = tt;
       };
     },

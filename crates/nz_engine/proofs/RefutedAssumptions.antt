@@ -33,6 +33,7 @@ use Rattle.nz_log.specs.Sound.{IsLog, live_terms, ClausesAreTrue}
 use Rattle.nz_term.specs.TermLits.{AreNegations, clause_of_terms, literal_of, turned}
 use Rattle.nz_search.specs.Verdicts.{IfSat, IfUnsat, OnUnsat}
 use Rattle.nz_sat.specs.Conflicts.{Refutes}
+use Rattle.nz_search.specs.Levels.{Level, asserted_by_level}
 use Rattle.nz_engine.specs.Engines.{literals_in, on_term, on_terms}
 use Rattle.nz_engine.specs.Checking.{IsAnswer}
 use Rattle.nz_engine.proofs.NamedTerms.{each_of}
@@ -220,23 +221,23 @@ refuted_by log assumed there (Ok None) h = tt
 refuted_by log assumed there (Err x) h = tt
 
 -- an answer without values
-pub unsat_of : (ns : List Node) (levels : List (List ℕ)) (assumed : List TermLit) (log : LogState) (v : Verdict) → IsAnswer ns levels assumed log v
-    → OnUnsat v (IsUnsatisfiable (asserted_terms ns levels) (map (literal_of ns) assumed))
+pub unsat_of : (ns : List Node) (levels : List Level) (assumed : List TermLit) (log : LogState) (v : Verdict) → IsAnswer ns levels assumed log v
+    → OnUnsat v (IsUnsatisfiable (asserted_terms ns (asserted_by_level levels)) (map (literal_of ns) assumed))
 unsat_of ns levels assumed log (Sat ps) h = tt
 unsat_of ns levels assumed log (Unsat id) h = h.0
 
 -- what the values make true, and what a clause without values says
-pub sat_of : (ns : List Node) (levels : List (List ℕ)) (assumed : List TermLit) (log : LogState) (v : Verdict) → IsAnswer ns levels assumed log v
-    → IfSat v (AreModelValues ns (asserted_terms ns levels) [])
+pub sat_of : (ns : List Node) (levels : List Level) (assumed : List TermLit) (log : LogState) (v : Verdict) → IsAnswer ns levels assumed log v
+    → IfSat v (AreModelValues ns (asserted_terms ns (asserted_by_level levels)) [])
 sat_of ns levels assumed log (Sat ps) h = h.0
 sat_of ns levels assumed log (Unsat id) h = tt
 
-pub assumed_of : (ns : List Node) (levels : List (List ℕ)) (assumed : List TermLit) (log : LogState) (v : Verdict) → IsAnswer ns levels assumed log v
+pub assumed_of : (ns : List Node) (levels : List Level) (assumed : List TermLit) (log : LogState) (v : Verdict) → IsAnswer ns levels assumed log v
     → IfSat v (λ ps. AreTrueLiterals (assignment_by ns ps) (map (literal_of ns) assumed))
 assumed_of ns levels assumed log (Sat ps) h = h.1
 assumed_of ns levels assumed log (Unsat id) h = tt
 
-pub negations_told : (ns : List Node) (levels : List (List ℕ)) (assumed : List TermLit) (log : LogState) (v : Verdict) → IsAnswer ns levels assumed log v
+pub negations_told : (ns : List Node) (levels : List Level) (assumed : List TermLit) (log : LogState) (v : Verdict) → IsAnswer ns levels assumed log v
     → IfUnsat v (λ id. AreNegations assumed (literals_in log id))
 negations_told ns levels assumed log (Sat ps) h = tt
 negations_told ns levels assumed log (Unsat id) h = h.1

@@ -1,6 +1,6 @@
 -- A search over what is prepared: its atoms, what they say, and what stays when it has learned.
-use Rattle.std.proofs.Common.{◌≡◌, inl, inr, ℕ, suc, Bool, true, false, not, List, [], ◌∷◌, ◌++◌, get_or, map, Option, Some, None, option_map, Result, Ok, Err, IfOk, refl, sym, ap, subst, ◌∙◌, ◌⊎◌}
-use Rattle.std.specs.Prelude.{All, Contains, IsSome, slice_get}
+use Rattle.std.proofs.Common.{◌≡◌, inl, inr, ℕ, suc, Bool, true, false, not, List, [], ◌∷◌, ◌++◌, get_or, map, take, Option, Some, None, option_map, Result, Ok, Err, IfOk, OnOk, refl, sym, ap, subst, ◌∙◌, ◌⊎◌}
+use Rattle.std.specs.Prelude.{All, Contains, IsSome, slice_get, unwrap_or}
 use Rattle.std.specs.List.{AllByRecursion}
 use Rattle.std.proofs.lemmas.Option.{get_or_from_slice_get, slice_get_within}
 use Rattle.std.proofs.lemmas.List.Elements.{All-append, All-contains, All-contains_itself, All-from_recursion, All-head, All-map, All-tail, All-weaker, Contains-append_left, Contains-append_right, Contains-get_or}
@@ -8,7 +8,7 @@ use Rattle.nz_lists.proofs.Members.{has_found, map_has}
 use Rattle.nz_lists.proofs.Elements.{AllByRecursion-weaker}
 use Rattle.nz_fractions.specs.Fraction.{Fraction, neg_ℚ}
 use Rattle.nz_fractions.proofs.Identities.{neg-back, neg-nonzero}
-use Rattle.nz_spec.specs.search.Decide.{asserted_numbers}
+use Rattle.nz_spec.specs.search.Decide.{asserted_numbers, asserted_terms}
 use Rattle.nz_spec.specs.terms.Form as spec
 use Rattle.nz_spec.specs.terms.Form.{negated_part}
 use Rattle.nz_spec.specs.terms.FormOf.{number_in}
@@ -39,8 +39,9 @@ use Rattle.nz_search.specs.declared.note.Note.{Note}
 use Rattle.nz_search.specs.declared.stop.Stop.{Stop}
 use Rattle.nz_term.specs.TermLits.{AreConsistent, literal_of}
 use Rattle.nz_log.specs.Growth as growth
-use Rattle.nz_search.specs.Verdicts.{task_in}
-use Rattle.nz_cform.specs.Covering.{HasBound}
+use Rattle.nz_search.specs.Asked.{AreListedIn}
+use Rattle.nz_cform.specs.Covering.{HasBound, Keeps}
+use Rattle.nz_sat.specs.declared.clauses.Held.{Held}
 use Rattle.nz_cform.specs.Forms.{FormState, covered_at}
 use Rattle.nz_cform.specs.Laws.{CoversStay}
 use Rattle.nz_cform.specs.Listings.{IsListing, listed_at}
@@ -49,16 +50,18 @@ use Rattle.nz_reals.specs.Stands.{HasTold, IsAt, IsFeasible, IsOf, IsOver}
 use Rattle.nz_reals.specs.Starts.{MayRestart, TheoriesRestart}
 use Rattle.nz_reals.specs.State.{Theory}
 use Rattle.nz_reals.specs.Sums.{AreNonzero}
-use Rattle.nz_sat.specs.Numbers.{IsAtomAt, atom_literal}
+use Rattle.nz_sat.specs.Numbers.{AreNotedIn, IsAtomAt, atom_literal}
 use Rattle.nz_sat.specs.Sats as sat
 use Rattle.nz_sat.specs.Sats.{AreNamed, AreOn, HoldsMore, IsAsked, IsSatisfied, IsTheoryMet, truth_of}
-use Rattle.nz_engine.specs.Checking.{AreHanded, AreLearnable, HasFound, HaveAtoms, IsLearnable, IsNonzero, IsPosed, IsReady, MayBegin, terms_named, truth_in, IsPlainAtom, AreCoveredAmong}
-use Rattle.nz_engine.specs.Preparing.{PreparedState, AreSearched, IsOfForm, IsPrepared, IsSearched, atoms_of, boolean_terms}
+use Rattle.nz_search.specs.Levels.{Level, added_by_level, asserted_by_level}
+use Rattle.nz_engine.specs.Checking.{AreHanded, AreLearnable, HasFound, HaveAtoms, IsLearnable, IsNonzero, IsPosed, IsReady, MayBeNamed, MayBegin, MayLearnMore, terms_named, truth_in, IsPlainAtom, AreCoveredAmong}
+use Rattle.nz_engine.specs.Preparing as prepared
+use Rattle.nz_engine.specs.Preparing.{AreJust, PreparedState, AreSearched, IsMadeOf, IsOfForm, IsPrepared, IsSearched, atoms_of, boolean_terms, ids_held}
 use Rattle.nz_engine.specs.SearchLaws.{RowLaws, SearchLaws}
-use Rattle.nz_engine.proofs.LevelPreservation.{made_of_more, some_of, some_within, still_searched}
+use Rattle.nz_engine.proofs.LevelPreservation.{some_of, some_within, still_searched}
 use Rattle.nz_engine.proofs.AtomNotes.{listed_part, once_from_pairs}
 use Rattle.nz_engine.proofs.Onces.{boolean_there, boolean_was, once_append, once_booleans, once_from_stand, once_map, stand_from_once}
-use Rattle.nz_engine.proofs.AssertionPlaces.{all_roots, in_all, place_of}
+use Rattle.nz_engine.proofs.AssertionPlaces.{in_all, place_of}
 use Rattle.nz_engine.proofs.ClausePreservation.{from_lits, joined_prepared, learned, literal_at_atom}
 use Rattle.nz_engine.proofs.RowFacts.{AreNonzeroParts, IsOfRow, IsRowLiteral, of_row}
 
@@ -164,7 +167,7 @@ entry_of f (Some x) y e = (x, refl)
 
 -- ---- What is searched for
 
-module _ (laws : RowLaws) (ns : List Node) (table : IsTable ns) (levels roots : List (List ℕ)) (p : PreparedState) (ready : IsPrepared ns levels roots p) where
+module _ (laws : RowLaws) (ns : List Node) (table : IsTable ns) (levels : List Level) (roots : List (List ℕ)) (p : PreparedState) (ready : IsPrepared ns levels roots p) where
   -- A bound that is listed is of a row in the log.
   record IsBoundOf (i : ℕ) (b : Bound) : Type 0 where
     clause : ℕ
@@ -193,7 +196,7 @@ module _ (laws : RowLaws) (ns : List Node) (table : IsTable ns) (levels roots : 
         at = own;
         covered = some_term;
         fact = subst (IsOfRow (number_in ns) (term_in ns x.term)) (bound_in_log ns p.log.atoms x.literal b own (normal_bound p.log.atoms i b ready.order.atoms at))
-            (of_row laws ns table levels p.log ready.order of.0 x.term x.row (ready.taken x.term some_term) x.literal x.has);
+            (of_row laws ns table (asserted_by_level levels) p.log ready.order of.0 x.term x.row (ready.taken x.term some_term) x.literal x.has);
       }
 
   -- the atom is over the table
@@ -316,29 +319,59 @@ module _ (ns : List Node) (p : PreparedState) (own : AtomsOfTerms) (are : AreAto
         let one : Term of.0 ≡ AtMost b.0 = cc in
         absurd cc))
 
+-- what a list names behind others is just that
+pub named_numbers : (own : AtomsOfTerms) (ns : List Node) (old p : PreparedState) → AreAtoms p.log.atoms → IsListing p.form.terms → IsListing p.form.bounds → All (HasTerm p.log.atoms) (boolean_terms ns p.form.terms.ids)
+    → ((i : ℕ) → IsSome (listed_at p.form.bounds i) → (b : Bound) × (slice_get p.log.atoms i ≡ Some (AtMost b))) → p.form ≡ old.form → Stay old.log.atoms p.log.atoms → (front : List ℕ)
+    → MayBeNamed ns old front → prepared.Names front (atoms_of ns p) p.noted → AreJust (atoms_of ns p) p.noted
+named_numbers own ns old p are terms bounds has bound_at form stay front may names =
+    record {
+      each = names.each;
+      only = All-weaker (Contains p.noted) (Contains (atoms_of ns p))
+          (λ i there.
+          elim (names.only i there) [
+            | inl was ↦ searched_in ns p own are terms bounds has i
+                (still_searched ns ns old p i (λ a at. stay i a at) (λ a at of. subst (λ (f : FormState). IsOfForm ns f i a) (sym form) of) (All-contains (IsSearched ns old.log old.form) front i may.searched was))
+            | inr is ↦ is
+          ]) p.noted (All-contains_itself p.noted);
+      once = names.once may.once;
+    }
+
+pub both_ok : {X E : Type 0} (r : Result X E) (H : X → Type 0) (B : Type 0) (R : X → Type 0) → ((x : X) → H x → B → R x) → IfOk r H → OnOk r B → IfOk r R
+both_ok (Ok x) H B R f h b = f x h b
+both_ok (Err e) H B R f h b = tt
+
 -- ---- A search that is handed its atoms
 
--- what is covered is listed in what is asked
-pub covered_among : {ns : List Node} {levels : List (List ℕ)} {assumed : List TermLit} {p : PreparedState} → IsPosed ns levels assumed p → AreCoveredAmong ns p (task_in ns levels assumed []).listed
-covered_among {ns} {levels} {assumed} {p} posed t some =
-    let ready = posed.standing.raised in
+-- what these roots are made of is listed in what is asked
+pub made_among : (ns : List Node) (levels : List Level) (assumed : List TermLit) (roots : List ℕ) (ts : List Term.Term) → ((r : ℕ) → Contains roots r → Contains (asserted_numbers (added_by_level levels) ++ terms_named assumed) r)
+    → AreListedIn ns levels assumed ts → (t : ℕ) → IsMadeOf ns roots t → Contains ts (term_in ns t)
+made_among ns levels assumed roots ts into listed t of =
+    listed (term_in ns t) (listed_part ns levels assumed of.root (into of.root of.has) (term_in ns t) of.part)
+
+-- so is what is covered for the assertions
+pub prepared_among : {ns : List Node} {levels : List Level} (assumed : List TermLit) {p : PreparedState} → IsPrepared ns levels (added_by_level levels) p → (ts : List Term.Term) → AreListedIn ns levels assumed ts
+    → AreCoveredAmong ns p ts
+prepared_among {ns} {levels} assumed {p} ready ts listed t some =
     let k = some_of (covered_at p.form t) some in
-    let roots = asserted_numbers levels ++ terms_named assumed in
-    let all = asserted_numbers (levels ++ terms_named assumed ∷ []) in
-    let into : (r : ℕ) → Contains (live_at (levels ++ terms_named assumed ∷ []) k.0) r → Contains roots r = λ r has.
-    let place = place_of (live_at (levels ++ terms_named assumed ∷ []) k.0) r has in
-    subst (λ xs. Contains xs r) (all_roots levels (terms_named assumed))
-    (has_found all place.0 r (in_all (levels ++ terms_named assumed ∷ []) (suc k.0) place.0 r place.1)) in
-    let of = made_of_more ns (live_at (levels ++ terms_named assumed ∷ []) k.0) roots t into (ready.made t k.0 k.1) in
-    listed_part ns levels assumed of.root of.has (term_in ns t) of.part
+    made_among ns levels assumed (live_at (added_by_level levels) k.0) ts
+    (λ r has.
+    let place = place_of (live_at (added_by_level levels) k.0) r has in
+    Contains-append_left (asserted_numbers (added_by_level levels)) (terms_named assumed) r (has_found (asserted_numbers (added_by_level levels)) place.0 r (in_all (added_by_level levels) (suc k.0) place.0 r place.1)))
+    listed t (ready.made t k.0 k.1)
 
-module _ (laws : RowLaws) (own : AtomsOfTerms) {ns : List Node} {levels : List (List ℕ)} {assumed : List TermLit} {p : PreparedState} (posed : IsPosed ns levels assumed p)
+-- and what is covered for the assumed literals besides
+pub covered_by : (ns : List Node) (levels : List Level) (assumed : List TermLit) (old new : PreparedState) (ts : List Term.Term) → AreListedIn ns levels assumed ts → AreCoveredAmong ns old ts
+    → ((t : ℕ) → IsSome (covered_at new.form t) → IsSome (covered_at old.form t) ⊎ IsMadeOf ns (terms_named assumed) t) → AreCoveredAmong ns new ts
+covered_by ns levels assumed old new ts listed among made t some =
+    elim (made t some) [
+      | inl was ↦ among t was
+      | inr of ↦ made_among ns levels assumed (terms_named assumed) ts (λ r has. Contains-append_right (asserted_numbers (added_by_level levels)) (terms_named assumed) r has) listed t of
+    ]
+
+module _ (laws : RowLaws) (own : AtomsOfTerms) {ns : List Node} {levels : List Level} {assumed : List TermLit} {p : PreparedState} (posed : IsPosed ns levels assumed p)
     {ids : List ℕ} {lits : List Lit} (n : AreHanded ns p assumed ids lits) where
-  abbrev ready : IsPrepared ns levels (levels ++ terms_named assumed ∷ []) p
+  abbrev ready : IsPrepared ns levels (added_by_level levels ++ posed.more ∷ []) p
   ready = posed.standing.raised
-
-  covered_listed : (t : ℕ) → IsSome (covered_at p.form t) → Contains (task_in ns levels assumed []).listed (term_in ns t)
-  covered_listed = covered_among posed
 
   bound_at : (i : ℕ) → IsSome (listed_at p.form.bounds i) → (b : Bound) × (slice_get p.log.atoms i ≡ Some (AtMost b))
   bound_at i some =
@@ -347,40 +380,63 @@ module _ (laws : RowLaws) (own : AtomsOfTerms) {ns : List Node} {levels : List (
       (of.1.bound, of.1.is_bound)
 
   pub ids_searched : All (IsSearched ns p.log p.form) ids
-  ids_searched = subst (All (IsSearched ns p.log p.form)) (sym n.numbers) (atoms_searched ns p own ready.order.atoms n.terms n.bounds n.there.covered bound_at)
+  ids_searched =
+      All-weaker (Contains (atoms_of ns p)) (IsSearched ns p.log p.form)
+      (λ i has. All-contains (IsSearched ns p.log p.form) (atoms_of ns p) i (atoms_searched ns p own ready.order.atoms n.terms n.bounds n.there.covered bound_at) has) ids n.numbers.only
+
+  -- what is searched for is among them
+  ids_there : (i : ℕ) → IsSearched ns p.log p.form i → Contains ids i
+  ids_there i s = All-contains (Contains ids) (atoms_of ns p) i n.numbers.each (searched_in ns p own ready.order.atoms n.terms n.bounds n.there.covered i s)
 
   pub ids_within : All (IsAtomAt ns p.log.atoms) ids
-  ids_within = All-weaker (IsSearched ns p.log p.form) (IsAtomAt ns p.log.atoms) (searched_within laws ns posed.table levels (levels ++ terms_named assumed ∷ []) p ready) ids ids_searched
+  ids_within = All-weaker (IsSearched ns p.log p.form) (IsAtomAt ns p.log.atoms) (searched_within laws ns posed.table levels (added_by_level levels ++ posed.more ∷ []) p ready) ids ids_searched
 
   pub ids_learnable : AreLearnable p.sat.theory p.log.atoms ids
   ids_learnable =
       record {
         table = ns;
         over = posed.over;
-        each = All-weaker (IsSearched ns p.log p.form) (IsLearnable ns p.log.atoms) (searched_learnable laws ns posed.table levels (levels ++ terms_named assumed ∷ []) p ready) ids ids_searched;
+        each = All-weaker (IsSearched ns p.log p.form) (IsLearnable ns p.log.atoms) (searched_learnable laws ns posed.table levels (added_by_level levels ++ posed.more ∷ []) p ready) ids ids_searched;
       }
 
   pub ids_told : AreToldAtoms p.log ids
   ids_told =
       let T = λ (l : Lit). Names (λ t. IsSome (told_of p.log t)) p.log.atoms l in
       All-map T (λ (i : ℕ). record { atom = i; sign = true }) ids
-      (All-weaker (IsSearched ns p.log p.form) (λ i. T (record { atom = i; sign = true })) (searched_told laws ns posed.table levels (levels ++ terms_named assumed ∷ []) p ready) ids ids_searched)
+      (All-weaker (IsSearched ns p.log p.form) (λ i. T (record { atom = i; sign = true })) (searched_told laws ns posed.table levels (added_by_level levels ++ posed.more ∷ []) p ready) ids ids_searched)
 
-  pub ids_once : StandOnce ids
-  ids_once = subst StandOnce (sym n.numbers) (atoms_once ns p own ready.order.atoms n.terms n.bounds n.there.covered bound_at)
+  -- each may be named, where what is covered is listed
+  pub ids_nameable : (q : Task) → q.numbering ≡ number_in ns → AreCoveredAmong ns p q.listed → All (λ i. IsPlainAtom q (atom_literal ns p.log.atoms i)) ids
+  ids_nameable q numbering listed =
+      All-weaker (IsSearched ns p.log p.form) (λ i. IsPlainAtom q (atom_literal ns p.log.atoms i))
+      (λ i s.
+      subst (λ (number : spec.Numbering). IsTruth q.listed (atom_literal ns p.log.atoms i) ⊎ IsTabled number q.listed (atom_literal ns p.log.atoms i)) (sym numbering)
+      (searched_nameable laws ns posed.table levels (added_by_level levels ++ posed.more ∷ []) p ready q.listed listed i s)) ids ids_searched
 
-  pub may_begin : TheoriesRestart → (ts : List Term.Term) → MayRestart p.sat.theory ns ts → MayBegin p.sat.theory ns (task_in ns levels assumed ts) p.log.atoms ids
-  may_begin restart ts rest =
-      let q = task_in ns levels assumed ts in
+  pub may_begin : TheoriesRestart → (q : Task) → q.numbering ≡ number_in ns → AreCoveredAmong ns p q.listed → MayRestart p.sat.theory ns q.earlier → MayBegin p.sat.theory ns q p.log.atoms ids
+  may_begin restart q numbering listed rest =
       record {
         over = posed.over;
-        numbering = refl;
-        rest = restart.more p.sat.theory ns ts (terms_known q) (λ t c. Contains-append_left ts q.listed t c) rest;
+        numbering = numbering;
+        rest = restart.more p.sat.theory ns q.earlier (terms_known q) (λ t c. Contains-append_left q.earlier q.listed t c) rest;
         within = ids_within;
-        nameable = All-weaker (IsSearched ns p.log p.form) (λ i. IsPlainAtom q (atom_literal ns p.log.atoms i))
-            (searched_nameable laws ns posed.table levels (levels ++ terms_named assumed ∷ []) p ready q.listed covered_listed) ids ids_searched;
-        once = ids_once;
+        nameable = ids_nameable q numbering listed;
+        once = n.numbers.once;
         atoms = ready.order.atoms;
+      }
+
+  -- more may be, behind the first of them
+  pub may_learn_more : (q : Task) → q.numbering ≡ number_in ns → AreCoveredAmong ns p q.listed → (from : ℕ) (work : WorkList Note) → AreNotedIn p.log.atoms work.lines (take from ids)
+      → MayLearnMore ns q p.log.atoms ids from work
+  may_learn_more q numbering listed from work named =
+      record {
+        table = posed.table;
+        numbering = numbering;
+        within = ids_within;
+        nameable = ids_nameable q numbering listed;
+        once = n.numbers.once;
+        atoms = ready.order.atoms;
+        named = named;
       }
 
   -- the assumed literals are on them
@@ -393,9 +449,7 @@ module _ (laws : RowLaws) (own : AtomsOfTerms) {ns : List Node} {levels : List (
       let l : TermLit = get_or assumed k d in
       let has : Contains (terms_named assumed) l.term = map_has (λ (m : TermLit). m.term) assumed l (Contains-get_or assumed k d below) in
       let boolean : is_boolean_term (term_in ns l.term) ≡ true = (All-contains (λ t. IsTakenBoolean (term_in ns t)) (terms_named assumed) l.term posed.assumed_taken has).boolean in
-      subst (λ (is : List ℕ). Contains is (term_place p.log.atoms l.term)) (sym n.numbers)
-      (searched_in ns p own ready.order.atoms n.terms n.bounds n.there.covered (term_place p.log.atoms l.term)
-      (record { atom = Term l.term; at = n.there.named k d below; of = (posed.assumed_covered k d below, boolean) }))))
+      ids_there (term_place p.log.atoms l.term) (record { atom = Term l.term; at = n.there.named k d below; of = (posed.assumed_covered k d below, boolean) })))
 
   pub are_named : AreNamed p.log p.sat.clauses lits ids
   are_named =
@@ -403,29 +457,29 @@ module _ (laws : RowLaws) (own : AtomsOfTerms) {ns : List Node} {levels : List (
         clauses = λ k d below.
             let x = get_or p.sat.clauses k d in
             All-weaker (λ (l : Lit). IsSearched ns p.log p.form l.atom) (λ (l : Lit). Contains ids l.atom)
-            (λ l s. subst (λ (is : List ℕ). Contains is l.atom) (sym n.numbers) (searched_in ns p own ready.order.atoms n.terms n.bounds n.there.covered l.atom s))
+            (λ l s. ids_there l.atom s)
             (literals_at p.log x.id) (ready.searched k d below);
         assumed_named = lits_among;
-        once = ids_once;
+        once = n.numbers.once;
       }
 
   pub are_consistent : AreConsistent assumed → sat.AreConsistent lits
   are_consistent apart = subst sat.AreConsistent (sym n.on_atoms) (consistent_lits p.log.atoms assumed n.there.named apart)
 
-  pub is_asked : (ts : List Term.Term) (work : WorkList Note) → (search_after ns work).under ≡ map (literal_of ns) assumed → IsAsked ns levels p.log ids lits work (task_in ns levels assumed ts)
-  is_asked ts work under =
+  pub is_asked : (q : Task) (work : WorkList Note) → q.asserted ≡ asserted_terms ns (asserted_by_level levels) → (search_after ns work).under ≡ map (literal_of ns) assumed → IsAsked ns (asserted_by_level levels) p.log ids lits work q
+  is_asked q work asserted under =
       record {
         table = posed.table;
         within = ids_within;
         named = lits_among;
         order = ready.order;
-        asserted = refl;
+        asserted = asserted;
         under = under ∙ sym (says ns p.log.atoms assumed n.there.named) ∙ ap (map (literal_in ns p.log.atoms)) (sym n.on_atoms);
       }
 
   -- ---- In a log that grows
 
-  module _ (q : PreparedState) (grows : growth.Grows p.log q.log) (form : q.form ≡ p.form) where
+  module _ (q : PreparedState) (grows : growth.Grows p.log q.log) (form : q.form ≡ p.form) (same_noted : q.noted ≡ p.noted) where
     pub named_have : HaveAtoms ns q assumed
     named_have =
         record {
@@ -437,11 +491,22 @@ module _ (laws : RowLaws) (own : AtomsOfTerms) {ns : List Node} {levels : List (
     pub named_lits : lits ≡ lits_of q.log.atoms assumed
     named_lits = n.on_atoms ∙ sym (lits_stay own p.log.atoms q.log.atoms grows.atoms assumed n.there.named)
 
-    pub named_ids : ids ≡ atoms_of ns q
-    named_ids =
-        n.numbers
-        ∙ ap (λ (is : List ℕ). is ++ p.form.bounds.ids) (sym (places_stay own p.log.atoms q.log.atoms grows.atoms (boolean_terms ns p.form.terms.ids) n.there.covered))
+    named_atoms : atoms_of ns p ≡ atoms_of ns q
+    named_atoms =
+        ap (λ (is : List ℕ). is ++ p.form.bounds.ids) (sym (places_stay own p.log.atoms q.log.atoms grows.atoms (boolean_terms ns p.form.terms.ids) n.there.covered))
         ∙ ap (λ (f : FormState). map (term_place q.log.atoms) (boolean_terms ns f.terms.ids) ++ f.bounds.ids) (sym form)
+
+    pub named_ids : ids ≡ q.noted
+    named_ids = n.noted ∙ sym same_noted
+
+    pub named_just : AreJust (atoms_of ns q) q.noted
+    named_just = subst (λ (is : List ℕ). AreJust (atoms_of ns q) is) named_ids (subst (λ (is : List ℕ). AreJust is ids) named_atoms n.numbers)
+
+    -- its atoms are searched for still
+    pub ids_still : All (IsSearched ns q.log q.form) ids
+    ids_still =
+        All-weaker (IsSearched ns p.log p.form) (IsSearched ns q.log q.form)
+        (λ i s. still_searched ns ns p q i (λ a at. grows.atoms i a at) (λ a at of. subst (λ (f : FormState). IsOfForm ns f i a) (sym form) of) s) ids ids_searched
 
     pub named_searched : AreOn q.log ids q.sat.clauses → AreSearched ns q.log q.form q.sat.clauses
     named_searched on k d below =
@@ -461,11 +526,12 @@ module _ (laws : RowLaws) (own : AtomsOfTerms) {ns : List Node} {levels : List (
           handed = record {
             terms = subst (λ (f : FormState). IsListing f.terms) (sym form) n.terms;
             bounds = subst (λ (f : FormState). IsListing f.bounds) (sym form) n.bounds;
-            numbers = refl;
+            noted = refl;
+            numbers = named_just;
             on_atoms = refl;
             there = named_have;
           };
-          truths = subst (λ (ls : List Lit). IsSatisfied q.log q.sat ls (atoms_of ns q)) named_lits (subst (λ (is : List ℕ). IsSatisfied q.log q.sat lits is) named_ids satisfied);
+          truths = subst (λ (ls : List Lit). IsSatisfied q.log q.sat ls q.noted) named_lits (subst (λ (is : List ℕ). IsSatisfied q.log q.sat lits is) named_ids satisfied);
           bounds = subst (λ (is : List ℕ). IsTheoryMet q.log (HasTold q.sat.theory) (IsFeasible q.sat.theory) q.sat is) named_ids met;
           of = subst (λ (is : List ℕ). IsOf q.sat.theory q.log.atoms is) named_ids of_here;
           forms = (search_after ns work).forms;
@@ -482,19 +548,20 @@ module _ (laws : RowLaws) (own : AtomsOfTerms) {ns : List Node} {levels : List (
 
 -- ---- What stays
 
-module _ (own : AtomsOfTerms) (covers : CoversStay) (ns : List Node) (levels : List (List ℕ)) (assumed : List TermLit) (p q : PreparedState) (form : q.form ≡ p.form)
-    (given : q.given ≡ p.given) (above : q.above ≡ p.above) where
+module _ (own : AtomsOfTerms) (covers : CoversStay) (ns : List Node) (levels : List Level) (assumed : List TermLit) (p q : PreparedState) (form : q.form ≡ p.form)
+    (given : q.given ≡ p.given) (numbered : q.numbered ≡ p.numbered) (above : q.above ≡ p.above) where
   posed_with : ((roots : List (List ℕ)) → IsPrepared ns levels roots p → IsPrepared ns levels roots q) → (IsOver p.sat.theory ns → IsOver q.sat.theory ns) → IsPosed ns levels assumed p
       → IsPosed ns levels assumed q
   posed_with stays over h =
       record {
         table = h.table;
         over = over h.over;
+        more = h.more;
         standing = record {
-          raised = stays (levels ++ terms_named assumed ∷ []) h.standing.raised;
-          plain = λ e. stays levels (h.standing.plain (sym above ∙ e));
+          raised = stays (added_by_level levels ++ h.more ∷ []) h.standing.raised;
+          plain = λ e. stays (added_by_level levels) (h.standing.plain (sym above ∙ e));
         };
-        all_given = h.all_given ∙ sym given;
+        all = record { given = h.all.given ∙ sym given; numbered = h.all.numbered ∙ sym numbered };
         assumed_covered = subst (λ f. All (λ (l : TermLit). IsSome (covered_at f l.term)) assumed) (sym form) h.assumed_covered;
         taken = h.taken;
         assumed_taken = h.assumed_taken;
@@ -502,53 +569,63 @@ module _ (own : AtomsOfTerms) (covers : CoversStay) (ns : List Node) (levels : L
       }
 
   -- a search has learned
-  pub posed_on : growth.Grows p.log q.log → HoldsMore q.log p.sat.clauses q.sat.clauses → AreSearched ns q.log q.form q.sat.clauses → (IsLog ns levels p.log → IsLog ns levels q.log)
+  pub posed_on : growth.Grows p.log q.log → HoldsMore q.log p.sat.clauses q.sat.clauses → AreSearched ns q.log q.form q.sat.clauses → (IsLog ns (asserted_by_level levels) p.log → IsLog ns (asserted_by_level levels) q.log)
       → (IsOver p.sat.theory ns → IsOver q.sat.theory ns) → IsPosed ns levels assumed p → IsPosed ns levels assumed q
-  posed_on grows more on sound over h = posed_with (λ roots r. learned ns levels roots p q grows form given more r own covers on (sound h.standing.raised.order)) over h
+  posed_on grows more on sound over h = posed_with (λ roots r. learned ns levels roots p q grows form given numbered more r own covers on (sound h.standing.raised.order)) over h
 
   -- atoms have joined
   pub posed_joined : LogsStay → LogsStayLeveled → JoinsAtoms p.log q.log → AreAtoms q.log.atoms → q.sat ≡ p.sat → IsPosed ns levels assumed p → IsPosed ns levels assumed q
   posed_joined stay leveled joins all same h =
-      posed_with (λ roots r. joined_prepared own stay leveled covers ns levels roots p q joins all form given (ap (λ (s : sat.SatState Theory). s.clauses) same) r)
+      posed_with (λ roots r. joined_prepared own stay leveled covers ns levels roots p q joins all form given numbered (ap (λ (s : sat.SatState Theory). s.clauses) same) r)
       (subst (λ (s : sat.SatState Theory). IsOver s.theory ns) (sym same)) h
 
 -- a search may go on where atoms have joined
-pub posed_named : AtomsOfTerms → CoversStay → LogsStay → LogsStayLeveled → (ns : List Node) (levels : List (List ℕ)) (assumed : List TermLit) (p q : PreparedState)
-    → q ≡ record p { log = q.log } → JoinsAtoms p.log q.log → AreAtoms q.log.atoms → IsPosed ns levels assumed p → IsPosed ns levels assumed q
+pub posed_named : AtomsOfTerms → CoversStay → LogsStay → LogsStayLeveled → (ns : List Node) (levels : List Level) (assumed : List TermLit) (p q : PreparedState)
+    → q ≡ record p { log = q.log; noted = q.noted } → JoinsAtoms p.log q.log → AreAtoms q.log.atoms → IsPosed ns levels assumed p → IsPosed ns levels assumed q
 posed_named own covers stay leveled ns levels assumed p q rest joins all posed =
-    posed_joined own covers ns levels assumed p q (ap (λ (s : PreparedState). s.form) rest) (ap (λ (s : PreparedState). s.given) rest) (ap (λ (s : PreparedState). s.above) rest) stay leveled
+    posed_joined own covers ns levels assumed p q (ap (λ (s : PreparedState). s.form) rest) (ap (λ (s : PreparedState). s.given) rest) (ap (λ (s : PreparedState). s.numbered) rest) (ap (λ (s : PreparedState). s.above) rest) stay leveled
     joins all (ap (λ (s : PreparedState). s.sat) rest) posed
 
 -- ---- What is known before a search
 
-pub ready_named : SearchLaws → LogsStay → LogsStayLeveled → {ns : List Node} {assumed : List TermLit} (old : PreparedState) {q : PreparedState} {ids : List ℕ} {lits : List Lit}
-    → q ≡ record old { log = q.log } → JoinsAtoms old.log q.log → AreAtoms q.log.atoms → AreHanded ns q assumed ids lits
-    → (levels : List (List ℕ)) × IsPosed ns levels assumed old → IsReady ns assumed old q ids lits
-ready_named laws stay leveled {ns} {assumed} old {q} rest joins all handed begun =
-    let posed : (levels : List (List ℕ)) → IsPosed ns levels assumed old → IsPosed ns levels assumed q = λ levels h.
+pub ready_named : SearchLaws → LogsStay → LogsStayLeveled → {ns : List Node} {assumed : List TermLit} (first : ℕ) (old : PreparedState) {q : PreparedState} {lits : List Lit}
+    → q ≡ record old { log = q.log; noted = q.noted } → JoinsAtoms old.log q.log → AreAtoms q.log.atoms → (joined : List ℕ) × (q.noted ≡ take first old.noted ++ joined) → AreHanded ns q assumed q.noted lits
+    → (levels : List Level) × IsPosed ns levels assumed old → IsReady ns assumed first old q q.noted lits
+ready_named laws stay leveled {ns} {assumed} first old {q} rest joins all behind handed begun =
+    let posed : (levels : List Level) → IsPosed ns levels assumed old → IsPosed ns levels assumed q = λ levels h.
     posed_named laws.atoms laws.covers stay leveled ns levels assumed old q rest joins all h in
-    record { handed = handed; posed = posed; some = (begun.0, posed begun.0 begun.1) }
+    record {
+      handed = handed;
+      joined = behind.0;
+      behind = behind.1;
+      kept = record { clauses = λ i live. ap (λ (es : List (Option Entry)). unwrap_or (slice_get es i) None) joins.entries; atoms = joins.atoms };
+      held = λ id has. subst (λ (s : PreparedState). Contains (ids_held s.sat.clauses) id) (sym rest) has;
+      form = ap (λ (s : PreparedState). s.form) rest;
+      posed = posed;
+      some = (begun.0, posed begun.0 begun.1);
+    }
 
 -- the same of what the names stand for
-pub ready_as : {ns : List Node} {assumed : List TermLit} {old p q : PreparedState} {ids xs : List ℕ} {lits ls : List Lit} → p ≡ q → ids ≡ xs → lits ≡ ls
-    → IsReady ns assumed old q xs ls → IsReady ns assumed old p ids lits
-ready_as {ns} {assumed} {old} {p} {q} {ids} {xs} {lits} {ls} view same_ids same_lits ready =
-    subst (λ (s : PreparedState). IsReady ns assumed old s ids lits) (sym view)
-    (subst (λ (is : List ℕ). IsReady ns assumed old q is lits) (sym same_ids) (subst (IsReady ns assumed old q xs) (sym same_lits) ready))
+pub ready_as : {ns : List Node} {assumed : List TermLit} {first : ℕ} {old p q : PreparedState} {ids xs : List ℕ} {lits ls : List Lit} → p ≡ q → ids ≡ xs → lits ≡ ls
+    → IsReady ns assumed first old q xs ls → IsReady ns assumed first old p ids lits
+ready_as {ns} {assumed} {first} {old} {p} {q} {ids} {xs} {lits} {ls} view same_ids same_lits ready =
+    subst (λ (s : PreparedState). IsReady ns assumed first old s ids lits) (sym view)
+    (subst (λ (is : List ℕ). IsReady ns assumed first old q is lits) (sym same_ids) (subst (IsReady ns assumed first old q xs) (sym same_lits) ready))
 
 -- and may again when it has learned
-pub posed_after : AtomsOfTerms → CoversStay → {ns : List Node} {assumed : List TermLit} {old p : PreparedState} {ids : List ℕ} {lits : List Lit} → IsReady ns assumed old p ids lits → (q : PreparedState)
-    → q.form ≡ p.form → q.given ≡ p.given → q.above ≡ p.above → (levels : List (List ℕ)) → growth.Grows p.log q.log → HoldsMore q.log p.sat.clauses q.sat.clauses
-    → AreSearched ns q.log q.form q.sat.clauses → (IsLog ns levels p.log → IsLog ns levels q.log) → (IsOver p.sat.theory ns → IsOver q.sat.theory ns) → IsPosed ns levels assumed p
+pub posed_after : AtomsOfTerms → CoversStay → {ns : List Node} {assumed : List TermLit} {first : ℕ} {old p : PreparedState} {ids : List ℕ} {lits : List Lit} → IsReady ns assumed first old p ids lits → (q : PreparedState)
+    → q.form ≡ p.form → q.given ≡ p.given → q.numbered ≡ p.numbered → q.above ≡ p.above → (levels : List Level) → growth.Grows p.log q.log → HoldsMore q.log p.sat.clauses q.sat.clauses
+    → AreSearched ns q.log q.form q.sat.clauses → (IsLog ns (asserted_by_level levels) p.log → IsLog ns (asserted_by_level levels) q.log) → (IsOver p.sat.theory ns → IsOver q.sat.theory ns) → IsPosed ns levels assumed p
     → IsPosed ns levels assumed q
-posed_after own covers {ns} {assumed} {old} {p} r q form given above levels grows more on sound over h = posed_on own covers ns levels assumed p q form given above grows more on sound over h
+posed_after own covers {ns} {assumed} {first} {old} {p} r q form given numbered above levels grows more on sound over h = posed_on own covers ns levels assumed p q form given numbered above grows more on sound over h
 
 -- Another theory stands in place of the one.
-module _ (ns : List Node) (levels : List (List ℕ)) (p q : PreparedState) (log : q.log ≡ p.log) (form : q.form ≡ p.form) (clauses : q.sat.clauses ≡ p.sat.clauses) (given : q.given ≡ p.given) where
+module _ (ns : List Node) (levels : List Level) (p q : PreparedState) (log : q.log ≡ p.log) (form : q.form ≡ p.form) (clauses : q.sat.clauses ≡ p.sat.clauses) (given : q.given ≡ p.given)
+    (numbered : q.numbered ≡ p.numbered) where
   with_theory : (roots : List (List ℕ)) → IsPrepared ns levels roots p → IsPrepared ns levels roots q
   with_theory roots h =
-      subst (λ (s : PreparedState). IsPrepared ns levels roots (record q { log = s.log; form = s.form; sat = record q.sat { clauses = s.sat.clauses }; given = s.given }))
-      (λ i. record p { log = sym log i; form = sym form i; sat = record p.sat { clauses = sym clauses i }; given = sym given i })
+      subst (λ (s : PreparedState). IsPrepared ns levels roots (record q { log = s.log; form = s.form; sat = record q.sat { clauses = s.sat.clauses }; given = s.given; numbered = s.numbered }))
+      (λ i. record p { log = sym log i; form = sym form i; sat = record p.sat { clauses = sym clauses i }; given = sym given i; numbered = sym numbered i })
       (record {
         order = h.order;
         covers = h.covers;
@@ -560,24 +637,28 @@ module _ (ns : List Node) (levels : List (List ℕ)) (p q : PreparedState) (log 
         searched = h.searched;
         rows = h.rows;
         units = λ k t below at. let u = h.units k t below at in record { held = u.held; there = u.there; named = u.named; literals = u.literals; behind = u.behind };
+        numbers = λ k t below at. let n = h.numbers k t below at in record { level = n.level; covered = n.covered; behind = n.behind };
         within = h.within;
+        numbers_within = h.numbers_within;
         lower = h.lower;
+        numbers_lower = h.numbers_lower;
       })
 
 -- A search may begin over it, and may be handed the same.
-pub ready_with : {ns : List Node} {assumed : List TermLit} {old p : PreparedState} {ids : List ℕ} {lits : List Lit} → IsReady ns assumed old p ids lits → (q : PreparedState) → q.log ≡ p.log
-    → q.form ≡ p.form → q.sat.clauses ≡ p.sat.clauses → q.given ≡ p.given → q.above ≡ p.above → (IsOver p.sat.theory ns → All (IsAtomAt ns p.log.atoms) ids → IsOver q.sat.theory ns)
-    → ((levels : List (List ℕ)) → IsPosed ns levels assumed p → All (IsAtomAt ns p.log.atoms) ids) → IsReady ns assumed old q ids lits
-ready_with {ns} {assumed} {old} {p} {ids} {lits} r q log form clauses given above over within =
-    let after : (levels : List (List ℕ)) → IsPosed ns levels assumed p → IsPosed ns levels assumed q = λ levels h.
+pub ready_with : {ns : List Node} {assumed : List TermLit} {first : ℕ} {old p : PreparedState} {ids : List ℕ} {lits : List Lit} → IsReady ns assumed first old p ids lits → (q : PreparedState) → q.log ≡ p.log
+    → q.form ≡ p.form → q.sat.clauses ≡ p.sat.clauses → q.given ≡ p.given → q.numbered ≡ p.numbered → q.above ≡ p.above → q.noted ≡ p.noted → (IsOver p.sat.theory ns → All (IsAtomAt ns p.log.atoms) ids → IsOver q.sat.theory ns)
+    → ((levels : List Level) → IsPosed ns levels assumed p → All (IsAtomAt ns p.log.atoms) ids) → IsReady ns assumed first old q ids lits
+ready_with {ns} {assumed} {first} {old} {p} {ids} {lits} r q log form clauses given numbered above noted over within =
+    let after : (levels : List Level) → IsPosed ns levels assumed p → IsPosed ns levels assumed q = λ levels h.
     record {
       table = h.table;
       over = over h.over (within levels h);
+      more = h.more;
       standing = record {
-        raised = with_theory ns levels p q log form clauses given (levels ++ terms_named assumed ∷ []) h.standing.raised;
-        plain = λ e. with_theory ns levels p q log form clauses given levels (h.standing.plain (sym above ∙ e));
+        raised = with_theory ns levels p q log form clauses given numbered (added_by_level levels ++ h.more ∷ []) h.standing.raised;
+        plain = λ e. with_theory ns levels p q log form clauses given numbered (added_by_level levels) (h.standing.plain (sym above ∙ e));
       };
-      all_given = h.all_given ∙ sym given;
+      all = record { given = h.all.given ∙ sym given; numbered = h.all.numbered ∙ sym numbered };
       assumed_covered = subst (λ f. All (λ (l : TermLit). IsSome (covered_at f l.term)) assumed) (sym form) h.assumed_covered;
       taken = h.taken;
       assumed_taken = h.assumed_taken;
@@ -588,7 +669,8 @@ ready_with {ns} {assumed} {old} {p} {ids} {lits} r q log form clauses given abov
       handed = record {
         terms = subst (λ (f : FormState). IsListing f.terms) (sym form) n.terms;
         bounds = subst (λ (f : FormState). IsListing f.bounds) (sym form) n.bounds;
-        numbers = n.numbers ∙ (λ i. map (term_place (sym log i).atoms) (boolean_terms ns (sym form i).terms.ids) ++ (sym form i).bounds.ids);
+        noted = n.noted ∙ sym noted;
+        numbers = subst (λ (is : List ℕ). AreJust is ids) (λ i. map (term_place (sym log i).atoms) (boolean_terms ns (sym form i).terms.ids) ++ (sym form i).bounds.ids) n.numbers;
         on_atoms = n.on_atoms ∙ (λ i. lits_of (sym log i).atoms assumed);
         there = record {
           covered = subst (λ (f : FormState). All (HasTerm q.log.atoms) (boolean_terms ns f.terms.ids)) (sym form)
@@ -596,6 +678,11 @@ ready_with {ns} {assumed} {old} {p} {ids} {lits} r q log form clauses given abov
           named = subst (λ (l : LogState). All (λ (m : TermLit). HasTerm l.atoms m.term) assumed) (sym log) n.there.named;
         };
       };
+      joined = r.joined;
+      behind = r.behind;
+      kept = subst (λ (l : LogState). Keeps old.log l) (sym log) r.kept;
+      held = λ id has. subst (λ (hs : List Held). Contains (ids_held hs) id) (sym clauses) (r.held id has);
+      form = form ∙ r.form;
       posed = λ levels h. after levels (r.posed levels h);
       some = (r.some.0, after r.some.0 r.some.1);
     }

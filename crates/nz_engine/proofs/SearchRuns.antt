@@ -1,10 +1,9 @@
 -- A search that has begun runs: what it is handed, and what comes of it.
-use Rattle.std.proofs.Common.{◌≡◌, ℕ, List, Option, None, Result, IfOk, OnOk, refl, sym, subst, ◌≤◌, Ok, Err, IfErr, arith, Bool, map}
-use Rattle.std.specs.Prelude.{All, IfSome, Contains}
+use Rattle.std.proofs.Common.{◌≡◌, ℕ, List, Option, Some, None, Result, IfOk, OnOk, refl, sym, ap, subst, ◌∙◌, Ok, Err, IfErr, arith, map}
+use Rattle.std.specs.Prelude.{All, IfSome}
 use Rattle.std.proofs.lemmas.Result.{IfOk-weaker}
 use Rattle.nz_lists.proofs.Results.{on_ok}
 use Rattle.nz_spec.specs.terms.Table.{Node}
-use Rattle.nz_spec.specs.terms.Term.{Term}
 use Rattle.nz_spec.specs.search.Work.{WorkList}
 use Rattle.nz_spec.specs.search.Search.{Task}
 use Rattle.nz_spec.specs.search.Places.{AreAllTold}
@@ -18,41 +17,49 @@ use Rattle.nz_log.specs.Sound.{IsLog}
 use Rattle.nz_search.specs.Standing.{Ends, Stands, search_after}
 use Rattle.nz_term.specs.TermLits.{AreConsistent, AreNegations}
 use Rattle.nz_log.specs.Growth.{Grows}
-use Rattle.nz_search.specs.Verdicts.{task_in}
 use Rattle.nz_reals.specs.Exclusions.{HasNeighbours}
 use Rattle.nz_reals.specs.Stands.{HasTold, IsAt, IsFeasible, IsOf, IsOver}
 use Rattle.nz_reals.specs.State.{Theory}
 use Rattle.nz_sat.specs.Conflicts.{Refutes}
-use Rattle.nz_sat.specs.Numbers.{IsAtomAt, numbered}
+use Rattle.nz_sat.specs.Numbers.{AreNotedIn, IsAtomAt, noted_atoms}
 use Rattle.nz_sat.specs.Sats as sat
-use Rattle.nz_sat.specs.Sats.{AreNamed, AreOn, HoldsMore, IsAsked, IsSatisfied, IsTheoryMet, SatState}
-use Rattle.nz_engine.specs.Checking.{HasFound, IsBegun, IsPosed, MaySearch, EndsWith, IsPlain, IsPlainAtom}
+use Rattle.nz_sat.specs.Sats.{AreNamed, AreOn, HoldsLearned, HoldsMore, IsAsked, IsSameSearch, IsSatisfied, IsTheoryMet, SatState}
+use Rattle.nz_search.specs.Asked.{NamesParts}
+use Rattle.nz_search.specs.Levels.{Level, asserted_by_level}
+use Rattle.nz_engine.specs.Checking.{HasFound, HoldsNamed, IsBegun, IsPosed, IsUnderWay, MaySearch, EndsWith, IsPlain, IsPlainAtom, Works}
 use Rattle.nz_engine.specs.Engines.{literals_in}
-use Rattle.nz_engine.specs.Preparing.{BeganExcluded, PreparedState, atoms_of, ids_held}
+use Rattle.nz_engine.specs.Preparing.{BeganExcluded, IsSearched, PreparedState, ids_held}
 use Rattle.nz_engine.proofs.RefutedAssumptions.{refuted_by}
-use Rattle.nz_engine.proofs.SearchAtoms.{are_consistent, are_named, found_of, ids_told, ids_within, is_asked, named_have, named_ids, named_lits, named_searched, posed_after}
+use Rattle.nz_engine.proofs.SearchAtoms.{are_consistent, are_named, found_of, ids_still, ids_told, ids_within, is_asked, named_have, named_ids, named_lits, named_searched, posed_after}
 use Rattle.nz_engine.proofs.AtomNotes.{ends_stopped}
+use Rattle.nz_engine.proofs.HeldClauses.{named_learned, noted_stay}
+use Rattle.nz_engine.proofs.MoreAtoms.{named_as}
+use Rattle.nz_engine.proofs.PartsNamed.{parts_named}
+use Rattle.nz_engine.proofs.SearchEntry.{covered_still}
+use Rattle.nz_reals.specs.Knowing.{of_stays}
+use Rattle.nz_spec.specs.clauses.Literal.{StandOnce}
+use Rattle.nz_log.specs.declared.atoms.Atom.{Atom}
 
 -- the same of what the names stand for
-pub begun_as : {ns : List Node} {assumed : List TermLit} {old p q : PreparedState} {ids xs : List ℕ} {lits ls : List Lit} {work : WorkList Note} → p ≡ q → ids ≡ xs → lits ≡ ls
-    → IsBegun ns assumed old q xs ls work → IsBegun ns assumed old p ids lits work
-begun_as {ns} {assumed} {old} {p} {q} {ids} {xs} {lits} {ls} {work} view same_ids same_lits begun =
-    subst (λ (s : PreparedState). IsBegun ns assumed old s ids lits work) (sym view)
-    (subst (λ (is : List ℕ). IsBegun ns assumed old q is lits work) (sym same_ids) (subst (λ (ms : List Lit). IsBegun ns assumed old q xs ms work) (sym same_lits) begun))
+pub begun_as : {ns : List Node} {assumed : List TermLit} {first : ℕ} {old p q : PreparedState} {ids xs : List ℕ} {lits ls : List Lit} {before work : WorkList Note} → p ≡ q → ids ≡ xs → lits ≡ ls
+    → IsBegun ns assumed first old q xs ls before work → IsBegun ns assumed first old p ids lits before work
+begun_as {ns} {assumed} {first} {old} {p} {q} {ids} {xs} {lits} {ls} {before} {work} view same_ids same_lits begun =
+    subst (λ (s : PreparedState). IsBegun ns assumed first old s ids lits before work) (sym view)
+    (subst (λ (is : List ℕ). IsBegun ns assumed first old q is lits before work) (sym same_ids)
+    (subst (λ (ms : List Lit). IsBegun ns assumed first old q xs ms before work) (sym same_lits) begun))
 
-each_stands : (ns : List Node) (May : List (List ℕ) → List Term → Type 0) (q : List (List ℕ) → List Term → Task) (work : WorkList Note) (t : Theory) (r : Result (Option ℕ) Stop)
-    → ((levels : List (List ℕ)) (ts : List Term) → May levels ts → Ends (IsAt t ns) ns (q levels ts) work r)
-    → OnOk r ((levels : List (List ℕ)) (ts : List Term) → May levels ts → Stands (IsAt t ns) ns (q levels ts) work)
-each_stands ns May q work t (Ok o) f = f
-each_stands ns May q work t (Err e) f = tt
+each_stands : (ns : List Node) (May : List Level → Task → Type 0) (Is : List Level → Task → Type 0) (work : WorkList Note) (t : Theory) (r : Result (Option ℕ) Stop)
+    → ((levels : List Level) (q : Task) → May levels q → Ends (IsAt t ns) ns q work r) → ((levels : List Level) (q : Task) → May levels q → Stands (IsAt t ns) ns q work → Is levels q)
+    → OnOk r ((levels : List Level) (q : Task) → May levels q → Is levels q)
+each_stands ns May Is work t (Ok o) f g = λ levels q may. g levels q may (f levels q may)
+each_stands ns May Is work t (Err e) f g = tt
 
-each_stopped : (ns : List Node) (May : List (List ℕ) → List Term → Type 0) (q : List (List ℕ) → List Term → Task) (work : WorkList Note) (t : Theory) (r : Result (Option ℕ) Stop)
-    → ((levels : List (List ℕ)) (ts : List Term) → May levels ts → Ends (IsAt t ns) ns (q levels ts) work r)
-    → IfErr r (λ e. (levels : List (List ℕ)) (ts : List Term) → May levels ts → EndsWith ns (q levels ts) work e)
-each_stopped ns May q work t (Ok o) f = tt
-each_stopped ns May q work t (Err e) f = λ levels ts may. ends_stopped (Option ℕ) (IsAt t ns) ns (q levels ts) work e (f levels ts may)
+each_stopped : (ns : List Node) (May : List Level → Task → Type 0) (work : WorkList Note) (t : Theory) (r : Result (Option ℕ) Stop)
+    → ((levels : List Level) (q : Task) → May levels q → Ends (IsAt t ns) ns q work r) → IfErr r (λ e. (levels : List Level) (q : Task) → May levels q → EndsWith ns q work e)
+each_stopped ns May work t (Ok o) f = tt
+each_stopped ns May work t (Err e) f = λ levels q may. ends_stopped (Option ℕ) (IsAt t ns) ns q work e (f levels q may)
 
-module _ {ns : List Node} {assumed : List TermLit} {old p : PreparedState} {ids : List ℕ} {lits : List Lit} {work : WorkList Note} (b : IsBegun ns assumed old p ids lits work) where
+module _ {ns : List Node} {assumed : List TermLit} {first : ℕ} {old p : PreparedState} {ids : List ℕ} {lits : List Lit} {before work : WorkList Note} (b : IsBegun ns assumed first old p ids lits before work) where
   pub search_named : AreNamed p.log p.sat.clauses lits ids
   search_named = are_named b.laws.rows b.laws.atoms b.ready.some.1 b.ready.handed
 
@@ -62,39 +69,35 @@ module _ {ns : List Node} {assumed : List TermLit} {old p : PreparedState} {ids 
   pub search_consistent : AreConsistent assumed → sat.AreConsistent lits
   search_consistent apart = are_consistent b.laws.rows b.laws.atoms b.ready.some.1 b.ready.handed apart
 
-  -- nothing is decided, learned or told
+  -- nothing is decided or told, and what was learned before is held
   pub search_begun : sat.HasBegun p.log ids p.sat.clauses work
-  search_begun =
-      record {
-        decided = λ ns. (b.notes.under ns).decided;
-        told = λ ns. (b.notes.under ns).told;
-        learned = λ ns.
-            subst (All (λ (c : List (ℕ × Bool)). (i : ℕ) × Contains (sat.ids p.sat.clauses) i × (map (numbered ids) (literals_at p.log i) ≡ c))) (sym (b.notes.under ns).learned)
-            (λ k d below. absurd (omega (arith, below)));
-      }
+  search_begun = record { decided = λ ms. (b.notes.under ms).decided; told = λ ms. (b.notes.under ms).told; learned = b.learned }
 
   -- what comes of it
   module _ (log : LogState) (new : SatState Theory) (after : WorkList Note) (result : Result (Option ℕ) Stop) (grows : Grows p.log log) where
     abbrev q : PreparedState
     q = record p { log = log; sat = new }
 
-    own : ids ≡ atoms_of ns q
-    own = named_ids b.laws.rows b.laws.atoms b.ready.some.1 b.ready.handed q grows refl
+    own : ids ≡ q.noted
+    own = named_ids b.laws.rows b.laws.atoms b.ready.some.1 b.ready.handed q grows refl refl
+
+    posed_then : HoldsMore log p.sat.clauses new.clauses → AreOn log ids new.clauses
+        → ((ns : List Node) (levels : List (List ℕ)) → IsOver p.sat.theory ns → All (IsAtomAt ns p.log.atoms) ids → IsLog ns levels p.log → IsLog ns levels log)
+        → ((ns : List Node) → IsOver p.sat.theory ns → IsOver new.theory ns) → (levels : List Level) → IsPosed ns levels assumed old → IsPosed ns levels assumed q
+    posed_then held on sound over levels posed =
+        let begun = b.ready.posed levels posed in
+        posed_after b.laws.atoms b.laws.covers b.ready q refl refl refl refl levels grows held (named_searched b.laws.rows b.laws.atoms begun b.ready.handed q grows refl refl on)
+        (sound ns (asserted_by_level levels) begun.over (ids_within b.laws.rows b.laws.atoms begun b.ready.handed)) (over ns) begun
 
     pub search_posed : HoldsMore log p.sat.clauses new.clauses → AreOn log ids new.clauses
         → ((ns : List Node) (levels : List (List ℕ)) → IsOver p.sat.theory ns → All (IsAtomAt ns p.log.atoms) ids → IsLog ns levels p.log → IsLog ns levels log)
-        → ((ns : List Node) → IsOver p.sat.theory ns → IsOver new.theory ns) → OnOk result ((levels : List (List ℕ)) → IsPosed ns levels assumed old → IsPosed ns levels assumed q)
-    search_posed held on sound over =
-        on_ok result
-        (λ levels posed.
-        let begun = b.ready.posed levels posed in
-        posed_after b.laws.atoms b.laws.covers b.ready q refl refl refl levels grows held (named_searched b.laws.rows b.laws.atoms begun b.ready.handed q grows refl on)
-        (sound ns levels begun.over (ids_within b.laws.rows b.laws.atoms begun b.ready.handed)) (over ns) begun)
+        → ((ns : List Node) → IsOver p.sat.theory ns → IsOver new.theory ns) → OnOk result ((levels : List Level) → IsPosed ns levels assumed old → IsPosed ns levels assumed q)
+    search_posed held on sound over = on_ok result (posed_then held on sound over)
 
     pub search_refuted : IfOk result (λ o. IfSome o (λ id. IsLive log id × Refutes lits (literals_at log id))) → IfOk result (λ o. IfSome o (λ id. AreNegations assumed (literals_in log id)))
     search_refuted h =
-        refuted_by log assumed (named_have b.laws.rows b.laws.atoms b.ready.some.1 b.ready.handed q grows refl).named result
-        (subst (λ (ls : List Lit). IfOk result (λ o. IfSome o (λ id. IsLive log id × Refutes ls (literals_at log id)))) (named_lits b.laws.rows b.laws.atoms b.ready.some.1 b.ready.handed q grows refl) h)
+        refuted_by log assumed (named_have b.laws.rows b.laws.atoms b.ready.some.1 b.ready.handed q grows refl refl).named result
+        (subst (λ (ls : List Lit). IfOk result (λ o. IfSome o (λ id. IsLive log id × Refutes ls (literals_at log id)))) (named_lits b.laws.rows b.laws.atoms b.ready.some.1 b.ready.handed q grows refl refl) h)
 
     pub search_excluded : HoldsMore log p.sat.clauses new.clauses → OnOk result (BeganExcluded ns q)
     search_excluded held =
@@ -110,31 +113,63 @@ module _ {ns : List Node} {assumed : List TermLit} {old p : PreparedState} {ids 
           learned = held;
         })
 
-    module _ (ends : (levels : List (List ℕ)) (ts : List Term) → IsOver p.sat.theory ns → IsAsked ns levels p.log ids lits work (task_in ns levels assumed ts)
-        → Stands (IsAt p.sat.theory ns) ns (task_in ns levels assumed ts) work → Ends (IsAt new.theory ns) ns (task_in ns levels assumed ts) after result) where
-      search_ends : (levels : List (List ℕ)) (ts : List Term) → MaySearch ns levels assumed ts old → Ends (IsAt new.theory ns) ns (task_in ns levels assumed ts) after result
-      search_ends levels ts may =
+    -- no atom more, and no search more
+    pub search_plain : ((ns : List Node) → IsSameSearch (search_after ns work) (search_after ns after)) → (levels : List Level) (t : Task) → MaySearch ns levels assumed t before old
+        → IsPlain t (search_after ns before) (search_after ns after)
+    search_plain stays levels t may =
+        let h = b.plain levels t may in
+        let s = stays ns in
+        let count = s.begun in
+        let more = h.begun in
+        record { atoms = subst (All (IsPlainAtom t)) (sym s.atoms) h.atoms; begun = omega (arith, count, more); found = s.found ∙ h.found; branches = s.branches ∙ h.branches }
+
+    -- what was added is named
+    pub search_parts : ((ns : List Node) → IsSameSearch (search_after ns work) (search_after ns after)) → OnOk result ((levels : List Level) → IsPosed ns levels assumed old → NamesParts ns levels (search_after ns after))
+    search_parts stays =
+        on_ok result
+        (λ levels posed.
+        parts_named b.laws.node (b.ready.posed levels posed) b.ready.handed (search_after ns after) ((stays ns).atoms ∙ named_as ns p.log.atoms work ids b.notes.noted))
+
+    module _ (ends : (levels : List (List ℕ)) (t : Task) → IsOver p.sat.theory ns → IsAsked ns levels p.log ids lits work t → Stands (IsAt p.sat.theory ns) ns t work → Ends (IsAt new.theory ns) ns t after result) where
+      search_ends : (levels : List Level) (t : Task) → MaySearch ns levels assumed t before old → Ends (IsAt new.theory ns) ns t after result
+      search_ends levels t may =
           let begun = b.ready.posed levels may.posed in
-          ends levels ts begun.over (is_asked b.laws.rows b.laws.atoms begun b.ready.handed ts work (b.notes.under ns).under) (b.stands levels ts may)
+          ends (asserted_by_level levels) t begun.over (is_asked b.laws.rows b.laws.atoms begun b.ready.handed t work may.asserted (b.notes.under ns).under) (b.stands levels t may)
 
-      pub search_stands : OnOk result ((levels : List (List ℕ)) (ts : List Term) → MaySearch ns levels assumed ts old → Stands (IsAt new.theory ns) ns (task_in ns levels assumed ts) after)
-      search_stands = each_stands ns (λ levels ts. MaySearch ns levels assumed ts old) (λ levels ts. task_in ns levels assumed ts) after new.theory result search_ends
+      pub search_stopped : IfErr result (λ e. (levels : List Level) (t : Task) → MaySearch ns levels assumed t before old → EndsWith ns t after e)
+      search_stopped = each_stopped ns (λ levels t. MaySearch ns levels assumed t before old) after new.theory result search_ends
 
-      pub search_stopped : IfErr result (λ e. (levels : List (List ℕ)) (ts : List Term) → MaySearch ns levels assumed ts old → EndsWith ns (task_in ns levels assumed ts) after e)
-      search_stopped = each_stopped ns (λ levels ts. MaySearch ns levels assumed ts old) (λ levels ts. task_in ns levels assumed ts) after new.theory result search_ends
+      -- the list is under way
+      pub search_under_way : HoldsMore log p.sat.clauses new.clauses → AreOn log ids new.clauses → HoldsLearned log ids new.clauses after → ((all : List Atom) (is : List ℕ) → IsOf p.sat.theory all is → IsOf new.theory all is)
+          → noted_atoms after.lines ≡ noted_atoms work.lines → ((ns : List Node) → IsSameSearch (search_after ns work) (search_after ns after)) → Works ns before after
+          → OnOk result ((levels : List Level) (t : Task) → MaySearch ns levels assumed t before old → IsUnderWay ns levels t after q)
+      search_under_way held on learned of same stays works =
+          each_stands ns (λ levels t. MaySearch ns levels assumed t before old) (λ levels t. IsUnderWay ns levels t after q) after new.theory result search_ends
+          (λ levels t may stands.
+          let begun = b.ready.posed levels may.posed in
+          let n = b.ready.handed in
+          let noted : AreNotedIn log.atoms after.lines ids = noted_stay p.log.atoms log.atoms grows.atoms ids _ b.notes.noted ∙ ap (map Some) (sym same) in
+          let way : HoldsNamed log ids new.clauses after = named_learned log ids new.clauses after held.held on learned in
+          record {
+            noted = subst (λ (is : List ℕ). AreNotedIn log.atoms after.lines is) own noted;
+            learned = subst (λ (is : List ℕ). HoldsNamed log is new.clauses after) own way;
+            of = subst (λ (is : List ℕ). IsOf new.theory log.atoms is) own (of_stays new.theory p.log.atoms log.atoms ids (of p.log.atoms ids b.of) grows.atoms);
+            named = subst (All (IsSearched ns log p.form)) own (ids_still b.laws.rows b.laws.atoms begun n q grows refl refl);
+            once = subst StandOnce own n.numbers.once;
+            all = record { given = begun.all.given; numbered = begun.all.numbered };
+            within = works.named;
+            units = works.within;
+            covered = covered_still b.laws p b.ready t.listed may.covered;
+            atoms = (search_plain stays levels t may).atoms;
+            begun = let some = (b.notes.under ns).begun in let count = (stays ns).begun in omega (arith, some, count);
+            leads = stands;
+          })
 
-      pub search_found : (levels : List (List ℕ)) (ts : List Term) → MaySearch ns levels assumed ts old → IsOf new.theory p.log.atoms ids
+      pub search_found : (levels : List Level) (t : Task) → MaySearch ns levels assumed t before old → IsOf new.theory p.log.atoms ids
           → IfOk result (λ o. o ≡ None → IsSatisfied log new lits ids) → IfOk result (λ o. o ≡ None → IsTheoryMet log (HasTold new.theory) (IsFeasible new.theory) new ids)
           → IfOk result (λ o. o ≡ None → HasFound ns assumed q)
-      search_found levels ts may of satisfied feasible =
-          found_of b.laws.rows b.laws.atoms b.ready.some.1 b.ready.handed q grows refl of (task_in ns levels assumed ts) after result satisfied feasible (search_ends levels ts may)
-
-    -- no atom more, and no search more
-    pub search_plain : ((ns : List Node) → (search_after ns after).atoms ≡ (search_after ns work).atoms) → ((ns : List Node) → (search_after ns after).begun ≡ (search_after ns work).begun)
-        → (levels : List (List ℕ)) (ts : List Term) → MaySearch ns levels assumed ts old → IsPlain (task_in ns levels assumed ts) (search_after ns after)
-    search_plain atoms count levels ts may =
-        let h = b.plain levels ts may in
-        record { atoms = subst (All (IsPlainAtom (task_in ns levels assumed ts))) (sym (atoms ns)) h.atoms; begun = subst (λ (n : ℕ). n ≤ 1) (sym (count ns)) h.begun }
+      search_found levels t may of satisfied feasible =
+          found_of b.laws.rows b.laws.atoms b.ready.some.1 b.ready.handed q grows refl refl of t after result satisfied feasible (search_ends levels t may)
 
     pub search_told : IfOk result (λ o. o ≡ None → (ns : List Node) → AreAllTold (search_after ns after)) → IfOk result (λ o. o ≡ None → AreAllTold (search_after ns after))
     search_told told = IfOk-weaker result _ _ (λ o all none. all none ns) told

@@ -2,5 +2,6 @@ pub mod Checking
 pub mod Engines
 pub mod Joining
 pub mod Levels
+pub mod Lists
 pub mod Preparing
 pub mod SearchLaws

@@ -1,6 +1,7 @@
 -- The laws that a search over what is prepared rests on.
 use Rattle.nz_spec.specs.laws.LegalWork.{LegalWorkGoesOn}
 use Rattle.nz_spec.specs.terms.FormOf.{FormsAreSums}
+use Rattle.nz_spec.specs.terms.Table.{TermOfNode}
 use Rattle.nz_spec.specs.terms.WellSorted.{OperandsAreSorted}
 use Rattle.nz_log.specs.Atoms.{AtomsOfTerms}
 use Rattle.nz_cform.specs.Laws.{CoversStay}
@@ -13,6 +14,7 @@ pub record RowLaws : Type 0 where
 
 pub record SearchLaws : Type 0 where
   pub rows : RowLaws
+  pub node : TermOfNode
   pub atoms : AtomsOfTerms
   pub covers : CoversStay
   pub restart : TheoriesRestart

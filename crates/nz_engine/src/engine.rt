@@ -10,6 +10,7 @@ use nz_log::laws::logs_stay;
 use nz_log::{ClauseId, Step};
 use nz_reals::Reals;
 use nz_reals::laws::theories_restart;
+use nz_search::laws::checks_may_start;
 use nz_search::{Decide, Note, Stop, Verdict};
 use nz_spec::derivation::derivations_grow;
 use nz_spec::table::term_stays;
@@ -30,11 +31,11 @@ pub struct Engine {
 }
 
 impl Model for Engine {
-    ghost use Rattle.nz_engine.specs.Engines.{EngineState, IsKept, log_of, table_of, theory_of};
+    ghost use Rattle.nz_engine.specs.Engines.{EngineState, IsKept, prepared_of, table_of};
 
     ghost Value = { EngineState };
 
-    ghost view = { λ e. record { levels = e.levels; table = table_of e.seen; log = log_of e.kept; theory = theory_of e.kept } };
+    ghost view = { λ e. record { levels = e.levels; table = table_of e.seen; prepared = prepared_of e.kept } };
 
     ghost invariant = { λ e. IsKept (table_of e.seen) e.levels e.kept };
 }
@@ -57,6 +58,7 @@ impl Engine {
 
 impl Decide for Engine {
     ghost use Rattle.nz_engine.specs.Engines.{Begins, clause_at};
+    ghost use Rattle.nz_engine.specs.Lists.{StandsAt, starts_at};
 
     ghost levels = { λ e. e.levels };
 
@@ -65,6 +67,10 @@ impl Decide for Engine {
     ghost clause = { clause_at };
 
     ghost begins = { Begins };
+
+    ghost stands = { StandsAt };
+
+    ghost starts = { starts_at };
 
     fn push(&mut self) -> Result<(), Memory> {
         logs_stay();
@@ -79,11 +85,11 @@ impl Decide for Engine {
         self.kept = cut_kept(kept, &self.levels);
     }
 
-    fn add(&mut self, term: TermId) -> Result<(), Memory> {
+    fn add(&mut self, terms: &Terms, term: TermId) -> Result<(), Memory> {
         logs_stay();
         let kept = take_kept(self.alloc, &mut self.kept);
         self.kept = lowered(kept, &self.levels);
-        self.levels.add(term)
+        self.levels.add(terms, term)
     }
 
     fn check(
@@ -95,6 +101,7 @@ impl Decide for Engine {
         known_table(terms);
         term_stays();
         theories_restart();
+        checks_may_start();
         let kept = take_kept(self.alloc, &mut self.kept);
         self.seen = Some(Snapshot::of(terms));
         let CheckOutcome { verdict, prepared } = decide(

@@ -4,6 +4,7 @@
 mod check;
 mod engine;
 mod joining;
+pub mod laws;
 mod levels;
 mod prepared;
 mod truths;

@@ -3,29 +3,28 @@ ghost use Rattle.std.specs.Prelude.{◌≡◌, ◌++◌, All, map, IfOk, OnOk, t
 ghost use Rattle.nz_log.specs.Logs.{IsLive};
 ghost use Rattle.nz_log.specs.Spelling.{AreStepsOf};
 ghost use Rattle.nz_sat.specs.Sats.{held_of};
-ghost use Rattle.nz_engine.specs.Levels.{count_of};
 ghost use Rattle.nz_engine.specs.Preparing.{CutsTo, KeepsBounds, nothing_prepared};
 
-mod assertions;
+mod added;
 mod assumptions;
-mod atoms;
+pub mod atoms;
 mod exclusions;
 mod search;
 mod theory;
 mod values;
 
-use crate::levels::Levels;
+use crate::levels::{Kind, Levels};
 use nz_base::Memory;
 use nz_cform::ClauseForm;
-use nz_log::{ClauseId, Log, Step};
+use nz_log::{AtomId, ClauseId, Log, Step};
 use nz_reals::Reals;
 use nz_sat::Sat;
 use std::alloc::Global;
 use std::marker::Model;
 use std::mem;
 
-/// The clauses of assertions and of all that these are made of, in a log, each held by a search, at the level in which its assertion stands. What is
-/// assumed may be covered above all levels, for one check.
+/// The clauses of what was added and of all that it is made of, in a log, each held by a search, at the level in which it was added. What is assumed may
+/// be covered above all levels, for one check.
 #[derive(Debug, Drop)]
 pub struct Prepared {
     alloc: Global,
@@ -34,8 +33,12 @@ pub struct Prepared {
     sat: Sat<Reals>,
     // How many assertions have their clause, in the order of the levels.
     given: usize,
+    // How many numbers are covered, in the same order.
+    numbered: usize,
     // Whether terms are covered for assumed literals alone.
     above: bool,
+    // The atoms that the present list of work names, in their order.
+    noted: Vec<AtomId>,
 }
 
 impl Model for Prepared {
@@ -43,7 +46,7 @@ impl Model for Prepared {
 
     ghost Value = { PreparedState };
 
-    ghost view = { λ p. record { log = p.log; form = p.form; sat = p.sat; given = p.given; above = p.above } };
+    ghost view = { λ p. record { log = p.log; form = p.form; sat = p.sat; given = p.given; numbered = p.numbered; above = p.above; noted = p.noted.items } };
 }
 
 impl Prepared {
@@ -57,7 +60,9 @@ impl Prepared {
             form: ClauseForm::new(alloc),
             sat: Sat::new(alloc, theory),
             given: 0,
+            numbered: 0,
             above: false,
+            noted: Vec::new(alloc),
         })
     }
 
@@ -78,14 +83,15 @@ impl Prepared {
     /// Takes back what stands above a level, up to which these levels go. Answers whether each bound is listed still: a clause that was learned may
     /// have bounds that only clauses of higher levels have besides. Takes no memory.
     pub fn cut(&mut self, level: usize, levels: &Levels) -> bool
-        ensures cuts { CutsTo self.old level (count_of levels.now) self.new }
+        ensures cuts { CutsTo self.old level levels.now self.new }
         ensures keeps { result ≡ true → KeepsBounds self.old.form self.new.form }
     {
         let count = self.form.bounds().len();
         self.log.drop_above(level);
         self.form.cut(level);
         self.sat.cut(level);
-        self.given = levels.count_up_to(self.given);
+        self.given = levels.count_up_to(Kind::Asserted, self.given);
+        self.numbered = levels.count_up_to(Kind::Number, self.numbered);
         self.above = false;
         self.form.bounds().len() == count
     }

@@ -1,15 +1,17 @@
 -- Formulas stay so while the table grows.
 use Rattle.std.proofs.Common.{◌≡◌, ℕ, ◌<◌, ◌≤◌, ◌+◌, List, [], ◌∷◌, ◌++◌, length, take, Result, Ok, Err, OnOk, OnErr, ◌⊎◌, inl, inr, sym, ap, ◌∙◌, subst, arith, length-append}
 use Rattle.std.specs.Prelude.{All}
+use Rattle.std.specs.List.{AllByRecursion}
 use Rattle.std.proofs.lemmas.List.{append-nil}
 use Rattle.std.proofs.Math.Seq.{take-append_seam}
 use Rattle.nz_lists.proofs.Fronts.{front_of_more}
 use Rattle.nz_spec.specs.search.Decide.{IsFrontOfTable}
 use Rattle.nz_spec.specs.clauses.Gates.{is_boolean_term}
 use Rattle.nz_spec.specs.terms.Table.{Node}
+use Rattle.nz_search.specs.Levels.{Level}
 use Rattle.nz_engine.specs.Engines.{EngineState}
 use Rattle.nz_term.specs.Growth.{Grows, KeepsTerms}
-use Rattle.nz_engine_tests.specs.Benches.{Extends, IsFormula, IsInOrder, IsReady}
+use Rattle.nz_engine_tests.specs.Benches.{Extends, IsFormula, IsInOrder, IsLevelOf, IsReady}
 
 -- ---- Tables
 
@@ -30,12 +32,21 @@ formula_stays old new e i h =
 all_stay : (old new : List Node) → Extends old new → (is : List ℕ) → All (IsFormula old) is → All (IsFormula new) is
 all_stay old new e is h = λ k d l. formula_stays old new e _ (h k d l)
 
+level_stays : (old new : List Node) → Extends old new → (l : Level) → IsLevelOf old l → IsLevelOf new l
+level_stays old new e l h =
+    let more : length old ≤ length new = longer old new e in
+    record { asserted = all_stay old new e l.asserted h.asserted; numbers = λ k d below. let w = h.numbers k d below in omega (arith, more, w) }
+
+levels_stay : (old new : List Node) → Extends old new → (levels : List Level) → AllByRecursion (IsLevelOf old) levels → AllByRecursion (IsLevelOf new) levels
+levels_stay old new e [] h = h
+levels_stay old new e (l ∷ ls) h = (level_stays old new e l h.0, levels_stay old new e ls h.1)
+
 -- ---- Engines
 
 ready_stays : (old new : List Node) (engine : EngineState) → Extends old new → IsReady old engine → IsReady new engine
 ready_stays old new engine e h =
     record {
-      asserted = all_stay old new e _ h.asserted;
+      added = levels_stay old new e engine.levels h.added;
       front = front_of_more engine.table old new h.front (front_of_extended old new e);
     }
 

@@ -1,3 +1,4 @@
 mod ConsistentLiterals
+mod Courses
 mod Growth
 mod ToldLevels

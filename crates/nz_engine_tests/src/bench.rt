@@ -1,19 +1,22 @@
 //! An engine with its table. What a call asks of its arguments is tested here, so that the tests have nothing to prove: the bench's invariant
 //! is known to no other file.
-ghost use Rattle.std.specs.Prelude.{◌≡◌, All, IsTrue, OnOk, length};
+ghost use Rattle.std.specs.Prelude.{◌≡◌, ◌<◌, List, IsTrue, IfOk, OnOk, length};
 ghost use Rattle.std.specs.Bool.{OnTrue};
 ghost use Rattle.nz_spec.specs.search.Decide.{IsFrontOfTable};
 ghost use Rattle.nz_spec.specs.terms.Order.{HasCompanions};
 ghost use Rattle.nz_spec.specs.terms.Table.{HasItsArguments};
+ghost use Rattle.nz_spec.specs.terms.Term as spec;
 ghost use Rattle.nz_spec.specs.terms.Term.{head_fits};
 ghost use Rattle.nz_term.specs.Heads.{head_of};
 ghost use Rattle.nz_term.specs.TermLits.{AreConsistent};
 ghost use Rattle.nz_taken_samples.specs.Sorted.{AreTaken};
-ghost use Rattle.nz_engine_tests.specs.Benches.{AreFormulaLits, IsFormula, IsReady};
+ghost use Rattle.nz_engine.specs.Engines.{Begins};
+ghost use Rattle.nz_engine_tests.specs.Benches.{AreFormulaLits, IsFormula, IsGoing, IsNew, IsReady};
 
-use nz_base::{Memory, Text, Work};
+use nz_base::{Entry, Memory, Noted, Text, Work};
 use nz_engine::Engine;
-use nz_search::{Decide, Stop, Verdict};
+use nz_search::laws::checks_may_start;
+use nz_search::{Decide, Note, Stop, Verdict};
 use nz_taken_samples::need_taken;
 use nz_term::{
     Constant, Head, Operator, Sort, TermId, TermLit, Terms, add_companions, operators_are_no_leaves,
@@ -40,6 +43,27 @@ impl Model for Bench {
     ghost view = { λ b. record { terms = b.terms; engine = b.engine } };
 
     ghost invariant = { λ b. IsInOrder b.terms b.engine b.depth };
+}
+
+/// The units of a list that is long enough.
+const ENOUGH: u64 = 100;
+
+/// How many lines of a list tell of a start, of a search under literals, of an atom on a term, of one that was named before, of a learned clause, and of a sum that joins.
+#[derive(Clone, Copy, Debug, PartialEq, Eq)]
+pub struct Counted {
+    pub starts: usize,
+    pub searches: usize,
+    pub atoms: usize,
+    pub twice: usize,
+    pub learned: usize,
+    pub forms: usize,
+}
+
+/// What three checks came to that went on with one list of work, and what it tells.
+#[derive(Clone, Copy, Debug, PartialEq, Eq)]
+pub struct Chain {
+    pub answers: [Answer; 3],
+    pub lines: Counted,
 }
 
 /// What a check came to.
@@ -124,13 +148,9 @@ impl Bench {
         }
     }
 
-    /// Asserts a term. Answers whether it is a formula of the table.
-    pub fn assert(&mut self, term: TermId) -> Result<bool, Memory> {
-        if !is_formula(&self.terms, term) {
-            return Ok(false);
-        }
-        self.engine.add(term)?;
-        Ok(true)
+    /// Adds a term: a formula is asserted. Answers whether it is of the table.
+    pub fn add(&mut self, term: TermId) -> Result<bool, Memory> {
+        add_to(&self.terms, &mut self.engine, term)
     }
 
     /// Makes the companions of all terms.
@@ -150,6 +170,58 @@ impl Bench {
         }
         ask(self.alloc, &self.terms, &mut self.engine, assumed, units)
     }
+
+    /// Asks a new engine, to which these terms are added, three times, each time under one list of literals, and goes on with one list of work, which has
+    /// enough units. Where a check has no answer, that is told as want of memory.
+    pub fn check_each(
+        &mut self,
+        added: &[TermId],
+        first: &[TermLit],
+        second: &[TermLit],
+        third: &[TermLit],
+    ) -> Result<Chain, Memory> {
+        self.complete()?;
+        need_taken(&self.terms)?;
+        let mut engine = engine_with(self.alloc, &self.terms, added)?;
+        ask_each(self.alloc, &self.terms, &mut engine, first, second, third)
+    }
+}
+
+/// Adds a term to an engine. Answers whether it is of the table.
+fn add_to(terms: &Terms, engine: &mut Engine, term: TermId) -> Result<bool, Memory>
+    requires some { 0 < length engine.old.levels }
+    ensures ready { IsReady terms.now engine.old → IsReady terms.now engine.new }
+    ensures count { length engine.new.levels ≡ length engine.old.levels }
+    ensures begins { (ts : List spec.Term) → Begins engine.old ts → Begins engine.new ts }
+{
+    if terms.len() <= term {
+        return Ok(false);
+    }
+    engine.add(terms, term)?;
+    Ok(true)
+}
+
+/// A new engine with one level, to which these terms are added.
+fn engine_with(alloc: Global, terms: &Terms, added: &[TermId]) -> Result<Engine, Memory>
+    ensures is_new { IfOk result (IsNew terms.now) }
+{
+    let mut engine = Engine::new(alloc)?;
+    engine.push()?;
+    for i in 0..added.len() {
+        add_to(terms, &mut engine, added[i])?;
+    }
+    Ok(engine)
+}
+
+/// A list of work with enough units, for the checks of a new engine.
+fn begun_list(alloc: Global, terms: &Terms, engine: &Engine) -> Result<Work<Note>, Memory>
+    requires is_new { IsNew terms.now engine.now }
+    ensures going { IfOk result (IsGoing terms.now engine.now) }
+{
+    checks_may_start();
+    let mut work = Work::new(alloc)?;
+    work.reserve(ENOUGH)?;
+    Ok(work)
 }
 
 /// Whether a number is of a term of sort `Bool`.
@@ -217,4 +289,106 @@ fn ask(
         Err(Stop::Wide(_)) => Ok(Answer::Wide),
         Err(Stop::Memory) => Err(Memory),
     }
+}
+
+/// What an engine answers under these literals, from where a list of work leads. Where there is no answer, that is told as want of memory.
+fn ask_on(
+    terms: &Terms,
+    engine: &mut Engine,
+    assumed: &[TermLit],
+    work: &mut Work<Note>,
+) -> Result<Answer, Memory>
+    requires going { IsGoing terms.now engine.old work.old }
+    requires companions { HasCompanions terms.now }
+    requires taken { AreTaken terms.now (length terms.now) }
+    ensures going { OnOk result (IsGoing terms.now engine.new work.new) }
+{
+    if !name_formulas(terms, assumed) || !are_consistent(assumed) {
+        return Err(Memory);
+    }
+    match engine.check(terms, assumed, work) {
+        Ok(Verdict::Sat(_)) => Ok(Answer::Sat),
+        Ok(Verdict::Unsat(clause)) => Ok(Answer::Unsat(engine.steps(clause)?.len())),
+        Err(_) => Err(Memory),
+    }
+}
+
+/// What a new engine answers under each of these lists of literals, with one list of work.
+fn ask_each(
+    alloc: Global,
+    terms: &Terms,
+    engine: &mut Engine,
+    first: &[TermLit],
+    second: &[TermLit],
+    third: &[TermLit],
+) -> Result<Chain, Memory>
+    requires is_new { IsNew terms.now engine.old }
+    requires companions { HasCompanions terms.now }
+    requires taken { AreTaken terms.now (length terms.now) }
+{
+    let mut work = begun_list(alloc, terms, engine)?;
+    let answers = ask_three(terms, engine, first, second, third, &mut work)?;
+    Ok(Chain {
+        answers,
+        lines: lines_of(alloc, &work)?,
+    })
+}
+
+/// What an engine answers under each of these, from where a list of work leads.
+fn ask_three(
+    terms: &Terms,
+    engine: &mut Engine,
+    first: &[TermLit],
+    second: &[TermLit],
+    third: &[TermLit],
+    work: &mut Work<Note>,
+) -> Result<[Answer; 3], Memory>
+    requires going { IsGoing terms.now engine.old work.old }
+    requires companions { HasCompanions terms.now }
+    requires taken { AreTaken terms.now (length terms.now) }
+{
+    let first = ask_on(terms, engine, first, work)?;
+    let second = ask_on(terms, engine, second, work)?;
+    let third = ask_on(terms, engine, third, work)?;
+    Ok([first, second, third])
+}
+
+/// What the lines of a list tell.
+fn lines_of(alloc: Global, work: &Work<Note>) -> Result<Counted, Memory> {
+    let mut lines = Counted {
+        starts: 0,
+        searches: 0,
+        atoms: 0,
+        twice: 0,
+        learned: 0,
+        forms: 0,
+    };
+    let mut seen = Vec::new(alloc);
+    for place in 0..work.len() {
+        count_line(&work.get(place), &mut seen, &mut lines)?;
+    }
+    Ok(lines)
+}
+
+/// Counts a line. The terms of the atoms before it were seen.
+fn count_line(
+    line: &Noted<'_, Note>,
+    seen: &mut Vec<TermId>,
+    counted: &mut Counted,
+) -> Result<(), Memory> {
+    match line {
+        Noted::Note(Note::Start(_)) => counted.starts = counted.starts.saturating_add(1),
+        Noted::Note(Note::Under(_)) => counted.searches = counted.searches.saturating_add(1),
+        Noted::Note(Note::Atom(term)) => {
+            if seen.contains(term) {
+                counted.twice = counted.twice.saturating_add(1);
+            }
+            counted.atoms = counted.atoms.saturating_add(1);
+            seen.push(*term)?;
+        }
+        Noted::Note(Note::Form { .. }) => counted.forms = counted.forms.saturating_add(1),
+        Noted::Unit(Entry::Learned { .. }) => counted.learned = counted.learned.saturating_add(1),
+        _ => {}
+    }
+    Ok(())
 }

@@ -1,6 +1,8 @@
 //! Checks one after another: what is asserted comes and goes, and so does what is assumed.
 
-use crate::formula::Part::{self, AtMost, Atom, Equal, Ite, Less, Not, Or, Real, Sum, Tenths, Xor};
+use crate::formula::Part::{
+    self, AtMost, Atom, Choose, Equal, Ite, Less, Not, Or, Real, Sum, Tenths, Xor,
+};
 use crate::trial::{Trial, Tried};
 use std::alloc::Global;
 use std::test::Fail;
@@ -9,7 +11,8 @@ use std::test::Fail;
 enum Act {
     Push,
     Pop,
-    Assert(&'static [Part]),
+    /// A formula, which is asserted, or a number.
+    Add(&'static [Part]),
     /// With enough units: what is assumed, and the answer that is wanted.
     Ask(&'static [&'static [Part]], Tried),
     /// With no unit at all.
@@ -25,7 +28,7 @@ fn perform(trial: &mut Trial, place: usize, act: &Act) -> Result<(), Fail> {
     match act {
         Act::Push => trial.push()?,
         Act::Pop => trial.pop(),
-        Act::Assert(formula) => trial.assert(formula)?,
+        Act::Add(formula) => trial.add(formula)?,
         Act::Ask(assumed, wanted) => trial.expect(place, assumed, 100, *wanted)?,
         Act::AskAtOnce(assumed, wanted) => trial.expect(place, assumed, 0, *wanted)?,
     }
@@ -48,12 +51,12 @@ fn run(alloc: Global, acts: &'static [Act]) -> Result<(), Fail> {
 
 const LEVELS: &[Act] = &[
     Act::Ask(&[], Tried::Sat),
-    Act::Assert(&[Atom(0), Atom(1), Or(2)]),
+    Act::Add(&[Atom(0), Atom(1), Or(2)]),
     Act::Push,
-    Act::Assert(&[Atom(0), Not]),
+    Act::Add(&[Atom(0), Not]),
     Act::Ask(&[], Tried::Sat),
     Act::Push,
-    Act::Assert(&[Atom(1), Not]),
+    Act::Add(&[Atom(1), Not]),
     Act::Ask(&[], Tried::Unsat),
     Act::Pop,
     Act::Ask(&[], Tried::Sat),
@@ -71,12 +74,12 @@ fn test_what_is_popped_is_no_longer_asserted(rt: HostRuntime) -> Result<(), Fail
 
 // No constant follows, so that a decision is wanted; under an assumed one all others follow.
 const SPENT: &[Act] = &[
-    Act::Assert(&[Atom(0), Atom(1), Xor]),
-    Act::Assert(&[Atom(1), Atom(2), Xor]),
+    Act::Add(&[Atom(0), Atom(1), Xor]),
+    Act::Add(&[Atom(1), Atom(2), Xor]),
     Act::AskAtOnce(&[], Tried::Spent),
     Act::Ask(&[], Tried::Sat),
     Act::AskAtOnce(&[], Tried::Spent),
-    Act::Assert(&[Atom(0), Atom(2), Xor]),
+    Act::Add(&[Atom(0), Atom(2), Xor]),
     Act::AskAtOnce(&[], Tried::Spent),
     Act::Ask(&[], Tried::Unsat),
     Act::AskAtOnce(&[NOT_P], Tried::Unsat),
@@ -89,16 +92,16 @@ fn test_a_spent_check_leaves_the_engine_as_it_was(rt: HostRuntime) -> Result<(),
 
 // A bound that a popped level alone had comes again; what was learned of it is no longer known.
 const BOUNDS: &[Act] = &[
-    Act::Assert(&[Real(0), Real(1), Less]),
+    Act::Add(&[Real(0), Real(1), Less]),
     Act::Ask(&[], Tried::Sat),
     Act::Push,
-    Act::Assert(&[Real(1), Real(2), Less]),
+    Act::Add(&[Real(1), Real(2), Less]),
     Act::Ask(&[&[Real(2), Real(0), Less]], Tried::Unsat),
     Act::Ask(&[&[Real(0), Real(2), Less]], Tried::Sat),
     Act::Pop,
     Act::Ask(&[&[Real(2), Real(0), Less]], Tried::Sat),
     Act::Push,
-    Act::Assert(&[Real(0), Real(1), Sum(2), Tenths(10), AtMost]),
+    Act::Add(&[Real(0), Real(1), Sum(2), Tenths(10), AtMost]),
     Act::Ask(&[&[Tenths(5), Real(0), AtMost]], Tried::Unsat),
     Act::Ask(&[&[Tenths(4), Real(0), AtMost]], Tried::Sat),
     Act::Pop,
@@ -156,7 +159,7 @@ fn do_by(trial: &mut Trial, place: usize, number: u32) -> Result<(), Fail> {
     match number >> 29 {
         0 => trial.push()?,
         1 => trial.pop(),
-        2 | 3 => trial.assert(formula)?,
+        2 | 3 => trial.add(formula)?,
         4 => trial.compare(place, &[first])?,
         5 => trial.compare(place, &[first, second])?,
         _ => trial.compare(place, &[])?,
@@ -178,4 +181,36 @@ fn do_seeded(trial: &mut Trial, count: usize) -> Result<(), Fail> {
 fn test_an_engine_answers_as_one_that_is_new(rt: HostRuntime) -> Result<(), Fail> {
     let mut trial = Trial::new(rt.alloc(), 6)?;
     do_seeded(&mut trial, 150)
+}
+
+// The number adds clauses on the constant of its condition, which none of them decides, and asserts nothing, whatever comes and goes.
+const NUMBER: &[Part] = &[Atom(0), Real(0), Real(0), Tenths(10), Sum(2), Choose];
+
+const NUMBERS: &[Act] = &[
+    Act::Add(NUMBER),
+    Act::Ask(&[], Tried::Sat),
+    Act::Ask(&[&[Atom(0)]], Tried::Sat),
+    Act::Ask(&[NOT_P], Tried::Sat),
+    Act::Push,
+    Act::Add(&[Real(0), Tenths(5), AtMost]),
+    Act::Add(&[
+        Tenths(10),
+        Atom(0),
+        Real(0),
+        Real(0),
+        Tenths(10),
+        Sum(2),
+        Choose,
+        AtMost,
+    ]),
+    Act::Ask(&[&[Atom(0)]], Tried::Unsat),
+    Act::Ask(&[NOT_P], Tried::Sat),
+    Act::Pop,
+    Act::Ask(&[&[Atom(0)]], Tried::Sat),
+    Act::Ask(&[NOT_P], Tried::Sat),
+];
+
+#[test]
+fn test_an_added_number_asserts_nothing(rt: HostRuntime) -> Result<(), Fail> {
+    run(rt.alloc(), NUMBERS)
 }

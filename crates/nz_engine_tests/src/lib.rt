@@ -10,6 +10,8 @@ mod formula;
 #[cfg(test)]
 mod levels;
 #[cfg(test)]
+mod lists;
+#[cfg(test)]
 mod rows;
 #[cfg(test)]
 mod trial;

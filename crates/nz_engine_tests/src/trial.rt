@@ -1,9 +1,10 @@
 //! A problem under way.
 
-use crate::bench::{Answer, Bench};
+use crate::bench::{Answer, Bench, Chain};
 use crate::build::{literals_of, term_of};
 use crate::formula::Part;
 use nz_base::Memory;
+use nz_term::TermId;
 use std::alloc::Global;
 use std::test::Fail;
 
@@ -13,8 +14,8 @@ pub struct Trial {
     alloc: Global,
     bench: Bench,
     constants: usize,
-    asserted: Vec<Vec<Part>>,
-    // How many formulas were asserted when each pushed level began.
+    added: Vec<Vec<Part>>,
+    // How many formulas were added when each pushed level began.
     marks: Vec<usize>,
 }
 
@@ -42,7 +43,7 @@ impl Trial {
             alloc,
             bench: Bench::new(alloc)?,
             constants,
-            asserted: Vec::new(alloc),
+            added: Vec::new(alloc),
             marks: Vec::new(alloc),
         })
     }
@@ -50,7 +51,7 @@ impl Trial {
     /// Begins a level.
     pub fn push(&mut self) -> Result<(), Memory> {
         self.bench.push()?;
-        self.marks.push(self.asserted.len())?;
+        self.marks.push(self.added.len())?;
         Ok(())
     }
 
@@ -58,31 +59,24 @@ impl Trial {
     pub fn pop(&mut self) {
         if let Some(mark) = self.marks.pop() {
             self.bench.pop();
-            self.asserted.truncate(mark);
+            self.added.truncate(mark);
         }
     }
 
-    /// Asserts a formula.
-    pub fn assert(&mut self, formula: &[Part]) -> Result<(), Fail> {
+    /// Adds a formula or a number.
+    pub fn add(&mut self, formula: &[Part]) -> Result<(), Fail> {
         let term = term_of(self.alloc, &mut self.bench, formula)?.ok_or("no formula")?;
-        if !self.bench.assert(term)? {
+        if !self.bench.add(term)? {
             return Err(Fail::new("no term of the table"));
         }
-        self.asserted.push(Vec::from_slice(self.alloc, formula)?)?;
+        self.added.push(Vec::from_slice(self.alloc, formula)?)?;
         Ok(())
     }
 
     /// Asks whether what is asserted and assumed can all be true, with so many units.
     fn ask(&mut self, assumed: &[&'static [Part]], units: u64) -> Result<Tried, Fail> {
         let literals = literals_of(self.alloc, &mut self.bench, assumed)?.ok_or("no formulas")?;
-        match self.bench.check(&literals, units)? {
-            Answer::Sat => Ok(Tried::Sat),
-            Answer::Unsat(0) => Err(Fail::new("a clause without a step")),
-            Answer::Unsat(_) => Ok(Tried::Unsat),
-            Answer::Spent => Ok(Tried::Spent),
-            Answer::Wide => Ok(Tried::Wide),
-            Answer::Unasked => Err(Fail::new("the engine can't be asked")),
-        }
+        what_came(self.bench.check(&literals, units)?)
     }
 
     /// Asks so, and fails where another answer comes than is wanted at this place of a test.
@@ -104,22 +98,57 @@ impl Trial {
         Ok(())
     }
 
-    /// Asserts these formulas, and asks so with enough units.
+    /// Adds these formulas and numbers, and asks so with enough units.
     fn ask_with(
         &mut self,
         formulas: &[Vec<Part>],
         assumed: &[&'static [Part]],
     ) -> Result<Tried, Fail> {
         for formula in formulas {
-            self.assert(formula)?;
+            self.add(formula)?;
         }
         self.ask(assumed, 1000)
     }
 
+    /// Asks a new engine so three times, each time under one list of formulas, and goes on with one list of work.
+    pub fn ask_each(
+        &mut self,
+        first: &[&'static [Part]],
+        second: &[&'static [Part]],
+        third: &[&'static [Part]],
+    ) -> Result<Chain, Fail> {
+        let first = literals_of(self.alloc, &mut self.bench, first)?.ok_or("no formulas")?;
+        let second = literals_of(self.alloc, &mut self.bench, second)?.ok_or("no formulas")?;
+        let third = literals_of(self.alloc, &mut self.bench, third)?.ok_or("no formulas")?;
+        let added = terms_of(self.alloc, &mut self.bench, &self.added)?;
+        Ok(self.bench.check_each(&added, &first, &second, &third)?)
+    }
+
     /// Asks so with enough units, and fails where an engine that was asked nothing before answers otherwise.
     pub fn compare(&mut self, place: usize, assumed: &[&'static [Part]]) -> Result<(), Fail> {
-        let wanted = fresh_answer(self.alloc, self.constants, &self.asserted, assumed)?;
+        let wanted = fresh_answer(self.alloc, self.constants, &self.added, assumed)?;
         self.expect(place, assumed, 1000, wanted)
+    }
+}
+
+/// The terms of these formulas and numbers.
+fn terms_of(alloc: Global, bench: &mut Bench, formulas: &[Vec<Part>]) -> Result<Vec<TermId>, Fail> {
+    let mut terms = Vec::new(alloc);
+    for formula in formulas {
+        terms.push(term_of(alloc, bench, formula)?.ok_or("no formula")?)?;
+    }
+    Ok(terms)
+}
+
+/// What an answer tells of a check.
+pub fn what_came(answer: Answer) -> Result<Tried, Fail> {
+    match answer {
+        Answer::Sat => Ok(Tried::Sat),
+        Answer::Unsat(0) => Err(Fail::new("a clause without a step")),
+        Answer::Unsat(_) => Ok(Tried::Unsat),
+        Answer::Spent => Ok(Tried::Spent),
+        Answer::Wide => Ok(Tried::Wide),
+        Answer::Unasked => Err(Fail::new("the engine can't be asked")),
     }
 }
 

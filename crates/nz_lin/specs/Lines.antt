@@ -1,5 +1,5 @@
 -- What lines and families of the code are: over a table, whose numbers name their constants.
-use Rattle.std.specs.Prelude.{ℕ, List, [], map, flat_map, Some, None, slice_get}
+use Rattle.std.specs.Prelude.{ℕ, List, [], map, flat_map, Option, Some, None, slice_get}
 use Rattle.nz_spec.specs.simplex.Climb as spec
 use Rattle.nz_spec.specs.simplex.Climb.{steady, along, up_to, naturals}
 use Rattle.nz_spec.specs.search.Decide.{constants_of_head}
@@ -31,9 +31,13 @@ pub record NumberedFamily : Type 0 where
 abbrev pub numbered_course : ℕ × Course → ℕ × spec.Course
 numbered_course p = (p.0, course_of p.1)
 
--- the constant of a number, with its course; a number of no constant has none
+-- the constant of a node, with a course; a node of no constant has none
+abbrev pub courses_by : Option Node → spec.Course → List (Constant × spec.Course)
+courses_by None course = []
+courses_by (Some n) course = map (λ (c : Constant). (c, course)) (constants_of_head n.head)
+
 abbrev pub courses_at : List Node → ℕ × spec.Course → List (Constant × spec.Course)
-courses_at ns p = elim (slice_get ns p.0) [ Some n ↦ map (λ (c : Constant). (c, p.1)) (constants_of_head n.head) | None ↦ [] ]
+courses_at ns p = courses_by (slice_get ns p.0) p.1
 
 abbrev pub family_in : List Node → NumberedFamily → spec.Family
 family_in ns f = record { courses = flat_map (courses_at ns) f.courses; range = f.range }

@@ -12,12 +12,12 @@ use Rattle.nz_fractions.proofs.Identities.{neg-back}
 use Rattle.nz_spec.specs.simplex.Bland.{Position, zero_infinitesimal}
 use Rattle.nz_spec.specs.clauses.Farkas.{bound_of}
 use Rattle.nz_spec.specs.terms.Form as spec
-use Rattle.nz_spec.specs.terms.Form.{Numbering, unit_form}
+use Rattle.nz_spec.specs.terms.Form.{Numbering, as_written, unit_form}
 use Rattle.nz_spec.specs.numbers.Infinitesimal.{Infinitesimal}
 use Rattle.nz_spec.specs.clauses.LinearLiteral.{parts_of}
 use Rattle.nz_spec.specs.search.Atoms.{IsTabled}
 use Rattle.nz_spec.specs.search.Beginnings.{IsKnownForm, of_bound, IsKnownPlace, at_zero, at_bound}
-use Rattle.nz_spec.specs.clauses.Literal.{Literal, StandOnce, TellsLiterals, is_at_most, is_below, negation_of, term_literal}
+use Rattle.nz_spec.specs.clauses.Literal.{Literal, SayTheSame, StandOnce, TellsLiterals, is_at_most, is_below, negation_of, term_literal}
 use Rattle.nz_spec.specs.simplex.LiteralBounds.{FormBound, turned}
 use Rattle.nz_spec.specs.simplex.PositionMoves.{with_form, with_unit}
 use Rattle.nz_spec.specs.terms.Table.{HasOneNumberEach, IsTable, Node, OneNumber, term_in}
@@ -252,6 +252,11 @@ module _ (all : List Atom) (ids : List ℕ) where
       let units = bound_units all ids b among may.table may.within in
       record { table = may.table; over = h.over may.table may.is_table may.within; units = unit_units may.table p (each_of (NamesUnit may.table) b.sides.parts units.names p has); sum = unit_sum p }
 
+  -- it says what it says
+  signed_itself : (ps : List spec.Part) (b : Fraction) (sign : Bool) → SayTheSame (with_sign sign (is_at_most ps b)) (with_sign sign (is_at_most ps b))
+  signed_itself ps b true = (as_written refl, refl)
+  signed_itself ps b false = (as_written refl, refl)
+
   -- a bound that is tabled is so with either sign
   tabled_with : (number : Numbering) (ts : List Term) (ps : List spec.Part) (b : Fraction) (sign : Bool) → IsTabled number ts (is_at_most ps b) → IsTabled number ts (with_sign sign (is_at_most ps b))
   tabled_with number ts ps b true h = h
@@ -291,8 +296,16 @@ module _ (all : List Atom) (ids : List ℕ) where
           bound_in_log ns all (record { atom = b.among.id; sign = true }) b.bound b.among.at (normal_at all b.among.id b.bound atoms b.among.at)
           in
           let known = All-contains (IsTabledAtom ns ts all) ids b.among.id tabled b.among.listed b.bound b.among.at in
-          at_bound known.0 (with_sign b.sign (is_at_most (parts_over ns ps) q)) (half y.side)
-          (record { plain = with_sign b.sign (is_at_most (parts_over ns ps) q); tabled = tabled_with known.0 ts (parts_over ns ps) q b.sign (subst (IsTabled known.0 ts) says known.1); is_tight = false; is = refl })
+          let l = with_sign b.sign (is_at_most (parts_over ns ps) q) in
+          at_bound known.0 l (half y.side)
+          (record {
+            plain = l;
+            tabled = tabled_with known.0 ts (parts_over ns ps) q b.sign (subst (IsTabled known.0 ts) says known.1);
+            written = l;
+            same = signed_itself (parts_over ns ps) q b.sign;
+            is_tight = false;
+            is = refl;
+          })
           (said_of_form ns u.simplex k ps q b.sign (one ns over.table) tells (h.over ns over.table within) forms b.form
           ∙ ap (λ (x : Infinitesimal). let o : Option FormBound = Some (record { form = k; side = half y.side; bound = x }) in o) (sym b.value))
 

@@ -19,7 +19,6 @@ use Rattle.nz_spec.specs.clauses.Literal.{Literal}
 use Rattle.nz_spec.specs.simplex.LiteralBounds.{position_under}
 use Rattle.nz_spec.specs.search.Places.{IsChosen, IsOfLimit, IsOfModel, IsOperationIn, IsPairOf, in_order}
 use Rattle.nz_spec.specs.simplex.Climb.{unit_of}
-use Rattle.nz_spec.specs.terms.FormOf.{number_in}
 use Rattle.nz_spec.specs.terms.Table.{HasItsArguments, Node, TermOfNode, term_in, terms_at}
 use Rattle.nz_spec.specs.terms.Term.{Head, Term, apply, constant}
 use Rattle.nz_spec.specs.laws.ToldBounds.{AreNumbers}
@@ -313,8 +312,8 @@ module _ (t : Theory) (ns : List Node) (over : IsOver ns t.simplex) (sound : IsS
   pub limit_place : (place : Place) → IsWithinBounds p → HasValues t → IsLimitPlace t place → (fs : List (List spec.Part)) (ls : List Literal) (x : Point) → position_under fs x ls ≡ p → IsPlaceIn ns fs ls x place
   limit_place place within has h fs ls x same = record {
     at =
-        subst (λ (q : Position). IsOperationIn (number_in ns) ls q (site_of ns place.site) (operation_of place.wide)) (sym same)
-        (subst (λ (s : Site). IsOperationIn (number_in ns) ls p (site_of ns s) (operation_of place.wide)) (sym h.site) (by_side h.side (bound_of_pair t h.form h.side h.pair h.is)));
+        subst (λ (q : Position). IsOperationIn ls q (site_of ns place.site) (operation_of place.wide)) (sym same)
+        (subst (λ (s : Site). IsOperationIn ls p (site_of ns s) (operation_of place.wide)) (sym h.site) (by_side h.side (bound_of_pair t h.form h.side h.pair h.is)));
     leaves = h.leaves;
     within = subst (λ (s : Site). IsSiteWithin ns s) (sym h.site) tt;
   }

@@ -16,6 +16,7 @@ pub mod News
 pub mod RefutationClauses
 pub mod SearchStarts
 pub mod SumCounts
+pub mod SumOrders
 pub mod Sums
 pub mod TheoryPositions
 pub mod TheoryStarts

@@ -10,7 +10,8 @@ use Rattle.nz_lists.proofs.Members.{at_of, each_of, map_from, map_has}
 use Rattle.nz_fractions.proofs.FirstOperations.{first_wide-is}
 use Rattle.nz_fractions.specs.Fraction.{IsNumber, first_wide}
 use Rattle.nz_spec.specs.clauses.Farkas as farkas
-use Rattle.nz_spec.specs.clauses.Farkas.{is_contradiction, is_multiple, negations_of, sum_of_multiples}
+use Rattle.nz_spec.specs.clauses.Farkas.{is_contradiction, is_multiple, negations_of, sum_of_multiples, sums_of}
+use Rattle.nz_spec.specs.terms.Form.{IsOrderOf}
 use Rattle.nz_spec.specs.terms.FormOf.{number_in}
 use Rattle.nz_spec.specs.numbers.Computation.{at_once, turned_into}
 use Rattle.nz_spec.specs.clauses.Literal.{StandOnce, clause_of, once}
@@ -156,16 +157,6 @@ told_then old new ms tells atoms levels told =
         subst (λ (ls : List (Option ℕ)). Names (λ t. IsSome (slice_index_or ls t None)) new.atoms l) (sym levels)
         (subst (λ (list : List Atom). Names (λ t. IsSome (slice_index_or old.told t None)) list l) (sym atoms) named)
 
-pub grows_same : (log : LogState) → Grows log log
-grows_same log = record {
-  live = λ i h. h;
-  kept = λ i h. refl;
-  told = refl;
-  atoms = λ i a h. h;
-  rows = λ i e at row. subst IsSome (sym at) refl;
-  leveled = λ h. h;
-}
-
 -- ---- Where the sum leaves the numbers
 
 -- the operations of a refutation are those of the sum
@@ -175,15 +166,16 @@ farkas_operations ns ms are =
     ap (λ (b : Bool). first_wide (if b then turned_into (λ x. if is_contradiction x then Some (clause_of (negations_of ms)) else None) (sum_of_multiples (number_in ns) ms) else at_once None).operations) are
 
 pub sum_place : (ns : List Node) (t : Theory) (atoms : List Atom) (ids : List ℕ) (ms : List LitMultiple) (wide : frac.Wide) (bs : Vec lin.BoundMultiple Global) → IsOf t atoms ids → AreKnown t ms
-    → Contradicts (number_in ns) (multiples_in ns atoms ms) → IsNumber wide.a → IsNumber wide.b
+    → IsOrderOf (number_in ns) (sums_of (multiples_over ns t ms)) → Contradicts (number_in ns) (multiples_in ns atoms ms) → IsNumber wide.a → IsNumber wide.b
     → first_wide_in_step ns (farkas_step (multiples_in ns atoms ms)) ≡ Some (operation_of wide) → AreBoundsOf ns atoms ms bs.items
     → IsSumPlace ns t ms (record { wide = wide; site = Sum bs })
-sum_place ns t atoms ids ms wide bs of known contradicts left right stop bounds =
+sum_place ns t atoms ids ms wide bs of known ordered contradicts left right stop bounds =
     let same = multiples_are t atoms ids of ns ms known in
     let first : first_wide (sum_of_multiples (number_in ns) (multiples_in ns atoms ms)).operations ≡ Some (operation_of wide) =
     sym (farkas_operations ns (multiples_in ns atoms ms) contradicts.multiples) ∙ stop in
     record {
       site = ap sum_site (bounds.bounds ∙ sym same);
+      ordered = ordered;
       contradicts = subst (Contradicts (number_in ns)) (sym same) contradicts;
       first = ap (λ (xs : List farkas.Multiple). first_wide (sum_of_multiples (number_in ns) xs).operations) same ∙ first;
       leaves = record { left = left; right = right; wide = (first_wide-is (sum_of_multiples (number_in ns) (multiples_in ns atoms ms)).operations (operation_of wide) first).1 };
@@ -215,8 +207,8 @@ lit_among ns atoms ms i m less is among =
 
 -- the place of a sum, by its stop
 pub sum_stops : (ns : List Node) (t : Theory) (atoms : List Atom) (ids : List ℕ) (ms : List LitMultiple) (wide : frac.Wide) (bs : Vec lin.BoundMultiple Global) (stop : Stop) → IsOf t atoms ids → AreKnown t ms
-    → IsOver t ns → Contradicts (number_in ns) (multiples_in ns atoms ms) → IsNumber wide.a → IsNumber wide.b
+    → IsOver t ns → IsOrderOf (number_in ns) (sums_of (multiples_over ns t ms)) → Contradicts (number_in ns) (multiples_in ns atoms ms) → IsNumber wide.a → IsNumber wide.b
     → first_wide_in_step ns (farkas_step (multiples_in ns atoms ms)) ≡ Some (operation_of wide) → AreBoundsOf ns atoms ms bs.items
     → stop ≡ Wide (record { wide = wide; site = Sum bs }) → OnWide stop (IsSumPlace ns t ms)
-sum_stops ns t atoms ids ms wide bs stop of known over contradicts left right first bounds is =
-    subst (λ (s : Stop). OnWide s (IsSumPlace ns t ms)) (sym is) (sum_place ns t atoms ids ms wide bs of known contradicts left right first bounds)
+sum_stops ns t atoms ids ms wide bs stop of known over ordered contradicts left right first bounds is =
+    subst (λ (s : Stop). OnWide s (IsSumPlace ns t ms)) (sym is) (sum_place ns t atoms ids ms wide bs of known ordered contradicts left right first bounds)

@@ -28,7 +28,7 @@ use Rattle.nz_reals.specs.State.{Theory, empty_theory}
 -- over no sum: so ends a list with no line
 pub empty_restarts : LegalWorkMayBegin → (ns : List Node) (ts : List Term) → MayRestart empty_theory ns ts
 empty_restarts legal ns ts =
-    let q : Task = record { asserted = []; assumed = []; goals = []; listed = ts; numbering = number_in ns; earlier = []; earlier_goals = [] } in
+    let q : Task = record { asserted = []; assumed = []; goals = []; groups = []; listed = ts; numbering = number_in ns; earlier = []; earlier_goals = [] } in
     legal.plain q [] no_point ([], refl) refl (All-from_recursion IsOnTerm [] tt) (All-from_recursion (λ (l : Literal). IsTruth ts l ⊎ IsTabled (number_in ns) ts l) [] tt)
 
 pub restarts_after : LegalWorkMayBegin → (t : Theory) (ns : List Node) (q : Task) (work : WorkList Note) → Stands (IsAt t ns) ns q work → q.goals ≡ [] → q.earlier_goals ≡ [] → All IsOnTerm q.assumed

@@ -82,10 +82,6 @@ stood_keeps old new k v (inr turned) = turned.moves.kept
 
 -- ---- Exchanges
 
--- where none was made
-pub kept_one : (old new : Theory) → KeepsForms old new → MayExchangeOne old new false
-kept_one old new kept = record { kept = kept; joined = λ e. absurd cc }
-
 -- where one was made of a sum that had joined
 pub exchanged_one : (old mid new : Theory) (leaves : ℕ) (b : Bool) → KeepsForms old mid → MayHaveExchanged mid new
     → (b ≡ true → (f : List Part) × (slice_get mid.simplex.forms leaves ≡ Some f) × (is_unit_form f ≡ false)) → length old.simplex.forms ≤ leaves → MayExchangeOne old new b

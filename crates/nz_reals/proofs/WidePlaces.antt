@@ -38,7 +38,7 @@ use Rattle.nz_log.specs.declared.multiples.LitMultiple.{LitMultiple}
 use Rattle.nz_search.specs.declared.note.Note.{Note}
 use Rattle.nz_place.specs.declared.place.Place.{Place}
 use Rattle.nz_place.specs.declared.place.Site.{Site}
-use Rattle.nz_place.specs.declared.place.Site.TheVariants.{Term, Joining, Exchange, Value, Sum, Limit, Model}
+use Rattle.nz_place.specs.declared.place.Site.TheVariants.{Term, Goal, Joining, Exchange, Value, Sum, Cut, Tight, Split, Move, Limit, Model, Worth, Line, GoalLine, Scaling}
 use Rattle.nz_search.specs.declared.stop.Stop.{Stop}
 use Rattle.nz_search.specs.declared.stop.Stop.TheVariants.{Wide, Spent, Memory}
 use Rattle.nz_place.specs.Places.{IsSiteWithin, site_of}
@@ -79,10 +79,10 @@ module _ (ns : List Node) (s : State) (sound : IsSound s) (over : simplex.IsOver
   found : Contains (site_operations s is.rows place.site) (operation_of place.wide)
   found = (first_wide-is (site_operations s is.rows place.site) (operation_of place.wide) is.first).0
 
-  operation : (ls : List Literal) → IsOperationIn (number_in ns) ls (position_over ns s) (site_of ns place.site) (operation_of place.wide)
+  operation : (ls : List Literal) → IsOperationIn ls (position_over ns s) (site_of ns place.site) (operation_of place.wide)
   operation ls = by_site place.site is.site found
     where
-      by_site : (x : Site) → IsSite ns s x → Contains (site_operations s is.rows x) (operation_of place.wide) → IsOperationIn (number_in ns) ls (position_over ns s) (site_of ns x) (operation_of place.wide)
+      by_site : (x : Site) → IsSite ns s x → Contains (site_operations s is.rows x) (operation_of place.wide) → IsOperationIn ls (position_over ns s) (site_of ns x) (operation_of place.wide)
       by_site (Exchange leaves enters) may has = record {
         rows = is.rows;
         are_rows = is.are_rows;
@@ -98,15 +98,24 @@ module _ (ns : List Node) (s : State) (sound : IsSound s) (over : simplex.IsOver
         of = subst (λ (n : ℕ). Contains (row_value n (is.rows form) (point_in s)).operations (operation_of place.wide)) (sym count) has;
       }
       by_site (Term term) none has = absurd none
+      by_site (Goal goal) none has = absurd none
       by_site Joining none has = absurd none
       by_site (Sum multiples) none has = absurd none
+      by_site (Cut multiples) none has = absurd none
+      by_site (Tight bound) none has = absurd none
+      by_site (Split unit) none has = absurd none
+      by_site (Move form moves side) none has = absurd none
       by_site (Limit form side) none has = absurd none
       by_site (Model form) none has = absurd none
+      by_site (Worth term model) none has = absurd none
+      by_site (Line term family) none has = absurd none
+      by_site (GoalLine goal family) none has = absurd none
+      by_site (Scaling forms moves) none has = absurd none
 
   pub place_in : (fs : List (List Part)) (ls : List Literal) (x : Point) → position_under fs x ls ≡ position_over ns s → IsPlaceOfStep ns fs ls x place
   place_in fs ls x same = record {
     leaves = record {
-      at = subst (λ (p : Position). IsOperationIn (number_in ns) ls p (site_of ns place.site) (operation_of place.wide)) (sym same) (operation ls);
+      at = subst (λ (p : Position). IsOperationIn ls p (site_of ns place.site) (operation_of place.wide)) (sym same) (operation ls);
       leaves = record { left = is.left; right = is.right; wide = (first_wide-is (site_operations s is.rows place.site) (operation_of place.wide) is.first).1 };
       within = within place.site is.site;
     };
@@ -117,19 +126,37 @@ module _ (ns : List Node) (s : State) (sound : IsSound s) (over : simplex.IsOver
       within (Exchange leaves enters) may = tt
       within (Value form) basic = tt
       within (Term term) none = absurd none
+      within (Goal goal) none = absurd none
       within Joining none = absurd none
       within (Sum multiples) none = absurd none
+      within (Cut multiples) none = absurd none
+      within (Tight bound) none = absurd none
+      within (Split unit) none = absurd none
+      within (Move form moves side) none = absurd none
       within (Limit form side) none = absurd none
       within (Model form) none = absurd none
+      within (Worth term model) none = absurd none
+      within (Line term family) none = absurd none
+      within (GoalLine goal family) none = absurd none
+      within (Scaling forms moves) none = absurd none
 
       due : (y : Site) → IsSite ns s y → IsDueIn (position_over ns s) y
       due (Exchange leaves enters) may = ((sound.ready ns over).consistent, may)
       due (Value form) basic = tt
       due (Term term) none = absurd none
+      due (Goal goal) none = absurd none
       due Joining none = absurd none
       due (Sum multiples) none = absurd none
+      due (Cut multiples) none = absurd none
+      due (Tight bound) none = absurd none
+      due (Split unit) none = absurd none
+      due (Move form moves side) none = absurd none
       due (Limit form side) none = absurd none
       due (Model form) none = absurd none
+      due (Worth term model) none = absurd none
+      due (Line term family) none = absurd none
+      due (GoalLine goal family) none = absurd none
+      due (Scaling forms moves) none = absurd none
 
 pub stop_answer : (ns : List Node) (s : State) (left : ℕ) (e : SimplexStop) (place : Place) → Answers ns s left (Err e) → e ≡ stops.Wide place → IsPlace ns s place
 stop_answer ns s left e place answer is = subst (λ (x : SimplexStop). Answers ns s left (Err x)) is answer
@@ -184,9 +211,18 @@ due_sum ns p ms (Sum multiples) is = tt
 due_sum ns p ms (Value form) is = tt
 due_sum ns p ms (Exchange leaves enters) is = absurd cc
 due_sum ns p ms (Term term) is = absurd cc
+due_sum ns p ms (Goal goal) is = absurd cc
 due_sum ns p ms Joining is = absurd cc
+due_sum ns p ms (Cut multiples) is = absurd cc
+due_sum ns p ms (Tight bound) is = absurd cc
+due_sum ns p ms (Split unit) is = absurd cc
+due_sum ns p ms (Move form moves side) is = absurd cc
 due_sum ns p ms (Limit form side) is = absurd cc
 due_sum ns p ms (Model form) is = absurd cc
+due_sum ns p ms (Worth term model) is = absurd cc
+due_sum ns p ms (Line term family) is = absurd cc
+due_sum ns p ms (GoalLine goal family) is = absurd cc
+due_sum ns p ms (Scaling forms moves) is = absurd cc
 
 -- multiples of told literals that differ, by the sizes of a row's coefficients
 module _ (ns : List Node) (fs : List (List Part)) (ls : List Literal) (x : Point) (t : Theory) (ms : List LitMultiple) (told : AllByRecursion (λ (m : farkas.Multiple). Contains ls m.literal) (multiples_over ns t ms))
@@ -194,12 +230,14 @@ module _ (ns : List Node) (fs : List (List Part)) (ls : List Literal) (x : Point
     (sizes : AllByRecursion (λ (m : farkas.Multiple). IsSizeIn (length fs) row m.multiplier) (multiples_over ns t ms)) where
   place_of_sum : (place : Place) → IsSumPlace ns t ms place → IsPlaceOfStep ns fs ls x place
   place_of_sum place sum =
-      let of : IsOfSum (number_in ns) ls (position_under fs x ls) (multiples_over ns t ms) (operation_of place.wide) = record {
+      let of : IsOfSum ls (position_under fs x ls) (multiples_over ns t ms) (operation_of place.wide) = record {
         multiples = record {
           told = All-from_recursion (λ (m : farkas.Multiple). Contains ls m.literal) (multiples_over ns t ms) told;
           apart = apart;
           multiplied = sum.contradicts.multiples;
         };
+        number = number_in ns;
+        ordered = sum.ordered;
         form = form;
         listed = listed;
         row = row;
@@ -210,7 +248,7 @@ module _ (ns : List Node) (fs : List (List Part)) (ls : List Literal) (x : Point
       } in
       record {
         leaves = record {
-          at = subst (λ (y : notes.Site). IsOperationIn (number_in ns) ls (position_under fs x ls) y (operation_of place.wide)) (sym sum.site) of;
+          at = subst (λ (y : notes.Site). IsOperationIn ls (position_under fs x ls) y (operation_of place.wide)) (sym sum.site) of;
           leaves = sum.leaves;
           within = sum.within;
         };

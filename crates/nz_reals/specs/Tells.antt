@@ -3,7 +3,8 @@ use Rattle.std.specs.Prelude.{◌≡◌, ℕ, ◌⊎◌, List, [], ◌∷◌, �
 use Rattle.std.specs.List.{AllByRecursion}
 use Rattle.nz_fractions.specs.Fraction.{Fraction, first_wide, whole}
 use Rattle.nz_spec.specs.clauses.Farkas as farkas
-use Rattle.nz_spec.specs.clauses.Farkas.{sum_of_multiples}
+use Rattle.nz_spec.specs.clauses.Farkas.{sum_of_multiples, sums_of}
+use Rattle.nz_spec.specs.terms.Form.{IsOrderOf}
 use Rattle.nz_spec.specs.terms.FormOf.{number_in}
 use Rattle.nz_spec.specs.numbers.Infinitesimal.{infinitesimal_cmp}
 use Rattle.nz_spec.specs.search.Notes.{sum_site}
@@ -92,9 +93,11 @@ AreOf ls ms = AllByRecursion (λ (m : LitMultiple). Contains ls m.literal) ms
 abbrev pub multiple_at : Theory → ℕ × Fraction → LitMultiple
 multiple_at t w = record { literal = lit_at t w.0; multiplier = w.1 }
 
--- The sum of these multiples is a contradiction, and this is the first of its operations that leaves the numbers.
+-- The sum of these multiples, whose units stand in the order of their numbers, is a contradiction, and this is the first of its operations that leaves the
+-- numbers.
 pub record IsSumPlace (ns : List Node) (t : Theory) (ms : List LitMultiple) (place : Place) : Type 0 where
   pub site : site_of ns place.site ≡ sum_site (multiples_over ns t ms)
+  pub ordered : IsOrderOf (number_in ns) (sums_of (multiples_over ns t ms))
   pub contradicts : Contradicts (number_in ns) (multiples_over ns t ms)
   pub first : first_wide (sum_of_multiples (number_in ns) (multiples_over ns t ms)).operations ≡ Some (operation_of place.wide)
   pub leaves : LeavesNumbers (operation_of place.wide)

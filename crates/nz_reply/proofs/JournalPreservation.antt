@@ -1,17 +1,18 @@
 -- What was kept means the same where the table of its terms grows.
-use Rattle.std.proofs.Common.{◌≡◌, ℕ, ◌+◌, ◌<◌, List, [], ◌∷◌, ◌++◌, length, refl, sym, ap, ◌∙◌, arith}
+use Rattle.std.proofs.Common.{◌≡◌, ℕ, zero, suc, ◌+◌, ◌<◌, List, [], ◌∷◌, ◌++◌, length, refl, sym, ap, ◌∙◌, arith}
 use Rattle.std.proofs.lemmas.List.{length-append}
 use Rattle.std.specs.List.{AllByRecursion}
-use Rattle.std.specs.Prelude.{map}
+use Rattle.std.specs.Prelude.{flat_map, map, slice_get}
 use Rattle.std.specs.declared.vec.Vec.{Vec}
 use Rattle.std.specs.declared.alloc.Global.{Global}
 use Rattle.nz_spec.specs.clauses.Farkas as farkas
 use Rattle.nz_spec.specs.clauses.Gates.{holds}
 use Rattle.nz_spec.specs.clauses.Literal.{term_literal}
 use Rattle.nz_spec.specs.search.Notes as notes
-use Rattle.nz_spec.specs.search.Notes.{start_note, atom_note, under_note, term_site, sum_site}
+use Rattle.nz_spec.specs.search.Notes.{start_note, atom_note, under_note, term_site, sum_site, cut_site, tight_site, split_site, worth_site, line_site, goal_line_site}
+use Rattle.nz_spec.specs.simplex.Climb.{Course, Family}
 use Rattle.nz_spec.specs.terms.Table.{Node, TermStays}
-use Rattle.nz_spec.specs.terms.Term.{sort_of}
+use Rattle.nz_spec.specs.terms.Term.{Value, sort_of}
 use Rattle.nz_spec.specs.search.Work.{WorkLine, UnitLine, NoteLine, WorkList}
 use Rattle.nz_script.specs.replies.Reply as spec
 use Rattle.nz_script.specs.run.Transcript as transcript
@@ -21,6 +22,7 @@ use Rattle.nz_lin.specs.declared.bound.BoundMultiple.{BoundMultiple}
 use Rattle.nz_lin.specs.declared.form.Part.{Part}
 use Rattle.nz_lin.specs.Bounds.{bounded, literal_over, multiples_over, HasUnits}
 use Rattle.nz_lin.specs.Forms.{AreUnits, NamesUnit, parts_over}
+use Rattle.nz_lin.specs.Lines.{NumberedFamily, courses_at, courses_by, family_in}
 use Rattle.nz_sexpr.specs.Packed.{packed_heard_view}
 use Rattle.nz_term.specs.declared.term_lits.TermLit.{TermLit}
 use Rattle.nz_term.specs.TermLits.{AreOfTerms, literal_of}
@@ -30,12 +32,17 @@ use Rattle.nz_place.specs.declared.place.Place.{Place}
 use Rattle.nz_place.specs.declared.place.Site.{Site}
 use Rattle.nz_place.specs.declared.place.Site.TheVariants as site
 use Rattle.nz_search.specs.Notes.{forms_over, places_of, note_of, noted_line, AreFormsWithin, IsNoteWithin, AreNotedWithin}
-use Rattle.nz_place.specs.Places.{site_of, place_of, IsSiteWithin}
+use Rattle.nz_place.specs.Places.{AreNumbersWithin, IsSiteWithin, bindings_by, bindings_in, place_of, site_of}
 use Rattle.nz_reply.specs.declared.reply.Cause.{Cause}
 use Rattle.nz_reply.specs.declared.reply.Cause.TheVariants as cause
 use Rattle.nz_reply.specs.declared.reply.Kept.{Kept}
 use Rattle.nz_reply.specs.declared.reply.WorkDone.{WorkDone}
 use Rattle.nz_reply.specs.Replies.{reply_of, work_of, cause_of, kept_of, all_kept, IsCauseWithin, AreKeptWithin, KeptStay}
+
+in_front : (ns more : List Node) (i : ℕ) → i < length ns → slice_get (ns ++ more) i ≡ slice_get ns i
+in_front [] more i h = absurd (omega (arith, h))
+in_front (n ∷ ns) more zero h = refl
+in_front (n ∷ ns) more (suc i) h = in_front ns more i (omega (arith, h))
 
 module _ (stays : TermStays) (ns more : List Node) where
   wider : (i : ℕ) → i < length ns → i < length (ns ++ more)
@@ -116,23 +123,60 @@ module _ (stays : TermStays) (ns more : List Node) where
 
   -- ---- Places
 
+  numbers_wider : {A : Type 0} → (ps : List (ℕ × A)) → AreNumbersWithin ns ps → AreNumbersWithin (ns ++ more) ps
+  numbers_wider [] h = tt
+  numbers_wider (p ∷ ps) h = (wider p.0 h.0, numbers_wider ps h.1)
+
+  -- what stands at a number of the table
+  node_stays : (i : ℕ) → i < length ns → slice_get (ns ++ more) i ≡ slice_get ns i
+  node_stays i h = in_front ns more i h
+
+  bindings_stay : (ps : List (ℕ × Value)) → AreNumbersWithin ns ps → bindings_in (ns ++ more) ps ≡ bindings_in ns ps
+  bindings_stay [] h = refl
+  bindings_stay (p ∷ ps) h = λ i. bindings_by (node_stays p.0 h.0 i) p.1 ++ bindings_stay ps h.1 i
+
+  courses_stay : (ps : List (ℕ × Course)) → AreNumbersWithin ns ps → flat_map (courses_at (ns ++ more)) ps ≡ flat_map (courses_at ns) ps
+  courses_stay [] h = refl
+  courses_stay (p ∷ ps) h = λ i. courses_by (node_stays p.0 h.0 i) p.1 ++ courses_stay ps h.1 i
+
+  family_stays : (f : NumberedFamily) → AreNumbersWithin ns f.courses → family_in (ns ++ more) f ≡ family_in ns f
+  family_stays f h = ap (λ cs. let g : Family = record { courses = cs; range = f.range } in g) (courses_stay f.courses h)
+
   site_within : (s : Site) → IsSiteWithin ns s → IsSiteWithin (ns ++ more) s
   site_within (site.Term t) h = wider t h
+  site_within (site.Goal goal) h = tt
   site_within site.Joining h = tt
   site_within (site.Exchange leaves enters) h = tt
   site_within (site.Value form) h = tt
   site_within (site.Sum ms) h = multiples_wider ms.items h
+  site_within (site.Cut ms) h = multiples_wider ms.items h
+  site_within (site.Tight b) h = bound_wider b h
+  site_within (site.Split u) h = wider u h
+  site_within (site.Move form moves side) h = tt
   site_within (site.Limit form side) h = tt
   site_within (site.Model form) h = tt
+  site_within (site.Worth t model) h = (wider t h.0, numbers_wider model h.1)
+  site_within (site.Line t family) h = (wider t h.0, numbers_wider family.courses h.1)
+  site_within (site.GoalLine goal family) h = numbers_wider family.courses h
+  site_within (site.Scaling forms moves) h = tt
 
   site_stays : (s : Site) → IsSiteWithin ns s → site_of (ns ++ more) s ≡ site_of ns s
   site_stays (site.Term t) h = ap term_site (stays ns more t h)
+  site_stays (site.Goal goal) h = refl
   site_stays site.Joining h = refl
   site_stays (site.Exchange leaves enters) h = refl
   site_stays (site.Value form) h = refl
   site_stays (site.Sum ms) h = ap sum_site (multiples_stay ms.items h)
+  site_stays (site.Cut ms) h = ap cut_site (multiples_stay ms.items h)
+  site_stays (site.Tight b) h = ap tight_site (bound_stays b h)
+  site_stays (site.Split u) h = ap split_site (stays ns more u h)
+  site_stays (site.Move form moves side) h = refl
   site_stays (site.Limit form side) h = refl
   site_stays (site.Model form) h = refl
+  site_stays (site.Worth t model) h = λ i. worth_site (stays ns more t h.0 i) (bindings_stay model h.1 i)
+  site_stays (site.Line t family) h = λ i. line_site (stays ns more t h.0 i) (family_stays family h.1 i)
+  site_stays (site.GoalLine goal family) h = ap (goal_line_site goal) (family_stays family h)
+  site_stays (site.Scaling forms moves) h = refl
 
   place_stays : (p : Place) → IsSiteWithin ns p.site → place_of (ns ++ more) p ≡ place_of ns p
   place_stays p h = ap (λ s. let q : notes.Place = record { operation = operation_of p.wide; site = s } in q) (site_stays p.site h)

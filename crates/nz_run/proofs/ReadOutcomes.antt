@@ -17,6 +17,7 @@ use Rattle.nz_spec.specs.terms.Table.{Node}
 use Rattle.nz_spec.specs.terms.Term.{Term}
 use Rattle.nz_script.specs.run.Transcript.{Kept, GoesOn, EndsByExit, things_of, texts_of}
 use Rattle.nz_script.specs.run.Run.{buffer_size, ExitsInTime, IsAnswered, IsBrokenOff, IsCutShort, IsInterrupted, TookMany}
+use Rattle.nz_search.specs.Levels.{Level}
 use Rattle.nz_session.specs.declared.session.Session.{Session}
 use Rattle.nz_session.specs.Serve.{BreaksOff, HasEnded, HasExited, IsCut, IsShort, Serves, Writes, WritesCut, kept_by}
 use Rattle.nz_run.specs.Reading.{IsInTime, IsReading}
@@ -95,7 +96,7 @@ some_read n buffer some =
 
 -- ---- The run
 
-module _ {E : Type 0} (levels : E → List (List ℕ)) (table : E → List Node) (begins : E → List Term → Type 0) (limit : ℕ) (session : Session E) (first left held now : Option (List ℕ)) (count : ℕ)
+module _ {E : Type 0} (levels : E → List Level) (table : E → List Node) (begins : E → List Term → Type 0) (limit : ℕ) (session : Session E) (first left held now : Option (List ℕ)) (count : ℕ)
     (reading : IsReading levels table begins limit session first left held now count) where
   -- fewer than 2^32 reads bring fewer than 2^64 bytes, whatever one more brings
   pub is_short : count ≤ 2 ^ 32 → IsShort reading.read
@@ -233,7 +234,7 @@ module _ {E : Type 0} (levels : E → List (List ℕ)) (table : E → List Node)
 -- ---- The beginning
 
 -- a session that has read nothing
-pub reading_begins : {E : Type 0} (levels : E → List (List ℕ)) (table : E → List Node) (begins : E → List Term → Type 0) (limit : ℕ) (session : Session E) (first held : Option (List ℕ)) → Serves levels table begins limit session [] → kept_by session ≡ []
+pub reading_begins : {E : Type 0} (levels : E → List Level) (table : E → List Node) (begins : E → List Term → Type 0) (limit : ℕ) (session : Session E) (first held : Option (List ℕ)) → Serves levels table begins limit session [] → kept_by session ≡ []
     → IsReading levels table begins limit session first first held held 0
 reading_begins levels table begins limit session first held serves nothing = record {
   read = [];

@@ -5,12 +5,13 @@ use Rattle.nz_spec.specs.terms.Table.{Node}
 use Rattle.nz_spec.specs.terms.Term.{Term}
 use Rattle.nz_script.specs.run.Transcript.{texts_of}
 use Rattle.nz_script.specs.run.Run.{buffer_size}
+use Rattle.nz_search.specs.Levels.{Level}
 use Rattle.nz_session.specs.declared.session.Session.{Session}
 use Rattle.nz_session.specs.Serve.{Serves, kept_by}
 
 -- So many reads were made, each of a byte or more; the session has answered what is complete in the bytes read, and its
 -- replies were written.
-pub record IsReading {E : Type 0} (levels : E → List (List ℕ)) (table : E → List Node) (begins : E → List Term → Type 0) (limit : ℕ) (session : Session E) (first left held now : Option (List ℕ)) (count : ℕ) : Type 0 where
+pub record IsReading {E : Type 0} (levels : E → List Level) (table : E → List Node) (begins : E → List Term → Type 0) (limit : ℕ) (session : Session E) (first left held now : Option (List ℕ)) (count : ℕ) : Type 0 where
   pub read : List ℕ
   pub taken : Consumes first left read
   pub long : count ≤ length read

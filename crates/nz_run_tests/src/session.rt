@@ -6,11 +6,11 @@ use crate::checks::{holds, is};
 use crate::run::{ROOM, sink_is, sink_with};
 use nz_base::{Error, Memory, PlainSink, Work};
 use nz_engine::Engine;
+use nz_engine::laws::engines_stand;
 use nz_log::{ClauseId, Step};
 use nz_reply::{Journal, Reply};
 use nz_search::{Decide, Note, Stop, Verdict};
 use nz_session::{Fed, Session};
-use nz_spec::work::{more_terms_may_begin, plain_work_is_legal};
 use nz_term::{TermId, TermLit, Terms};
 use std::alloc::{AllocError, Global};
 use std::process::Abort;
@@ -31,6 +31,7 @@ struct OnceOnly {
 
 impl Decide for OnceOnly {
     ghost use Rattle.nz_engine.specs.Engines.{Begins, clause_at};
+    ghost use Rattle.nz_engine.specs.Lists.{StandsAt, starts_at};
 
     ghost levels = { λ e. e.engine.levels };
 
@@ -40,6 +41,10 @@ impl Decide for OnceOnly {
 
     ghost begins = { λ e ts. Begins e.engine ts };
 
+    ghost stands = { λ e ns q work. StandsAt e.engine ns q work };
+
+    ghost starts = { λ e ns q work begun none. starts_at e.engine ns q work begun none };
+
     fn push(&mut self) -> Result<(), Memory> {
         self.engine.push()
     }
@@ -48,8 +53,8 @@ impl Decide for OnceOnly {
         self.engine.pop(count);
     }
 
-    fn add(&mut self, term: TermId) -> Result<(), Memory> {
-        self.engine.add(term)
+    fn add(&mut self, terms: &Terms, term: TermId) -> Result<(), Memory> {
+        self.engine.add(terms, term)
     }
 
     fn check(
@@ -59,8 +64,7 @@ impl Decide for OnceOnly {
         work: &mut Work<Note>,
     ) -> Result<Verdict, Stop> {
         if self.has_checked {
-            more_terms_may_begin();
-            plain_work_is_legal();
+            engines_stand();
             return Err(Stop::Memory);
         }
         self.has_checked = true;

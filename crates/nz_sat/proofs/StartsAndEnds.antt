@@ -44,7 +44,7 @@ use Rattle.nz_sat.proofs.LearnedClauses.{all_from}
 use Rattle.nz_sat.proofs.Levels.{below_true}
 use Rattle.nz_sat.proofs.LearnedLines.{held_named}
 use Rattle.nz_sat.proofs.LogGrowth.{said, says}
-use Rattle.nz_sat.proofs.ToldTrails.{entry_from, front_has, stands_by, told_among, told_entry, told_said}
+use Rattle.nz_sat.proofs.ToldTrails.{entry_from, front_has, says_itself, stands_by, told_among, told_entry, told_said}
 use Rattle.nz_sat.proofs.AtomTrails.{bound_marked, marked_bound}
 use Rattle.nz_sat.proofs.TrailEntries.{assigned_at, assigned_place}
 
@@ -248,7 +248,7 @@ all_told m log held assumed atoms s work h met ns =
     let has_told = map_has (literal_in ns log.atoms) (told_lits s.bounds es) l told in
     let in_list : Contains (told_literals r) (literal_in ns log.atoms l) =
     subst (λ (ls : List Literal). Contains ls (literal_in ns log.atoms l)) (sym (told_said ns log s.atoms s.bounds es work h.noted.trail)) has_told in
-    (sign, false, subst (Contains (told_literals r)) (says ns log.atoms l) in_list) in
+    (f i, says_itself (f i), sign, false, subst (Contains (told_literals r)) (says ns log.atoms l) in_list) in
     subst (All T) (sym (h.noted.trail.named ns)) (All-map T f s.atoms (all_from (λ (i : ℕ). T (f i)) s.atoms one)) where
       decided_entry : (o : Option Assigned) → IsSome o → (e : Assigned) × (o ≡ Some e)
       decided_entry None some = absurd (decided_not_missing None some refl)

@@ -12,7 +12,7 @@ use Rattle.std.proofs.lemmas.Option.{IfSome_then, get_or_from_slice_get, slice_g
 use Rattle.nz_lists.proofs.Places.{drop_found}
 use Rattle.nz_lists.proofs.Members.{has_cases, has_found, map_has}
 use Rattle.nz_spec.specs.simplex.Bland.{Point}
-use Rattle.nz_spec.specs.terms.Form.{Part}
+use Rattle.nz_spec.specs.terms.Form.{Part, as_written}
 use Rattle.nz_spec.specs.laws.LegalWork.{LegalWorkDoesNotRepeat, LegalWorkGoesOn, PivotsAreLegal}
 use Rattle.nz_spec.specs.search.Legal.{Lead, MayTell}
 use Rattle.nz_spec.specs.search.Notes.{told_atom}
@@ -51,6 +51,12 @@ use Rattle.nz_sat.proofs.LearnedClauses.{all_from}
 use Rattle.nz_sat.proofs.SearchLines.{adds_far, adds_none, adds_pivots, adds_same, adds_wider, check_ends, pivots_stay, search_more}
 use Rattle.nz_sat.proofs.AtomTrails.{names_some, names_told, trail_grown}
 use Rattle.nz_sat.proofs.TrailEntries.{assigned_at}
+
+-- a literal says what it says
+pub says_itself : (l : spec.Literal) → spec.SayTheSame l l
+says_itself (spec.term_literal t sign) = (refl, refl)
+says_itself (spec.is_at_most ps b) = (as_written refl, refl)
+says_itself (spec.is_below ps b) = (as_written refl, refl)
 
 -- ---- Literals of a trail
 
@@ -278,7 +284,8 @@ module _ (log : LogState) (atoms : List ℕ) (b : Bounds) (t : TrailState) (h : 
         let y = told_entry b es l.0 l.1 in
         let on = subst (λ (m : Lit). Contains atoms m.atom) y.3 (All-contains (λ (z : Assigned). Contains atoms z.literal.atom) es y.0 h.on_trail (front_has b.told es y.0 y.1)) in
         let same = (laws.repeats q (noted_list ns work).lines x lead).atoms (numbered atoms l.0).0 number l.0.sign e.literal.sign (atom_literal ns log.atoms l.0.atom)
-        (atom_literal ns log.atoms e.literal.atom) (named_at l.0 on) (named_at e.literal next_atom) (says_numbered ns log atoms b es work tells l.0 on ∙ l.2) in
+        (atom_literal ns log.atoms e.literal.atom) (named_at l.0 on) (named_at e.literal next_atom)
+        (subst (spec.SayTheSame (literal_by r.atoms (numbered atoms l.0))) (says_numbered ns log atoms b es work tells l.0 on ∙ l.2) (says_itself (literal_by r.atoms (numbered atoms l.0)))) in
         let atom : y.0.literal.atom ≡ e.literal.atom = ap (λ (m : Lit). m.atom) y.3 ∙ same_atom atoms l.0.atom e.literal.atom on next_atom same in
         missing (take b.told es) y.0 y.1 (ap (assigned (take b.told es)) atom ∙ (h.order b.told e at).fresh)
 

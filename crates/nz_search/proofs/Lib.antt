@@ -1,1 +1,2 @@
+pub mod FirstChecks
 pub mod WithoutForms

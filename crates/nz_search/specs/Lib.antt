@@ -1,3 +1,5 @@
+pub mod Asked
+pub mod Levels
 pub mod Notes
 pub mod Peaks
 pub mod Places

@@ -15,7 +15,7 @@ use Rattle.nz_search.specs.declared.stop.Stop.{Stop}
 use Rattle.nz_search.specs.declared.stop.Stop.TheVariants.{Wide, Spent, Memory}
 use Rattle.nz_place.specs.declared.place.Place.{Place}
 use Rattle.nz_place.specs.declared.place.Site.{Site}
-use Rattle.nz_place.specs.declared.place.Site.TheVariants.{Term, Joining, Exchange, Value, Sum, Limit, Model}
+use Rattle.nz_place.specs.declared.place.Site.TheVariants.{Term, Goal, Joining, Exchange, Value, Sum, Cut, Tight, Split, Move, Limit, Model, Worth, Line, GoalLine, Scaling}
 use Rattle.nz_place.specs.Places.{IsPlaceIn}
 use Rattle.nz_log.specs.declared.lits.Lit.{Lit}
 use Rattle.nz_search.specs.declared.note.Note.{Note}
@@ -53,9 +53,18 @@ IsDueIn p (Exchange leaves enters) = AreConsistent p × MayPivot p (pivot leaves
 IsDueIn p (Value form) = ⊤
 IsDueIn p (Sum multiples) = ⊤
 IsDueIn p (Term term) = ⊥
+IsDueIn p (Goal goal) = ⊥
 IsDueIn p Joining = ⊥
+IsDueIn p (Cut multiples) = ⊥
+IsDueIn p (Tight bound) = ⊥
+IsDueIn p (Split unit) = ⊥
+IsDueIn p (Move form moves side) = ⊥
 IsDueIn p (Limit form side) = ⊥
 IsDueIn p (Model form) = ⊥
+IsDueIn p (Worth term model) = ⊥
+IsDueIn p (Line term family) = ⊥
+IsDueIn p (GoalLine goal family) = ⊥
+IsDueIn p (Scaling forms moves) = ⊥
 
 -- An operation of a simplex that looks for a point leaves the numbers.
 pub record IsPlaceOfStep (ns : List Node) (fs : List (List Part)) (ls : List spec.Literal) (x : Point) (place : Place) : Type 0 where

@@ -10,6 +10,7 @@ use Rattle.nz_search.specs.declared.decide.Verdict.{Verdict}
 use Rattle.nz_search.specs.declared.decide.Verdict.TheVariants.{Sat, Unsat}
 use Rattle.nz_search.specs.declared.stop.Stop.{Stop}
 use Rattle.nz_search.specs.declared.stop.Stop.TheVariants.{Wide, Spent, Memory}
+use Rattle.nz_search.specs.Levels.{Level, added_by_level, asserted_by_level}
 use Rattle.nz_term.specs.declared.term_lits.TermLit.{TermLit}
 use Rattle.nz_term.specs.TermLits.{literal_of}
 
@@ -34,14 +35,15 @@ OnSpent Spent P = P
 OnSpent (Wide place) P = ⊤
 OnSpent Memory P = ⊤
 
--- What a search is asked: of the asserted terms and the assumed literals, and of all that they are made of. The searches before were asked of the
--- earlier terms.
-abbrev pub task_in : List Node → List (List ℕ) → List TermLit → List spec.Term → Task
+-- What a search is asked: of the asserted terms and the assumed literals, and of all that these and the other terms that were added are made of. The searches
+-- before were asked of the earlier terms.
+abbrev pub task_in : List Node → List Level → List TermLit → List spec.Term → Task
 task_in ns levels assumed earlier = record {
-  asserted = asserted_terms ns levels;
+  asserted = asserted_terms ns (asserted_by_level levels);
   assumed = map (literal_of ns) assumed;
   goals = [];
-  listed = flat_map listing_order (asserted_terms ns levels ++ map (λ (l : TermLit). term_in ns l.term) assumed);
+  groups = [];
+  listed = flat_map listing_order (asserted_terms ns (added_by_level levels) ++ map (λ (l : TermLit). term_in ns l.term) assumed);
   numbering = number_in ns;
   earlier = earlier;
   earlier_goals = [];

@@ -4,6 +4,7 @@
 
 mod climb;
 mod decide;
+pub mod laws;
 mod note;
 mod stop;
 mod theory;

@@ -33,6 +33,7 @@ use Rattle.nz_reply.specs.Replies.{reply_of}
 use Rattle.nz_reply.specs.declared.reply.Reply as said
 use Rattle.nz_reply.specs.declared.reply.Reply.TheVariants as code
 use Rattle.nz_reply.specs.declared.reply.Cause.TheVariants as why
+use Rattle.nz_search.specs.Levels.{Level}
 use Rattle.nz_session.specs.Assumed.{IsTakenAt}
 use Rattle.nz_session.specs.Told.{IsTold, IsToldNothing}
 use Rattle.nz_session.specs.Desk.{BeginsOver, Holds, IsAnswer, Succeeds, asked_in}
@@ -47,19 +48,19 @@ use Rattle.nz_session.proofs.TermValues.{echo_told}
 -- ---- What is known once a command was carried out
 
 -- The desk held the context, its table goes on, and what stands is what a command leaves which asks this.
-pub record IsActed {E : Type 0} (levels : E → List (List ℕ)) (table : E → List Node) (begins : E → List Term → Type 0) (old : Desk E) (ns : List Node) (l : Standing) (x : Context) (t : Tree) (ask : Ask) : Type 0 where
+pub record IsActed {E : Type 0} (levels : E → List Level) (table : E → List Node) (begins : E → List Term → Type 0) (old : Desk E) (ns : List Node) (l : Standing) (x : Context) (t : Tree) (ask : Ask) : Type 0 where
   pub held : Holds levels table begins old x
   pub kept : IsFrontOfTable old.terms ns
   pub carried : IsCarriedOut x.state t ask ns l
   pub moves : Moves ask (asserted_by old.live) (asserted_by l)
 
 -- The command is this one, and the desk holds the context with what stands after it, where searches were asked of what it asks.
-pub record IsKept {E : Type 0} (levels : E → List (List ℕ)) (table : E → List Node) (begins : E → List Term → Type 0) (old : Desk E) (ns : List Node) (l : Standing) (x : Context) (t : Tree) (k : Command) : Type 0 where
+pub record IsKept {E : Type 0} (levels : E → List Level) (table : E → List Node) (begins : E → List Term → Type 0) (old : Desk E) (ns : List Node) (l : Standing) (x : Context) (t : Tree) (k : Command) : Type 0 where
   pub is : outcome_of x.state t ≡ accepted k
   pub holds : Holds levels table begins (standing old ns l) (asked_in x t)
 
 -- The command asks for the values of these terms, and leaves the levels as they are.
-pub record IsValuesAsked {E : Type 0} (levels : E → List (List ℕ)) (table : E → List Node) (begins : E → List Term → Type 0) (old : Desk E) (ns : List Node) (l : Standing) (x : Context) (t : Tree) (xs : List Typed) : Type 0 where
+pub record IsValuesAsked {E : Type 0} (levels : E → List Level) (table : E → List Node) (begins : E → List Term → Type 0) (old : Desk E) (ns : List Node) (l : Standing) (x : Context) (t : Tree) (xs : List Typed) : Type 0 where
   pub request : Request
   pub parsed : request_of t ≡ Some request
   pub command : Command
@@ -67,7 +68,7 @@ pub record IsValuesAsked {E : Type 0} (levels : E → List (List ℕ)) (table : 
   pub kept : IsKept levels table begins old ns l x t command
 
 -- The command is a check under these assumptions, and no live item holds a unit of sort Int.
-pub record IsCheckAsked {E : Type 0} (levels : E → List (List ℕ)) (table : E → List Node) (begins : E → List Term → Type 0) (old : Desk E) (ns : List Node) (l : Standing) (x : Context) (t : Tree) (xs : List TermLit) : Type 0 where
+pub record IsCheckAsked {E : Type 0} (levels : E → List Level) (table : E → List Node) (begins : E → List Term → Type 0) (old : Desk E) (ns : List Node) (l : Standing) (x : Context) (t : Tree) (xs : List TermLit) : Type 0 where
   pub literals : List Literal
   pub assumes : AreAssumed ns xs literals
   pub is : outcome_of x.state t ≡ accepted (check_sat literals)
@@ -89,7 +90,7 @@ no_error_done e false same = cc
 skipped_or_exit : not_taken ≡ accepted exit → ⊥
 skipped_or_exit e = cc
 
-error_answer : {E : Type 0} (levels : E → List (List ℕ)) (table : E → List Node) (begins : E → List Term → Type 0) (desk : Desk E) (c : Context) (t : Tree) (e : fault.Error) → Holds levels table begins desk (asked_in c t)
+error_answer : {E : Type 0} (levels : E → List Level) (table : E → List Node) (begins : E → List Term → Type 0) (desk : Desk E) (c : Context) (t : Tree) (e : fault.Error) → Holds levels table begins desk (asked_in c t)
     → IsRight c (intact t) (error (error_of e)) plain → IsAnswer levels table begins c (intact t) (plainly (code.Error e)) desk
 error_answer {E} levels table begins desk c t e h right =
     record {
@@ -101,12 +102,12 @@ error_answer {E} levels table begins desk c t e h right =
     }
 
 -- want of memory
-pub memory_answer : {E : Type 0} (levels : E → List (List ℕ)) (table : E → List Node) (begins : E → List Term → Type 0) (desk : Desk E) (c : Context) (t : Tree) (answer : Answer)
+pub memory_answer : {E : Type 0} (levels : E → List Level) (table : E → List Node) (begins : E → List Term → Type 0) (desk : Desk E) (c : Context) (t : Tree) (answer : Answer)
     → Holds levels table begins desk (asked_in c t) → may_want_memory (outcome_of c.state t) ≡ true → answer ≡ plainly (code.Error OutOfMemory) → IsAnswer levels table begins c (intact t) answer desk
 memory_answer {E} levels table begins desk c t answer h wants is =
     subst (λ (a : Answer). IsAnswer levels table begins c (intact t) a desk) (sym is) (error_answer levels table begins desk c t OutOfMemory h (inr (wants, (refl, refl))))
 
-module _ {E : Type 0} {levels : E → List (List ℕ)} {table : E → List Node} {begins : E → List Term → Type 0} {old : Desk E} {ns : List Node} {l : Standing} {x : Context} {t : Tree} where
+module _ {E : Type 0} {levels : E → List Level} {table : E → List Node} {begins : E → List Term → Type 0} {old : Desk E} {ns : List Node} {l : Standing} {x : Context} {t : Tree} where
   -- the answer to a command that is refused: what stands is what stood
   pub refused_answered : {answer : Answer} (e : fault.Error) → Holds levels table begins old x → ns ≡ old.terms → l ≡ old.live
       → (e ≡ OutOfMemory → (s : State) → may_want_memory (outcome_of s t) ≡ true) → IfSome (rule_of e) (λ r. (s : State) → IsLive old.terms old.live s → outcome_of s t ≡ refused r) → answer ≡ plainly (code.Error e)

@@ -20,6 +20,7 @@ use Rattle.nz_sexpr.specs.declared.heard.Heard as code
 use Rattle.nz_sexpr.specs.View.{heard_view}
 use Rattle.nz_sexpr.specs.Matches.{told}
 use Rattle.nz_sexpr.specs.Fits.{Fits, owes}
+use Rattle.nz_search.specs.Levels.{Level}
 use Rattle.nz_session.specs.declared.desk.Desk.{Desk}
 use Rattle.nz_reply.specs.declared.reply.Kept as kept
 use Rattle.nz_session.specs.declared.session.Session.{Session}
@@ -122,7 +123,7 @@ none_is h e = subst IsNone (sym e) refl
 pub some_is : {A : Type 0} (o : Option A) {x : A} → o ≡ Some x → IsSome o
 some_is {A} o {x} e = subst IsSome (sym e) refl
 
-module _ {E : Type 0} (levels : E → List (List ℕ)) (table : E → List Node) (begins : E → List Term → Type 0) (limit : ℕ) (bytes rest : List ℕ) (reader next : Reader) (desk : Desk E) (ks : Vec kept.Kept Global)
+module _ {E : Type 0} (levels : E → List Level) (table : E → List Node) (begins : E → List Term → Type 0) (limit : ℕ) (bytes rest : List ℕ) (reader next : Reader) (desk : Desk E) (ks : Vec kept.Kept Global)
     (used : ℕ) (h : Option code.Heard) (serving : IsServing levels table begins limit (record { reader = reader; desk = desk; kept = ks }) bytes rest) (reads_on : ReadsOn reader next rest used h) where
   -- the reader has read the bytes used too, and told what it told
   reads_more : IsShort (bytes ++ rest) → Fits script_limits next (bytes ++ take used rest) (things_of (kept_at desk ks.items) ++ told h)
@@ -198,13 +199,13 @@ module _ {E : Type 0} (levels : E → List (List ℕ)) (table : E → List Node)
 -- ---- A piece
 
 -- Of the piece a front was read, and this is the rest; what the reader told of it was answered.
-pub record IsFeeding {E : Type 0} (levels : E → List (List ℕ)) (table : E → List Node) (begins : E → List Term → Type 0) (first now : Session E) (piece rest : List ℕ) (old new : Option (List ℕ)) : Type 0 where
+pub record IsFeeding {E : Type 0} (levels : E → List Level) (table : E → List Node) (begins : E → List Term → Type 0) (first now : Session E) (piece rest : List ℕ) (old new : Option (List ℕ)) : Type 0 where
   pub done : List ℕ
   pub all : piece ≡ done ++ rest
   pub serving : (limit : ℕ) (bytes : List ℕ) → Serves levels table begins limit first bytes → IsServing levels table begins limit now (bytes ++ done) rest
   pub writes : Writes (kept_by first) (kept_by now) old new
 
-pub feeding_start : {E : Type 0} (levels : E → List (List ℕ)) (table : E → List Node) (begins : E → List Term → Type 0) (session : Session E) (piece : List ℕ) (held : Option (List ℕ))
+pub feeding_start : {E : Type 0} (levels : E → List Level) (table : E → List Node) (begins : E → List Term → Type 0) (session : Session E) (piece : List ℕ) (held : Option (List ℕ))
     → IsFeeding levels table begins session session piece piece held held
 feeding_start levels table begins session piece held =
     record {
@@ -229,7 +230,7 @@ pub one_of : (x y z : Fed) → (Some x ≡ Some y) ⊎ (Some x ≡ Some z) → (
 one_of x y z (inl e) = inl (stands x y e)
 one_of x y z (inr e) = inr (stands x z e)
 
-module _ {E : Type 0} (levels : E → List (List ℕ)) (table : E → List Node) (begins : E → List Term → Type 0) (first now : Session E) (piece rest : List ℕ) (a b : Option (List ℕ))
+module _ {E : Type 0} (levels : E → List Level) (table : E → List Node) (begins : E → List Term → Type 0) (first now : Session E) (piece rest : List ℕ) (a b : Option (List ℕ))
     (feeding : IsFeeding levels table begins first now piece rest a b) where
   -- what the session has read, and the rest
   whole : (bytes : List ℕ) → (bytes ++ feeding.done) ++ rest ≡ bytes ++ piece
@@ -255,7 +256,7 @@ module _ {E : Type 0} (levels : E → List (List ℕ)) (table : E → List Node)
 
 -- ---- The end of the text
 
-module _ {E : Type 0} (levels : E → List (List ℕ)) (table : E → List Node) (begins : E → List Term → Type 0) (limit : ℕ) (bytes : List ℕ) (session : Session E) (serves : Serves levels table begins limit session bytes)
+module _ {E : Type 0} (levels : E → List Level) (table : E → List Node) (begins : E → List Term → Type 0) (limit : ℕ) (bytes : List ℕ) (session : Session E) (serves : Serves levels table begins limit session bytes)
     (h : Option code.Heard)
     (told_all : (limits : Limits) (all : List ℕ) (things : List Heard) → Fits limits session.reader all things → owes session.reader ≡ false → length all < 2 ^ 64
     → IsTold limits all (things ++ told h)) where

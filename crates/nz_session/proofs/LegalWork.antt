@@ -1,29 +1,30 @@
 -- Work that is legal for what a search is asked, by the numbers of a table, is legal for what a check asks.
-use Rattle.std.proofs.Common.{◌≡◌, ℕ, true, false, List, [], ◌∷◌, ◌++◌, map, inl, inr, refl, sym, ap, ◌∙◌, subst, IsTrue, Option, None, Some, Result, Ok, Err, IfErr}
+use Rattle.std.proofs.Common.{◌≡◌, ◌⊎◌, ℕ, true, false, List, [], ◌∷◌, ◌++◌, get_or, map, inl, inr, refl, sym, ap, ◌∙◌, subst, IsTrue, Option, None, Some, Result, Ok, Err, IfErr}
 use Rattle.std.specs.Prelude.{Contains, flat_map}
-use Rattle.std.specs.List.{AllByRecursion}
 use Rattle.std.proofs.lemmas.Grind.{flat_map-append}
-use Rattle.std.proofs.lemmas.List.Elements.{Contains-append_left, Contains-append_right, Contains-append_cases}
-use Rattle.nz_lists.proofs.Elements.{AllByRecursion-append}
+use Rattle.std.proofs.lemmas.List.Elements.{All-from_recursion, All-map, Contains-append_left, Contains-append_right, Contains-append_cases}
+use Rattle.nz_lists.proofs.Members.{by_each}
 use Rattle.nz_spec.specs.terms.Term.{Term, apply, constant, no_terms, terms, Assignment, is_true, value_of}
-use Rattle.nz_spec.specs.terms.Form.{TellsApart}
-use Rattle.nz_spec.specs.terms.FormOf.{TermHasItsNumber, number_in}
+use Rattle.nz_spec.specs.terms.FormOf.{PlacesTellApart, TermHasItsNumber, number_in, place_of}
 use Rattle.nz_spec.specs.terms.Normal.{negated, normal_of, NormalKeepsValue}
 use Rattle.nz_spec.specs.terms.Table.{IsTable, Node, TermOfNode, term_in}
 use Rattle.nz_spec.specs.terms.Order.{listing_order, listing_orders}
 use Rattle.nz_spec.specs.clauses.Literal.{Literal, term_literal, is_at_most, is_below, are_same_sign, is_literal_true, AreTrueLiterals}
 use Rattle.nz_script.specs.live.Live.{Reason, units_spent, Item, declared, defined, asserted, sought, wished, cost_of, items_of, item_terms, assertions_in}
+use Rattle.nz_spec.specs.search.Decide.{asserted_terms}
 use Rattle.nz_spec.specs.search.Work.{WorkList}
 use Rattle.nz_spec.specs.search.Notes.{Note}
 use Rattle.nz_spec.specs.search.Search.{Task, terms_known}
 use Rattle.nz_spec.specs.search.Legal.{IsSpentLegally}
 use Rattle.nz_spec.specs.search.Places.{IsStoppedLegally}
+use Rattle.nz_spec.specs.laws.LegalWork.{HasNoRows, IsOnTerm, MayRenumberTask, NegationsHaveNoRows, RenumberedWorkIsLegal}
 use Rattle.nz_spec.specs.laws.MoreTerms.{MoreTermsEndLegally}
+use Rattle.nz_spec.specs.laws.Renumbering.{ListingsMayRenumber}
 use Rattle.nz_script.specs.replies.Reply.{unknown, Cause}
 use Rattle.nz_script.specs.text.Tree.{Tree}
 use Rattle.nz_script.specs.commands.Command.{check_sat, accepted}
 use Rattle.nz_script.specs.commands.Script.{outcome_of}
-use Rattle.nz_script.specs.replies.Right.{Context, normals_in, normal_literal, listed_under, numeric_among, task_of, asked_of, IsRightCheck}
+use Rattle.nz_script.specs.replies.Right.{Context, normals_in, normal_literal, listed_under, task_of, asked_of, IsRightCheck}
 use Rattle.nz_sort.specs.Assuming.{IsAssumed, AreAssumed}
 use Rattle.nz_sort.specs.Live.{Standing, accepted_by, asserted_by, IsLive}
 use Rattle.nz_search.specs.declared.note.Note as own
@@ -32,16 +33,21 @@ use Rattle.nz_search.specs.declared.decide.Verdict.{Verdict}
 use Rattle.nz_search.specs.declared.stop.Stop.{Stop}
 use Rattle.nz_search.specs.declared.stop.Stop.TheVariants.{Wide, Spent, Memory}
 use Rattle.nz_search.specs.Notes.{noted_line, noted_list, AreNotedWithin}
-use Rattle.nz_place.specs.Places.{IsSiteWithin, place_of}
+use Rattle.nz_place.specs.Places as places
+use Rattle.nz_place.specs.Places.{IsSiteWithin}
 use Rattle.nz_search.specs.Places.{OnWide}
 use Rattle.nz_term.specs.declared.term_lits.TermLit.{TermLit}
 use Rattle.nz_term.specs.TermLits.{literal_of}
+use Rattle.nz_search.specs.Asked.{ChecksMayStart, IsWithoutGoals, MayCheck}
+use Rattle.nz_search.specs.Levels.{Level}
 use Rattle.nz_search.specs.Verdicts.{OnSpent, task_in}
 use Rattle.nz_reply.specs.Replies.{work_of}
 use Rattle.nz_reply.specs.declared.reply.WorkDone.{WorkDone}
 use Rattle.nz_session.specs.Desk.{asked_in}
+use Rattle.nz_session.specs.Told.{only_asserted}
 use Rattle.nz_session.specs.Undecided.{IfUndecided, IsUndecided, reason_by, cause_by}
-use Rattle.nz_session.proofs.ListedTerms.{IsThere, all_there, assumed_there, each_listed, stand_in_table, tells_apart}
+use Rattle.nz_session.proofs.ListedTerms.{listed_cases, own_listed, told_apart, told_terms}
+use Rattle.nz_session.proofs.ToldLevels.{added_only, asserted_only}
 
 -- ---- What a check asks
 
@@ -122,19 +128,19 @@ lits_listed ns (l ∷ ls) (m ∷ ms) h t has =
 
 -- what the search lists is listed by the check
 search_listed : (ns : List Node) (l : Standing) (c : Context) (ls : List TermLit) (ms : List Literal) → IsLive ns l c.state → AreAssumed ns ls ms
-    → (t : Term) → Contains (task_in ns (asserted_by l) ls c.earlier).listed t → Contains (listed_under c.state ms) t
+    → (t : Term) → Contains (task_in ns (map only_asserted (asserted_by l)) ls c.earlier).listed t → Contains (listed_under c.state ms) t
 search_listed ns l c ls ms h k t has =
     let assumed = map (λ (i : TermLit). term_in ns i.term) ls in
     all_listed (items_of c.state.levels) assumed (flat_map normals_in ms) t (lits_listed ns ls ms k t)
-    (subst (λ ts. Contains (flat_map listing_order (ts ++ assumed)) t) h.terms has)
+    (subst (λ ts. Contains (flat_map listing_order (ts ++ assumed)) t) (ap (asserted_terms ns) (added_only (asserted_by l)) ∙ h.terms) has)
 
 -- so what searches were asked of is, once the search was asked, what they were asked of once the check is told
 pub search_known : (ns : List Node) (l : Standing) (c : Context) (t : Tree) (ls : List TermLit) (ms : List Literal) → IsLive ns l c.state → AreAssumed ns ls ms
-    → outcome_of c.state t ≡ accepted (check_sat ms) → (u : Term) → Contains (terms_known (task_in ns (asserted_by l) ls c.earlier)) u → Contains (asked_in c t).earlier u
+    → outcome_of c.state t ≡ accepted (check_sat ms) → (u : Term) → Contains (terms_known (task_in ns (map only_asserted (asserted_by l)) ls c.earlier)) u → Contains (asked_in c t).earlier u
 search_known ns l c t ls ms h k e u has =
     let listed = listed_under c.state ms in
     subst (λ o. Contains (c.earlier ++ asked_of c.state o) u) (sym e)
-    (elim (Contains-append_cases c.earlier (task_in ns (asserted_by l) ls c.earlier).listed u has) [
+    (elim (Contains-append_cases c.earlier (task_in ns (map only_asserted (asserted_by l)) ls c.earlier).listed u has) [
       | inl before ↦ Contains-append_left c.earlier listed u before
       | inr here ↦ Contains-append_right c.earlier listed u (search_listed ns l c ls ms h k u here)
     ])
@@ -154,17 +160,22 @@ same_literals ns (l ∷ ls) (m ∷ ms) h =
     let rest = same_literals ns ls ms h.1 in
     λ i. first i ∷ rest i
 
--- the check asks what the search is asked, and lists all that the live items are made of
+-- what a check asks, by the numbers of a table
+abbrev numbered_task : List Node → Context → List Literal → Task
+numbered_task ns c ms = record (task_of c ms) { numbering = number_in ns }
+
+-- the check asks what the search is asked, by the numbers of the table, and lists all that the live items are made of
 asks_same : (ns : List Node) (l : Standing) (c : Context) (ls : List TermLit) (ms : List Literal) → IsLive ns l c.state → AreAssumed ns ls ms
-    → record (task_in ns (asserted_by l) ls c.earlier) { listed = listed_under c.state ms; earlier = c.earlier; earlier_goals = [] } ≡ task_of (number_in ns) c ms
+    → record (task_in ns (map only_asserted (asserted_by l)) ls c.earlier) { listed = listed_under c.state ms; earlier = c.earlier; earlier_goals = [] } ≡ numbered_task ns c ms
 asks_same ns l c ls ms h k =
-    let terms = h.terms in
+    let terms = ap (asserted_terms ns) (asserted_only (asserted_by l)) ∙ h.terms in
     let literals = same_literals ns ls ms k in
     λ i.
     let q : Task = record {
       asserted = terms i;
       assumed = literals i;
       goals = [];
+      groups = [];
       listed = listed_under c.state ms;
       numbering = number_in ns;
       earlier = c.earlier;
@@ -174,11 +185,39 @@ asks_same ns l c ls ms h k =
 
 -- ---- A search that wasn't decided
 
+-- a check may be made of a list without lines, and stands there
+pub may_start : ChecksMayStart → (ns : List Node) (levels : List Level) (ls : List TermLit) (ts : List Term) (work : WorkList own.Note) → work.lines ≡ [] → (begins : List Term → Type 0) (Stands : Task → Type 0)
+    → ((q : Task) → begins q.earlier → work.lines ≡ [] → Stands q) → begins ts → MayCheck ns levels ls (task_in ns levels ls ts) work × Stands (task_in ns levels ls ts)
+may_start start ns levels ls ts work none begins Stands starts may = (start.asked ns levels ls (task_in ns levels ls ts) work (start.alone ns levels ls ts) none, starts (task_in ns levels ls ts) may none)
+
+pub no_goals : (ns : List Node) (levels : List Level) (ls : List TermLit) (ts : List Term) → IsWithoutGoals (task_in ns levels ls ts)
+no_goals ns levels ls ts =
+    record {
+      goals = refl;
+      earlier = refl;
+      assumed = All-map IsOnTerm (literal_of ns) ls (λ k d below. let l = get_or ls k d in (term_in ns l.term, l.sign, refl));
+    }
+
+-- so what is said of each task is so of those
+pub started_spent : (r : Result Verdict Stop) (M S : Task → Type 0) (t : List Term → Task) (B : List Term → Type 0) (P : Task → Type 0) → ((ts : List Term) → B ts → M (t ts) × S (t ts))
+    → IfErr r (λ s. OnSpent s ((q : Task) → M q → S q → P q)) → IfErr r (λ s. OnSpent s ((ts : List Term) → B ts → P (t ts)))
+started_spent (Ok v) M S t B P at h = tt
+started_spent (Err Memory) M S t B P at h = tt
+started_spent (Err Spent) M S t B P at h = λ ts may. h (t ts) (at ts may).0 (at ts may).1
+started_spent (Err (Wide place)) M S t B P at h = tt
+
+pub started_stopped : (r : Result Verdict Stop) (M S : Task → Type 0) (t : List Term → Task) (B : List Term → Type 0) (P : Task → own_place.Place → Type 0) → ((ts : List Term) → B ts → M (t ts) × S (t ts))
+    → IfErr r (λ s. OnWide s (λ p. (q : Task) → M q → S q → P q p)) → IfErr r (λ s. OnWide s (λ p. (ts : List Term) → B ts → P (t ts) p))
+started_stopped (Ok v) M S t B P at h = tt
+started_stopped (Err Memory) M S t B P at h = tt
+started_stopped (Err Spent) M S t B P at h = tt
+started_stopped (Err (Wide place)) M S t B P at h = λ ts may. h (t ts) (at ts may).0 (at ts may).1
+
 -- of what the engine was told, where it may begin as it did
-pub undecided_in_levels : (ns : List Node) (levels told : List (List ℕ)) (ls : List TermLit) (earlier : List Term) (begins : List Term → Type 0) (limit : ℕ) (work : WorkList own.Note)
-    (r : Result Verdict Stop) → levels ≡ told → begins earlier → work.limit ≡ limit → AreNotedWithin ns work.lines
+pub undecided_in_levels : (ns : List Node) (levels : List Level) (told : List (List ℕ)) (ls : List TermLit) (earlier : List Term) (begins : List Term → Type 0) (limit : ℕ) (work : WorkList own.Note)
+    (r : Result Verdict Stop) → levels ≡ map only_asserted told → begins earlier → work.limit ≡ limit → AreNotedWithin ns work.lines
     → IfErr r (λ s. OnSpent s ((ts : List Term) → begins ts → IsSpentLegally (task_in ns levels ls ts) (noted_list ns work)))
-    → IfErr r (λ s. OnWide s (λ p. (ts : List Term) → begins ts → IsStoppedLegally (task_in ns levels ls ts) (noted_list ns work) (place_of ns p)))
+    → IfErr r (λ s. OnWide s (λ p. (ts : List Term) → begins ts → IsStoppedLegally (task_in ns levels ls ts) (noted_list ns work) (places.place_of ns p)))
     → IfErr r (λ s. OnWide s (λ p. IsSiteWithin ns p.site)) → IfErr r (λ s. IfUndecided s (IsUndecided ns told ls earlier limit work))
 undecided_in_levels ns levels told ls earlier begins limit work (Ok v) e may limited noted spent stopped sited = tt
 undecided_in_levels ns levels told ls earlier begins limit work (Err Memory) e may limited noted spent stopped sited = tt
@@ -192,31 +231,63 @@ undecided_in_levels ns levels told ls earlier begins limit work (Err Spent) e ma
 undecided_in_levels ns levels told ls earlier begins limit work (Err (Wide place)) e may limited noted spent stopped sited =
     record {
       limited = limited;
-      ends = subst (λ ks. IsStoppedLegally (task_in ns ks ls earlier) (noted_list ns work) (place_of ns place)) e (stopped earlier may);
+      ends = subst (λ ks. IsStoppedLegally (task_in ns ks ls earlier) (noted_list ns work) (places.place_of ns place)) e (stopped earlier may);
       noted = noted;
       sited = sited;
     }
 
-module _ (more : MoreTermsEndLegally) (numbers : TermHasItsNumber) (node : TermOfNode) (ns : List Node) (table : IsTable ns) (l : Standing) (c : Context) (live : IsLive ns l c.state)
+module _ (more : MoreTermsEndLegally) (renumbered : RenumberedWorkIsLegal) (none : NegationsHaveNoRows) (tells : PlacesTellApart) (listings : ListingsMayRenumber)
+    (numbers : TermHasItsNumber) (node : TermOfNode) (ns : List Node) (table : IsTable ns) (l : Standing) (c : Context) (live : IsLive ns l c.state)
     (ls : List TermLit) (ms : List Literal) (are : AreAssumed ns ls ms) (limit : ℕ) (bounded : limit ≡ c.limit) (work : WorkList own.Note) (done : WorkDone) (lines : done.work ≡ work.lines)
     (limited : done.limit ≡ limit) where
   abbrev asked : Task
-  asked = task_in ns (asserted_by l) ls c.earlier
+  asked = task_in ns (map only_asserted (asserted_by l)) ls c.earlier
 
   -- the work that is told is that of the search
   same_work : work.limit ≡ limit → noted_list ns work ≡ work_of ns done
   same_work e = λ i. let w : WorkList Note = record { lines = map (noted_line ns) (sym lines i); limit = (e ∙ sym limited) i } in w
 
-  -- the numbers of the table tell apart what the check lists and isn't Boolean
-  apart : TellsApart (number_in ns) (numeric_among (listed_under c.state ms))
-  apart =
-      let items = flat_map item_terms (items_of c.state.levels) in
-      let assumed = flat_map normals_in ms in
-      tells_apart numbers ns table (listed_under c.state ms)
-      (subst (AllByRecursion (IsThere ns)) (sym (flat_map-append listing_order items assumed))
-      (AllByRecursion-append (IsThere ns) (flat_map listing_order items) (flat_map listing_order assumed)
-      (all_there ns (flat_map listing_order items) (each_listed node ns table live.companions items (stand_in_table ns (accepted_by l) items live.accepted)))
-      (assumed_there node ns table live.companions ls ms are)))
+  abbrev items : List Item
+  items = items_of c.state.levels
+
+  -- all that is told to the search, and what it is made of
+  abbrev told_list : List Term
+  told_list = flat_map listing_order (told_terms ns items ls)
+
+  -- the check lists it
+  told_listed : (t : Term) → Contains told_list t → Contains (listed_under c.state ms) t
+  told_listed t has =
+      let us = flat_map item_terms items in
+      let assumed = map (λ (i : TermLit). term_in ns i.term) ls in
+      let first = flat_map listing_order us in
+      let others = flat_map listing_order (flat_map normals_in ms) in
+      subst (λ ts. Contains ts t) (sym (flat_map-append listing_order us (flat_map normals_in ms)))
+      (elim (Contains-append_cases first (flat_map listing_order assumed) t (subst (λ ts. Contains ts t) (flat_map-append listing_order us assumed) has)) [
+        | inl here ↦ Contains-append_left first others t here
+        | inr later ↦ Contains-append_right first others t (lits_listed ns ls ms are t later)
+      ])
+
+  -- what is asserted is among it
+  told_asserted : (t : Term) → Contains (map normal_of (assertions_in items)) t → Contains told_list t
+  told_asserted t has =
+      let us = flat_map item_terms items in
+      let assumed = map (λ (i : TermLit). term_in ns i.term) ls in
+      subst (λ ts. Contains ts t) (sym (flat_map-append listing_order us assumed))
+      (Contains-append_left (flat_map listing_order us) (flat_map listing_order assumed) t (asserted_listed items t (own_listed (map normal_of (assertions_in items)) t has)))
+
+  -- So the places of what the check lists may stand for the numbers of the table.
+  may_renumber : MayRenumberTask (numbered_task ns c ms) (place_of (listed_under c.state ms))
+  may_renumber =
+      let listed = listed_under c.state ms in
+      let asserts = map normal_of (assertions_in items) in
+      let IsOfTold : Term → Type 0 = λ t. Contains told_list t ⊎ HasNoRows t in
+      record {
+        terms = told_list;
+        may = listings (number_in ns) (place_of listed) (told_terms ns items ls) (told_apart node numbers ns table live.companions (accepted_by l) items ls ms live.accepted are)
+            (λ t u has_t has_u same. tells listed t u (told_listed t has_t) (told_listed u has_u) same);
+        asserted = All-from_recursion (Contains told_list) asserts (by_each (Contains told_list) asserts told_asserted);
+        listed = All-from_recursion IsOfTold listed (by_each IsOfTold listed (listed_cases none ns items ls ms are));
+      }
 
   -- so the answer that a check of the live state wasn't decided is right
   pub right_undecided : (place : Option own_place.Place) (r : Reason) (cause : Cause) → IsUndecided ns (asserted_by l) ls c.earlier limit work place → r ≡ reason_by limit place
@@ -227,18 +298,17 @@ module _ (more : MoreTermsEndLegally) (numbers : TermHasItsNumber) (node : TermO
       subst (IsRightCheck c ms (unknown r)) (sym f) (
         e ∙ ap units_spent bounded,
         limited ∙ bounded,
-        number_in ns,
-        apart,
-        subst (IsSpentLegally (task_of (number_in ns) c ms)) (same_work u.limited) (subst (λ (q : Task). IsSpentLegally q (noted_list ns work)) (asks_same ns l c ls ms live are) legal),
+        subst (IsSpentLegally (task_of c ms)) (same_work u.limited)
+            (renumbered.spent (numbered_task ns c ms) (place_of (listed_under c.state ms)) (noted_list ns work) may_renumber
+            (subst (λ (q : Task). IsSpentLegally q (noted_list ns work)) (asks_same ns l c ls ms live are) legal)),
       )
   right_undecided (Some place) r cause u e f =
       let listed = search_listed ns l c ls ms live are in
-      let legal = more.stopped asked (listed_under c.state ms) c.earlier [] (noted_list ns work) (place_of ns place) listed (λ t h. h) (λ g h. h) u.ends in
+      let legal = more.stopped asked (listed_under c.state ms) c.earlier [] (noted_list ns work) (places.place_of ns place) listed (λ t h. h) (λ g h. h) u.ends in
       subst (IsRightCheck c ms (unknown r)) (sym f) (
         e,
         limited ∙ bounded,
-        number_in ns,
-        apart,
-        subst (λ w. IsStoppedLegally (task_of (number_in ns) c ms) w (place_of ns place)) (same_work u.limited)
-            (subst (λ (q : Task). IsStoppedLegally q (noted_list ns work) (place_of ns place)) (asks_same ns l c ls ms live are) legal),
+        subst (λ w. IsStoppedLegally (task_of c ms) w (places.place_of ns place)) (same_work u.limited)
+            (renumbered.stopped (numbered_task ns c ms) (place_of (listed_under c.state ms)) (noted_list ns work) (places.place_of ns place) may_renumber
+            (subst (λ (q : Task). IsStoppedLegally q (noted_list ns work) (places.place_of ns place)) (asks_same ns l c ls ms live are) legal)),
       )

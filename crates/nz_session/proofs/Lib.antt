@@ -10,4 +10,5 @@ pub mod RightAnswers
 pub mod SessionSteps
 pub mod TermValues
 pub mod ToldAssertions
+pub mod ToldLevels
 pub mod ValuesKept

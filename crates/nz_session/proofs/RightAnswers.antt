@@ -24,6 +24,7 @@ use Rattle.nz_session.specs.declared.desk.Desk.{Desk}
 use Rattle.nz_session.specs.declared.told.ToldExtent.{ToldExtent}
 use Rattle.nz_spec.specs.search.Work.{WorkList}
 use Rattle.nz_search.specs.declared.note.Note.{Note}
+use Rattle.nz_search.specs.Levels.{Level}
 use Rattle.nz_session.specs.declared.desk.Answer.{Answer}
 use Rattle.nz_session.specs.declared.desk.LastAnswer as shown
 use Rattle.nz_reply.specs.declared.reply.Reply as said
@@ -112,7 +113,7 @@ pub record Continues {E : Type 0} (old : Desk E) (ns : List Node) (l : Standing)
   pub terms : IsFrontOfTable old.terms ns
   pub asserted : asserted_by l ≡ asserted_by old.live
 
-module _ {E : Type 0} (levels : E → List (List ℕ)) (table : E → List Node) (begins : E → List Term → Type 0) where
+module _ {E : Type 0} (levels : E → List Level) (table : E → List Node) (begins : E → List Term → Type 0) where
   -- so where searches were asked of what a command asks too
   pub holds_asked : (desk : Desk E) (c : Context) (t : Tree) → Holds levels table begins desk c → Holds levels table begins desk (asked_in c t)
   holds_asked desk c t h =
@@ -306,7 +307,7 @@ plainly q = record { reply = q; cause = why.Plain; exits = false }
 pub succeeds_too : {E : Type 0} (d e : Desk E) (answer : Answer) → d ≡ e → Succeeds d.prints_success answer → Succeeds e.prints_success answer
 succeeds_too {E} d e answer same h = subst (λ (x : Desk E). Succeeds x.prints_success answer) same h
 
-module _ {E : Type 0} (levels : E → List (List ℕ)) (table : E → List Node) (begins : E → List Term → Type 0) where
+module _ {E : Type 0} (levels : E → List Level) (table : E → List Node) (begins : E → List Term → Type 0) where
   pub answers_too : (c : Context) (t : Tree) (answer : Answer) (d e : Desk E) → d ≡ e → IsAnswer levels table begins c (intact t) answer (record e { prints_success = false })
       → IsAnswer levels table begins c (intact t) answer (record d { prints_success = false })
   answers_too c t answer d e same h = subst (λ (x : Desk E). IsAnswer levels table begins c (intact t) answer (record x { prints_success = false })) (sym same) h

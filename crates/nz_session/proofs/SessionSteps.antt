@@ -14,6 +14,7 @@ use Rattle.nz_script.specs.replies.Reply.{error, reply_text}
 use Rattle.nz_script.specs.live.Live.{start}
 use Rattle.nz_script.specs.replies.Right.{beginning}
 use Rattle.nz_script.specs.run.Transcript.{Kept, AreRight, GoesOn, EndsByExit, context_of, things_of, GrowsByOne, TranscriptGrows, last_reply, memory_line}
+use Rattle.nz_search.specs.Levels.{Level}
 use Rattle.nz_session.specs.declared.desk.Desk.{Desk}
 use Rattle.nz_session.specs.declared.desk.Answer.{Answer}
 use Rattle.nz_reply.specs.declared.reply.Kept as code
@@ -85,7 +86,7 @@ cut_in_part thing ks b c f = record { later = thing ∷ []; heard = refl; text =
 
 -- ---- Right replies, with one more
 
-module _ {E : Type 0} (levels : E → List (List ℕ)) (table : E → List Node) (begins : E → List Term → Type 0) (stay : KeptStay) (grows : TranscriptGrows) (limit : ℕ) (old new : Desk E)
+module _ {E : Type 0} (levels : E → List Level) (table : E → List Node) (begins : E → List Term → Type 0) (stay : KeptStay) (grows : TranscriptGrows) (limit : ℕ) (old new : Desk E)
     (front : IsFrontOfTable (table_of old) (table_of new)) (ks : List code.Kept) (h : PackedHeard) (a : Answer) (going : IsGoing levels table begins limit old ks)
     (thing : spec.Heard) (same : packed_heard_view h ≡ thing) (told : IsAnswer levels table begins (context_of (beginning limit) (kept_at old ks)) thing.what a new) where
   answer : IsAnswer levels table begins (context_of (beginning limit) (kept_at old ks)) (packed_heard_view h).what a new

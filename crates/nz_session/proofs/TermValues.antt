@@ -30,6 +30,7 @@ use Rattle.nz_term.specs.Values as own
 use Rattle.nz_truth.specs.declared.walk.Outcome.{Outcome}
 use Rattle.nz_truth.specs.declared.walk.Outcome.TheVariants as outcome
 use Rattle.nz_truth.specs.Outcomes.{IsOutcome, AreOutcomes}
+use Rattle.nz_search.specs.Levels.{Level}
 use Rattle.nz_session.specs.Desk.{last_of, AreValuesOf, KeepsValues, Holds, IsAnswer, asked_in}
 use Rattle.nz_session.specs.Valued.{AreShown, numbers_typed, outcome_shown, outcomes_shown, terms_shown}
 use Rattle.nz_session.specs.declared.desk.Desk.{Desk}
@@ -91,7 +92,7 @@ echo_told tells t r text e f = subst (Tells (argument_of t)) (e ∙ ap Some f) (
 
 -- ---- The answer to get-value
 
-pub values_answer : {E : Type 0} (levels : E → List (List ℕ)) (table : E → List Node) (begins : E → List Term → Type 0) (tells : ArgumentTells) (c : Context) (t : Tree) (r : Request) (k : Command) (xs : List Typed) (shows : List Shown) (m : FoundModel) (answer : Answer) (desk : Desk E)
+pub values_answer : {E : Type 0} (levels : E → List Level) (table : E → List Node) (begins : E → List Term → Type 0) (tells : ArgumentTells) (c : Context) (t : Tree) (r : Request) (k : Command) (xs : List Typed) (shows : List Shown) (m : FoundModel) (answer : Answer) (desk : Desk E)
     → answer ≡ plainly (code.Values shows) → Holds levels table begins desk (asked_in c t) → desk.last ≡ Some (Model m)
     → request_of t ≡ Some r → outcome_of c.state t ≡ accepted k → AsksValues desk.terms xs r k → AreShown desk.terms m.values xs shows
     → IsAnswer levels table begins c (intact t) answer desk

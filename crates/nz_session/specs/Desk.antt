@@ -14,6 +14,7 @@ use Rattle.nz_script.specs.replies.Right.{Context, IsRight, IsExit, earlier_afte
 use Rattle.nz_sort.specs.Live.{IsLive, asserted_by}
 use Rattle.nz_reply.specs.Reasons.{reason_of}
 use Rattle.nz_reply.specs.Replies.{reply_of, cause_of, IsCauseWithin}
+use Rattle.nz_search.specs.Levels.{Level}
 use Rattle.nz_session.specs.Told.{IsTold}
 use Rattle.nz_session.specs.declared.desk.Desk.{Desk}
 use Rattle.nz_session.specs.declared.desk.Answer.{Answer}
@@ -59,7 +60,7 @@ abbrev pub asked_in : Context → Tree → Context
 asked_in c t = record c { earlier = earlier_after c (intact t) }
 
 -- The desk holds what a context says; what its engine was told stands in its table, and what it keeps a search may begin with.
-pub record Holds {E : Type 0} (levels : E → List (List ℕ)) (table : E → List Node) (begins : E → List Term → Type 0) (desk : Desk E) (c : Context) : Type 0 where
+pub record Holds {E : Type 0} (levels : E → List Level) (table : E → List Node) (begins : E → List Term → Type 0) (desk : Desk E) (c : Context) : Type 0 where
   pub live : IsLive desk.terms desk.live c.state
   pub sorted : IsSortedState c.state
   pub told : IsTold (levels desk.engine) desk.told (asserted_by desk.live)
@@ -72,7 +73,7 @@ pub record Holds {E : Type 0} (levels : E → List (List ℕ)) (table : E → Li
   pub begun : BeginsOver begins desk.engine c.earlier
 
 -- The answer is right for what was heard, its cause names terms of the table, and the desk holds what it leaves.
-pub record IsAnswer {E : Type 0} (levels : E → List (List ℕ)) (table : E → List Node) (begins : E → List Term → Type 0) (c : Context) (what : What) (answer : Answer) (desk : Desk E) : Type 0 where
+pub record IsAnswer {E : Type 0} (levels : E → List Level) (table : E → List Node) (begins : E → List Term → Type 0) (c : Context) (what : What) (answer : Answer) (desk : Desk E) : Type 0 where
   pub right : IsRight c what (reply_of what answer.reply) (cause_of (table_of desk) answer.cause)
   pub within : IsCauseWithin (table_of desk) answer.cause
   pub holds : Holds levels table begins desk (context_after c what (reply_of what answer.reply))

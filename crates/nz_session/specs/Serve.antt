@@ -12,6 +12,7 @@ use Rattle.nz_spec.specs.outside.Outside.{AddsFrontOf}
 use Rattle.nz_sexpr.specs.Fits.{Fits, owes}
 use Rattle.nz_spec.specs.terms.Table.{Node}
 use Rattle.nz_spec.specs.terms.Term.{Term}
+use Rattle.nz_search.specs.Levels.{Level}
 use Rattle.nz_session.specs.Desk.{Holds, table_of}
 use Rattle.nz_reply.specs.declared.reply.Kept as code
 use Rattle.nz_reply.specs.Replies.{all_kept, AreKeptWithin}
@@ -35,7 +36,7 @@ abbrev pub kept_at : {E : Type 0} → Desk E → List code.Kept → List Kept
 kept_at desk ks = all_kept (table_of desk) ks
 
 -- Each reply so far is right, none was to an exit, and the desk holds what they left.
-pub record IsGoing {E : Type 0} (levels : E → List (List ℕ)) (table : E → List Node) (begins : E → List Term → Type 0) (limit : ℕ) (desk : Desk E) (ks : List code.Kept) : Type 0 where
+pub record IsGoing {E : Type 0} (levels : E → List Level) (table : E → List Node) (begins : E → List Term → Type 0) (limit : ℕ) (desk : Desk E) (ks : List code.Kept) : Type 0 where
   pub right : AreRight (beginning limit) (kept_at desk ks)
   pub goes_on : GoesOn start (kept_at desk ks)
   pub holds : Holds levels table begins desk (context_of (beginning limit) (kept_at desk ks))
@@ -61,13 +62,13 @@ IsShort bytes = length bytes < 2 ^ 64
 
 -- The session has read these bytes; its replies are right, and while the bytes aren't too many, they are those to what is
 -- complete in them.
-pub record Serves {E : Type 0} (levels : E → List (List ℕ)) (table : E → List Node) (begins : E → List Term → Type 0) (limit : ℕ) (session : Session E) (bytes : List ℕ) : Type 0 where
+pub record Serves {E : Type 0} (levels : E → List Level) (table : E → List Node) (begins : E → List Term → Type 0) (limit : ℕ) (session : Session E) (bytes : List ℕ) : Type 0 where
   pub going : IsGoing levels table begins limit session.desk session.kept.items
   pub read : IsShort bytes → HasRead session bytes
 
 -- Of these bytes and the rest the session has read the bytes; its replies are right, and while all of them aren't too many, they are those
 -- to what the reader told. The reader may owe a thing that is complete.
-pub record IsServing {E : Type 0} (levels : E → List (List ℕ)) (table : E → List Node) (begins : E → List Term → Type 0) (limit : ℕ) (session : Session E) (bytes rest : List ℕ) : Type 0 where
+pub record IsServing {E : Type 0} (levels : E → List Level) (table : E → List Node) (begins : E → List Term → Type 0) (limit : ℕ) (session : Session E) (bytes rest : List ℕ) : Type 0 where
   pub going : IsGoing levels table begins limit session.desk session.kept.items
   pub reads : IsShort (bytes ++ rest) → Fits script_limits session.reader bytes (things_of (kept_by session))
 

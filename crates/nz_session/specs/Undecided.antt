@@ -1,5 +1,5 @@
 -- Checks that weren't decided: the work of their search, and why it ended.
-use Rattle.std.specs.Prelude.{◌≡◌, ℕ, List, Option, None, Some, IfSome, ⊤}
+use Rattle.std.specs.Prelude.{◌≡◌, ℕ, List, map, Option, None, Some, IfSome, ⊤}
 use Rattle.nz_spec.specs.terms.Table.{Node}
 use Rattle.nz_spec.specs.terms.Term.{Term}
 use Rattle.nz_script.specs.live.Live as live_state
@@ -19,6 +19,7 @@ use Rattle.nz_place.specs.Places.{IsSiteWithin, place_of}
 use Rattle.nz_search.specs.Verdicts.{task_in}
 use Rattle.nz_reply.specs.Replies.{work_of}
 use Rattle.nz_reply.specs.declared.reply.WorkDone.{WorkDone}
+use Rattle.nz_session.specs.Told.{only_asserted}
 
 -- the fact of a search that wasn't decided: it ended at this place, or at none where each unit of its work was used
 abbrev pub IfUndecided : Stop → (Option Place → Type 0) → Type 0
@@ -36,7 +37,7 @@ EndsLegally ns q work (Some place) = IsStoppedLegally q (noted_list ns work) (pl
 pub record IsUndecided (ns : List Node) (levels : List (List ℕ)) (assumed : List TermLit) (earlier : List Term) (limit : ℕ) (work : WorkList Note) (place : Option Place)
     : Type 0 where
   pub limited : work.limit ≡ limit
-  pub ends : EndsLegally ns (task_in ns levels assumed earlier) work place
+  pub ends : EndsLegally ns (task_in ns (map only_asserted levels) assumed earlier) work place
   pub noted : AreNotedWithin ns work.lines
   pub sited : IfSome place (λ (p : Place). IsSiteWithin ns p.site)
 

@@ -10,7 +10,7 @@ use Rattle.std.proofs.lemmas.List.Sums.{sum_by-cons}
 use Rattle.std.proofs.lemmas.Option.{slice_get_within, slice_get-get_or, slice_get-map}
 use Rattle.nz_lists.proofs.Members.{has_first, has_found}
 use Rattle.nz_lists.proofs.Places.{slice_get-push_cases}
-use Rattle.nz_fractions.specs.Fraction.{Fraction, denominator, whole, ◌=ℚ◌, ◌≤ℚ◌, ◌+ℚ◌, neg_ℚ, fraction_lt, floor, outcome, Difference}
+use Rattle.nz_fractions.specs.Fraction.{Fraction, whole, ◌=ℚ◌, ◌≤ℚ◌, neg_ℚ, floor, outcome, Difference}
 use Rattle.nz_fractions.proofs.Laws.{=ℚ_refl, =ℚ_sym, =ℚ_trans, =ℚ-from_same, ≤ℚ-from_eq, ≤ℚ_trans, ≤ℚ-<ℚ_trans, <ℚ_irrefl}
 use Rattle.nz_fractions.proofs.Arithmetic.{+ℚ-zero, +ℚ-same, neg_ℚ-same, outcome-difference}
 use Rattle.nz_fractions.proofs.FloorsAndCeilings.{rounds}
@@ -41,6 +41,7 @@ use Rattle.nz_spec.proofs.InfinitesimalOrder.{AtMost, not_less, at_most-less, le
 use Rattle.nz_spec.proofs.IntegerSums.{whole_le, whole_lt, from_whole_lt}
 use Rattle.nz_spec.proofs.LegalWork.{once_more}
 use Rattle.nz_spec.proofs.Literals.{same_parts}
+use Rattle.nz_spec.proofs.SameSums.{negated_broken}
 
 -- ---- Branches and their gaps
 
@@ -121,12 +122,10 @@ high_literal number t u k constant unit = ap₂ (λ (f g : Form). is_at_most_zer
 
 low_broken : (p : Position) (u : Term) (v : Infinitesimal) (b : Fraction) → HasWorth p (unit_form u).parts v → v <δ standing (neg_ℚ b)
     → IsBroken p (is_at_most (negated_part (one_part u) ∷ []) b)
-unfolding fraction_lt neg_ℚ denominator
-low_broken p u v b has below = record { value = v; has = has; outside = below }
+low_broken p u v b has below = negated_broken p (unit_form u).parts v b has below
 
 high_broken : (p : Position) (u : Term) (v : Infinitesimal) (b : Fraction) → HasWorth p (unit_form u).parts v → standing b <δ v
     → IsBroken p (is_at_most (one_part u ∷ []) b)
-unfolding fraction_lt denominator
 high_broken p u v b has above = record { value = v; has = has; outside = above }
 
 floor-whole : (n : ℤ) → floor (whole n) ≡ n

@@ -134,6 +134,11 @@ unfolding infinitesimal_cmp
 at_most-times_pos c x y h k =
     ap is_gt (ap₂ (λ (o p : Ordering). ordering_then o p) (cmp-times_pos c x.standard y.standard h) (cmp-times_pos c x.coefficient y.coefficient h)) ∙ k
 
+pub less-times_neg : (c : Fraction) (x y : Infinitesimal) → c <ℚ whole (pos 0) → infinitesimal_cmp (parts_times c x) (parts_times c y) ≡ infinitesimal_cmp y x
+unfolding infinitesimal_cmp
+less-times_neg c x y h =
+    ap₂ (λ (o p : Ordering). ordering_then o p) (cmp-times_neg c x.standard y.standard h) (cmp-times_neg c x.coefficient y.coefficient h)
+
 pub at_most-times_neg : (c : Fraction) (x y : Infinitesimal) → c <ℚ whole (pos 0) → AtMost y x → AtMost (parts_times c x) (parts_times c y)
 unfolding infinitesimal_cmp
 at_most-times_neg c x y h k =

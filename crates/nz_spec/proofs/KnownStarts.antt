@@ -28,6 +28,7 @@ use Rattle.nz_spec.specs.laws.LegalWork.{IsOnTerm}
 use Rattle.nz_spec.proofs.ToldBounds.{after, bound-is}
 use Rattle.nz_spec.proofs.BoundChanges.{moved_where}
 use Rattle.nz_spec.proofs.Negations.{literal-back, negation-linear}
+use Rattle.nz_spec.proofs.SameSums.{say_itself}
 use Rattle.nz_spec.proofs.JoinedForms.{joined-all, joined-forms}
 
 none_some : {A : Type 0} {x : A} → None ≡ Some x → ⊥
@@ -288,6 +289,8 @@ module _ (q : Task) (none : q.goals ≡ []) (assumed : All IsOnTerm q.assumed) w
         | inr tabled ↦ record {
           plain = signed_literal l sign;
           tabled = tabled-among q.numbering q.listed ts (λ t has. Contains-append_right q.earlier q.listed t has) (signed_literal l sign) (signed-tabled q.numbering q.listed l sign tabled);
+          written = signed_literal l sign;
+          same = say_itself (signed_literal l sign);
           is_tight = is_tight;
           is = refl;
         }

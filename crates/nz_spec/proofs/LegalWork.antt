@@ -3,7 +3,7 @@ use Rattle.std.proofs.Common.{◌≡◌, ◌⊎◌, ℕ, zero, suc, ◌<◌, ◌
 use Rattle.std.proofs.lemmas.Option.{slice_get_within, get_or_from_slice_get}
 use Rattle.std.proofs.lemmas.List.{take-map, map-append, length-map}
 use Rattle.nz_lists.proofs.Places.{slice_get-push_cases, slice_index_or-map}
-use Rattle.nz_spec.specs.clauses.Literal.{Literal, negation_of, AreSameSet, StandOnce}
+use Rattle.nz_spec.specs.clauses.Literal.{Literal, negation_of, SayTheSame, AreSameSet, StandOnce}
 use Rattle.nz_spec.specs.simplex.Bland.{Point, Position, IsCheckStep}
 use Rattle.nz_spec.specs.simplex.PositionMoves.{AreConsistent}
 use Rattle.nz_spec.specs.simplex.Pivots as pivots
@@ -13,7 +13,8 @@ use Rattle.nz_spec.specs.search.Notes.{Note, start_note, atom_note, form_note, g
 use Rattle.nz_spec.specs.search.Search.{Task, ToldLiteral, Search, at_first, no_point, never, signed_literal, literal_by, literal_told, told_literals, position_of}
 use Rattle.nz_spec.specs.search.Legal.{Drifts, MayDrift, MayFollow, after_line, after_lines, Lead}
 use Rattle.nz_spec.specs.laws.LegalWork.{LegalWorkGoesOn, LegalWorkDoesNotRepeat, pivot_lines, PivotsAreLegal}
-use Rattle.nz_spec.proofs.Negations.{signed-cases, literal-back}
+use Rattle.nz_spec.proofs.Negations.{literal-back}
+use Rattle.nz_spec.proofs.SameSums.{say_back, say_negated}
 
 -- ---- Lists that go on
 
@@ -147,15 +148,27 @@ module _ {X K : Type 0} (test : X → Bool) (key : X → K) where
 -- ---- Atoms
 
 abbrev AreOpposite : Literal → Literal → Type 0
-AreOpposite l m = (l ≡ m) ⊎ (l ≡ negation_of m)
+AreOpposite l m = SayTheSame l m ⊎ SayTheSame l (negation_of m)
+
+-- where the negation of one says the same as another, so does that one's negation
+negation_over : (l m : Literal) → SayTheSame (negation_of l) m → SayTheSame l (negation_of m)
+negation_over l m h = subst (λ (k : Literal). SayTheSame k (negation_of m)) (literal-back l) (say_negated (negation_of l) m h)
 
 opposite_back : (l m : Literal) → AreOpposite l m → AreOpposite m l
-opposite_back l m (inl e) = inl (sym e)
-opposite_back l m (inr e) = inr (sym (literal-back m) ∙ ap negation_of (sym e))
+opposite_back l m (inl h) = inl (say_back l m h)
+opposite_back l m (inr h) = inr (negation_over m l (say_back l (negation_of m) h))
 
-new_atom : (atoms : List Literal) (l : Literal) → (Contains atoms l → ⊥) → (Contains atoms (negation_of l) → ⊥) → (i : ℕ) (m : Literal) → slice_get atoms i ≡ Some m → AreOpposite m l → ⊥
-new_atom atoms l fresh negated i m at (inl e) = fresh (has_at atoms i l m at e)
-new_atom atoms l fresh negated i m at (inr e) = negated (has_at atoms i (negation_of l) m at e)
+-- Literals that say the same with these signs are so.
+signed_opposite : (l m : Literal) (a b : Bool) → SayTheSame (signed_literal l a) (signed_literal m b) → AreOpposite l m
+signed_opposite l m true true h = inl h
+signed_opposite l m true false h = inr h
+signed_opposite l m false true h = inr (negation_over l m h)
+signed_opposite l m false false h = inl (subst (SayTheSame l) (literal-back m) (negation_over l (negation_of m) h))
+
+new_atom : (atoms : List Literal) (l : Literal) → All (λ (m : Literal). SayTheSame m l → ⊥) atoms → All (λ (m : Literal). SayTheSame m (negation_of l) → ⊥) atoms
+    → (i : ℕ) (m : Literal) → slice_get atoms i ≡ Some m → AreOpposite m l → ⊥
+new_atom atoms l fresh negated i m at (inl h) = all_at (λ (k : Literal). SayTheSame k l → ⊥) atoms i m fresh at h
+new_atom atoms l fresh negated i m at (inr h) = all_at (λ (k : Literal). SayTheSame k (negation_of l) → ⊥) atoms i m negated at h
 
 literal_of_number : (atoms : List Literal) (i : ℕ) (a : Bool) (l : Literal) → slice_get atoms i ≡ Some l → literal_by atoms (i, a) ≡ signed_literal l a
 literal_of_number atoms i a l at = ap (λ m. signed_literal m a) (get_or_from_slice_get atoms i l never at)
@@ -216,7 +229,9 @@ does_not_repeat q lines y legal =
     let all = stays q at_first no_point y lines legal first in
     record {
       atoms = λ i j a b l m at_i at_j e.
-          all.atoms i j l m at_i at_j (signed-cases l m a b (sym (literal_of_number s.atoms i a l at_i) ∙ e ∙ literal_of_number s.atoms j b m at_j));
+          all.atoms i j l m at_i at_j
+          (signed_opposite l m a b (subst (SayTheSame (signed_literal l a)) (literal_of_number s.atoms j b m at_j)
+          (subst (λ (k : Literal). SayTheSame k (literal_by s.atoms (j, b))) (literal_of_number s.atoms i a l at_i) e)));
       decided = all.decided;
       told = all.told;
       learned = all.learned;

@@ -47,6 +47,7 @@ mod KnownStarts
 pub mod LegalWork
 pub mod LinearLiterals
 pub mod LinkTruths
+mod Listings
 pub mod Literals
 mod MoreTerms
 mod Negations
@@ -55,14 +56,19 @@ pub mod NormalGates
 pub mod NormalHeads
 pub mod NormalSorts
 pub mod OperandSorts
+mod OtherTasks
 pub mod PivotRuns
+mod PlainAtoms
 mod PlainWork
 pub mod PositionMovesKeep
 mod RenumberedSteps
 mod RenumberedSums
 mod RenumberedTerms
+mod RenumberedWishes
+mod RenumberedWork
 pub mod Same
 pub mod SameSorts
+pub mod SameSums
 pub mod Sorted
 pub mod SortedArithmetic
 pub mod Starts
@@ -73,9 +79,11 @@ pub mod TakenTerms
 pub mod ToldBounds
 pub mod UnitTruths
 mod Uses
+mod WishValues
 pub mod WorkedBases
 pub mod WorkedClimb
 mod WorkedFamilies
 pub mod WorkedPivot
 mod WorkedPlaces
+mod WorkedWishes
 pub mod WorkedWork

@@ -1,13 +1,12 @@
 -- Literals and their negations.
-use Rattle.std.proofs.Common.{◌≡◌, ◌⊎◌, inl, inr, Bool, true, false, List, [], ◌∷◌, map, refl, sym, ap, ap₂, ◌∙◌}
+use Rattle.std.proofs.Common.{◌≡◌, true, false, List, [], ◌∷◌, map, refl, ap₂}
 use Rattle.nz_fractions.specs.Fraction.{Fraction}
 use Rattle.nz_fractions.proofs.Identities.{neg-back}
 use Rattle.nz_spec.specs.terms.Form.{Part, negated_part}
 use Rattle.nz_spec.specs.clauses.Literal.{Literal, term_literal, is_at_most, is_below, negation_of}
 use Rattle.nz_spec.specs.clauses.Farkas.{is_linear_literal}
-use Rattle.nz_spec.specs.search.Search.{signed_literal}
 
-parts-back : (ps : List Part) → map negated_part (map negated_part ps) ≡ ps
+pub parts-back : (ps : List Part) → map negated_part (map negated_part ps) ≡ ps
 parts-back [] = refl
 parts-back (p ∷ ps) =
     ap₂ (λ (c : Fraction) (qs : List Part). let r : Part = record { coefficient = c; unit = p.unit } in r ∷ qs) (neg-back p.coefficient) (parts-back ps)
@@ -22,10 +21,3 @@ pub negation-linear : (l : Literal) → is_linear_literal (negation_of l) ≡ is
 negation-linear (term_literal t sign) = refl
 negation-linear (is_at_most ps b) = refl
 negation-linear (is_below ps b) = refl
-
--- Literals that are one with these signs are one, or one the negation of the other.
-pub signed-cases : (l m : Literal) (a b : Bool) → signed_literal l a ≡ signed_literal m b → (l ≡ m) ⊎ (l ≡ negation_of m)
-signed-cases l m true true e = inl e
-signed-cases l m true false e = inr e
-signed-cases l m false true e = inr (sym (literal-back l) ∙ ap negation_of e)
-signed-cases l m false false e = inl (sym (literal-back l) ∙ ap negation_of e ∙ literal-back m)

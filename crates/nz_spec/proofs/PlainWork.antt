@@ -13,6 +13,7 @@ use Rattle.nz_spec.specs.search.Atoms.{IsTruth, IsTabled, IsBoundOf}
 use Rattle.nz_spec.specs.search.Legal.{MayFollow, after_line, after_lines, Lead, events, AreSpread}
 use Rattle.nz_spec.specs.laws.LegalWork.{PlainWorkIsLegal}
 use Rattle.nz_spec.proofs.KnownStarts.{nothing-at}
+use Rattle.nz_spec.proofs.SameSums.{say_itself}
 
 -- without a goal no value is found
 line_finds : (q : Task) → q.goals ≡ [] → (s : Search) (x y : Point) (line : WorkLine Note) → MayFollow q s x line y → s.found ≡ [] → (after_line s line).found ≡ []
@@ -40,7 +41,7 @@ none_other q s all (l ∷ others) each =
     let other = All-contains (λ (l : Literal). Contains s.atoms l × (IsTruth q.listed l ⊎ IsBoundOf q.numbering q.listed l → ⊥)) (l ∷ others) l each (has_first l others) in
     absurd (other.1 (elim (All-contains (λ (l : Literal). IsTruth q.listed l ⊎ IsTabled q.numbering q.listed l) s.atoms l all other.0) [
       | inl truth ↦ inl truth
-      | inr tabled ↦ inr (record { plain = l; tabled = tabled; is_tight = false; is = refl })
+      | inr tabled ↦ inr (record { plain = l; tabled = tabled; written = l; same = say_itself l; is_tight = false; is = refl })
     ]))
 
 none_spread : (q : Task) (found : List Found) → found ≡ [] → AreSpread q found

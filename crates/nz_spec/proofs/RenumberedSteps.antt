@@ -1,15 +1,15 @@
 -- Derivations whose units are numbered anew.
 use Rattle.std.proofs.Common.{◌≡◌, ℕ, zero, suc, Bool, true, false, not, ◌&&◌, ◌||◌, List, [], ◌∷◌, ◌++◌, map, Option, Some, None, pos, refl, sym, ap, ap₂, subst, ◌∙◌}
-use Rattle.std.specs.Prelude.{fold, filter, slice_get, option_map, if◌then◌else◌}
+use Rattle.std.specs.Prelude.{Contains, fold, filter, slice_get, option_map, if◌then◌else◌}
 use Rattle.std.specs.List.{list_all, list_any}
 use Rattle.std.proofs.lemmas.Bool.{and_from, and_parts}
 use Rattle.std.proofs.lemmas.Option.{same_Some}
 use Rattle.nz_lists.proofs.Tests.{same_tests}
-use Rattle.nz_fractions.specs.Fraction.{Fraction, whole, fraction_lt, floor, neg_ℚ, Sum, Difference, Product, first_wide}
+use Rattle.nz_fractions.specs.Fraction.{Fraction, whole, fraction_lt, floor, neg_ℚ, Sum, Difference, Product}
 use Rattle.nz_fractions.proofs.FirstOperations.{no_operation}
 use Rattle.nz_spec.specs.numbers.Computation.{Computation, operated, at_once, turned_into, and_then}
 use Rattle.nz_spec.specs.terms.Term.{Head, verum, falsum, negation, conjunction, disjunction, exclusion, equality, choice, bool_sort, Term, apply, is_zero}
-use Rattle.nz_spec.specs.terms.Form.{Numbering, Part, negated_part, parts_joined, parts_scaled}
+use Rattle.nz_spec.specs.terms.Form.{Numbering, Part, found, negated_part, parts_joined, parts_scaled}
 use Rattle.nz_spec.specs.clauses.Literal.{Literal, term_literal, is_at_most, is_below, negation_of, are_same_literal, with_one, without, Clause, clause_of, resolvent}
 use Rattle.nz_spec.specs.clauses.LinearLiteral.{is_integral_part, are_integral, is_whole, is_without_units, greatest_below}
 use Rattle.nz_spec.specs.clauses.Gates.{holds, fails, list_of, is_boolean_term, clauses_over, gate_clauses}
@@ -19,12 +19,12 @@ use Rattle.nz_spec.specs.clauses.Farkas.{Multiple, Bound, empty_bound, bound_of,
 use Rattle.nz_spec.specs.clauses.Cuts.{branch_clause, rounded_limit, cut_clause}
 use Rattle.nz_spec.specs.clauses.Goals.{Goal, limited, compared, beats}
 use Rattle.nz_spec.specs.clauses.Steps.{Held, Claim, Premises, Step, given_step, hold_step, beat_step, gate_step, link_step, unit_step, farkas_step, branch_step, cut_step, resolve_step, hold_clause, claim_clause, step_taken, step_operations, step_clause, clauses_behind, StepsFit}
-use Rattle.nz_spec.specs.laws.Renumbering.{found, IsOrdered, IsRenumbered, GoTogether, AreEach, AreBoth, MayRenumber, LiteralsRenumber, ClausesRenumber, GoalsRenumber, HoldsRenumber, ClaimsRenumber, PremisesRenumber, MultiplesRenumber, StepsRenumber, DerivationsRenumber}
+use Rattle.nz_spec.specs.laws.Renumbering.{IsOrdered, IsRenumbered, GoTogether, AreEach, AreBoth, MayRenumber, LiteralsRenumber, ClausesRenumber, GoalsRenumber, HoldsRenumber, ClaimsRenumber, PremisesRenumber, MultiplesRenumber, StepsRenumber, DerivationsRenumber}
 use Rattle.nz_spec.proofs.Derivations.{taken}
 use Rattle.nz_spec.proofs.Literals.{same_literal, one_literal}
 use Rattle.nz_spec.specs.terms.Same.{are_same_term}
 use Rattle.nz_spec.proofs.Same.{same_term}
-use Rattle.nz_spec.proofs.RenumberedSums.{front_fits, rest_fits, both_fit, seen, unseen, itself, none_of, one_order, sums_renumber}
+use Rattle.nz_spec.proofs.RenumberedSums.{fits_among, front_fits, rest_fits, both_fit, seen, unseen, itself, none_of, one_order, sums_renumber}
 use Rattle.nz_spec.proofs.RenumberedTerms.{once_together, turned_together, then_together, operated_together, each_map, terms_renumber}
 
 -- ---- Lists and options
@@ -87,7 +87,7 @@ if_together R true c x z y w e h k = subst (λ (d : Bool). GoTogether R x (if d 
 if_together R false c x z y w e h k = subst (λ (d : Bool). GoTogether R z (if d then y else w)) e k
 
 same_together : {A : Type 0} (c d : Computation A) → c ≡ d → GoTogether (λ (x y : A). x ≡ y) c d
-same_together {A} c d e = record { result = ap (λ (x : Computation A). x.result) e; fits = λ fits. subst (λ (x : Computation A). first_wide x.operations ≡ None) e fits }
+same_together {A} c d e = record { result = ap (λ (x : Computation A). x.result) e; operations = λ o has. subst (λ (x : Computation A). Contains x.operations o) (sym e) has }
 
 -- ---- Integers
 
@@ -499,7 +499,7 @@ module _ (m n : Numbering) (us : List Term) (may : MayRenumber m n us) where
     fitting [] (t ∷ ts) k e = absurd k
     fitting (s ∷ ss) [] k e = absurd k
     fitting (s ∷ ss) (t ∷ ts) k e =
-        both_fit (step_operations n q t) _ ((step_together [] [] tt s t k.0).fits (front_fits (step_operations m p s) _ e))
+        both_fit (step_operations n q t) _ (fits_among (step_operations m p s) (step_operations n q t) (step_together [] [] tt s t k.0).operations (front_fits (step_operations m p s) _ e))
         (fitting ss ts k.1 (rest_fits (step_operations m p s) _ e))
 
 pub derivations_renumber : DerivationsRenumber

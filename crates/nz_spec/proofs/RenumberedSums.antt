@@ -1,16 +1,18 @@
 -- Sums whose units are numbered anew: what joins, multiplies and negates them is told by the coefficients of their units alone.
-use Rattle.std.proofs.Common.{◌≡◌, ◌<◌, Bool, true, false, List, [], ◌∷◌, ◌++◌, map, Option, Some, None, option_map, refl, sym, ap, ap₂, subst, ◌∙◌, arith, true≢false}
+use Rattle.std.proofs.Common.{◌≡◌, ◌⊎◌, inl, inr, ◌<◌, Bool, true, false, List, [], ◌∷◌, ◌++◌, map, Option, Some, None, option_map, refl, sym, ap, ap₂, subst, ◌∙◌, arith, true≢false}
 use Rattle.std.specs.Prelude.{Contains, nat_lt, if◌then◌else◌}
 use Rattle.std.specs.List.{AllByRecursion}
 use Rattle.std.proofs.lemmas.Bool.Decides.{nat_tests}
 use Rattle.std.proofs.lemmas.Option.{same_Some}
+use Rattle.std.proofs.lemmas.List.Elements.{Contains-append_cases, Contains-append_left, Contains-append_right}
+use Rattle.nz_lists.proofs.Members.{has_cases, has_first, has_none}
 use Rattle.nz_fractions.specs.Fraction.{Fraction, neg_ℚ, Arithmetic, Sum, Difference, Product, Quotient, outcome, is_wide, Operation, first_wide}
-use Rattle.nz_fractions.proofs.FirstOperations.{first_wide-none, first_wide-some, no_operation}
+use Rattle.nz_fractions.proofs.FirstOperations.{first_wide-none, first_wide-some, first_wide-is}
 use Rattle.nz_spec.specs.numbers.Computation.{Computation, operated, at_once, turned_into}
 use Rattle.nz_spec.specs.terms.Term.{Term, is_zero}
 use Rattle.nz_spec.specs.terms.Same.{are_same_term}
-use Rattle.nz_spec.specs.terms.Form.{Numbering, TellsApart, Part, negated_part, with_part, part_alone, part_joined, parts_joined, parts_scaled}
-use Rattle.nz_spec.specs.laws.Renumbering.{found, AreAlike, IsOrdered, SumsRenumber}
+use Rattle.nz_spec.specs.terms.Form.{Numbering, TellsApart, Part, found, AreAlike, negated_part, with_part, part_alone, part_joined, parts_joined, parts_scaled}
+use Rattle.nz_spec.specs.laws.Renumbering.{IsOrdered, SumsRenumber}
 use Rattle.nz_spec.proofs.Same.{same_term, one_term}
 
 -- ---- Lists of operations
@@ -29,18 +31,24 @@ rest_fits xs ys e = sym (first_wide-none xs ys (front_fits xs ys e)) ∙ e
 pub both_fit : (xs ys : List Operation) → first_wide xs ≡ None → first_wide ys ≡ None → first_wide (xs ++ ys) ≡ None
 both_fit xs ys e f = first_wide-none xs ys e ∙ f
 
--- one operation alone
-pub single_fits : (op : Arithmetic) (b c : Fraction) → first_wide (let o : Operation = record { operator = op; left = b; right = c } in o ∷ []) ≡ None → is_wide op b c ≡ false
+-- where none of these leaves the numbers, none of those among them does
+none_wide : (xs : List Operation) → first_wide xs ≡ None → (op : Operation) → Contains xs op → is_wide op.operator op.left op.right ≡ false
 unfolding first_wide
-single_fits op b c e = by_test (is_wide op b c) refl e
+none_wide [] e op has = absurd (has_none op has)
+none_wide (x ∷ xs) e op has = by_test (is_wide x.operator x.left x.right) refl (none_wide xs) e (has_cases x op xs has)
   where
-    by_test : (w : Bool) → is_wide op b c ≡ w → (if w then Some (let o : Operation = record { operator = op; left = b; right = c } in o) else None) ≡ None → is_wide op b c ≡ false
-    by_test true f none = absurd (cc)
-    by_test false f none = f
+    by_test : (b : Bool) → is_wide x.operator x.left x.right ≡ b → (first_wide xs ≡ None → (o : Operation) → Contains xs o → is_wide o.operator o.left o.right ≡ false)
+        → (if b then Some x else first_wide xs) ≡ None → (x ≡ op) ⊎ Contains xs op → is_wide op.operator op.left op.right ≡ false
+    by_test true w rest none h = absurd (cc)
+    by_test false w rest none (inl is) = subst (λ (o : Operation). is_wide o.operator o.left o.right ≡ false) is w
+    by_test false w rest none (inr more) = rest none op more
 
-pub single_none : (op : Arithmetic) (b c : Fraction) → is_wide op b c ≡ false → first_wide (let o : Operation = record { operator = op; left = b; right = c } in o ∷ []) ≡ None
-unfolding first_wide
-single_none op b c e = ap (λ (w : Bool). if w then Some (let o : Operation = record { operator = op; left = b; right = c } in o) else None) e
+pub fits_among : (xs ys : List Operation) → ((op : Operation) → Contains ys op → Contains xs op) → first_wide xs ≡ None → first_wide ys ≡ None
+fits_among xs ys among e = by_case (first_wide ys) refl
+  where
+    by_case : (o : Option Operation) → first_wide ys ≡ o → first_wide ys ≡ None
+    by_case None f = f
+    by_case (Some w) f = let there = first_wide-is ys w f in absurd (true≢false (sym there.1 ∙ none_wide xs e w (among w there.0)))
 
 -- ---- Units of sums
 
@@ -54,7 +62,7 @@ pub itself : (p : Part) (ps : List Part) → found p.unit (p ∷ ps) ≡ Some p.
 itself p ps = seen p ps p.unit (one_term p.unit)
 
 -- where one term is another's, a third is both or neither
-other_term : (t u x : Term) → are_same_term t u ≡ false → are_same_term t x ≡ true → are_same_term u x ≡ false
+pub other_term : (t u x : Term) → are_same_term t u ≡ false → are_same_term t x ≡ true → are_same_term u x ≡ false
 other_term t u x apart is = by_test (are_same_term u x) refl
   where
     by_test : (b : Bool) → are_same_term u x ≡ b → are_same_term u x ≡ false
@@ -327,14 +335,17 @@ module _ (number : Numbering) where
             ap (λ (o : Option Fraction). join_at op o (found x qs)) (ap (join_at op (found x ps)) (unseen q [] x e) ∙ join_none op (found x ps))
             ∙ ap (join_at op (found x ps)) (sym (unseen q qs x e))
 
-    -- no operation on two coefficients of one unit leaves the numbers
-    abbrev pub JoinsFit : Arithmetic → List Part → List Part → Type 0
-    JoinsFit op ps qs = (x : Term) (b c : Fraction) → found x ps ≡ Some b → found x qs ≡ Some c → is_wide op b c ≡ false
+    -- an operation on the two coefficients of one unit
+    abbrev JoinsBy : Arithmetic → List Part → List Part → Operation → Type 0
+    JoinsBy op ps qs o = (x : Term) × (b c : Fraction) × (found x ps ≡ Some b) × (found x qs ≡ Some c) × (record { operator = op; left = b; right = c } ≡ o)
 
-    joins_fit : (op : Arithmetic) (ps qs : List Part) → IsOrdered number us ps → IsOrdered number us qs → first_wide (parts_joined number op ps qs).operations ≡ None → JoinsFit op ps qs
-    joins_fit op ps [] h k fits x b c e f = absurd (cc)
-    joins_fit op ps (q ∷ qs) h k fits x b c e f =
-        by_test (are_same_term q.unit x) refl (joins_fit op (part_joined number op ps q).result qs (part_ordered op ps q h k.0) k.2 (rest_fits first more fits) x b c)
+    operation_from : (op : Arithmetic) (ps qs : List Part) → IsOrdered number us ps → IsOrdered number us qs → (o : Operation) → Contains (parts_joined number op ps qs).operations o → JoinsBy op ps qs o
+    operation_from op ps [] h k o has = absurd (has_none o has)
+    operation_from op ps (q ∷ qs) h k o has =
+        elim (Contains-append_cases first more o has) [
+          | inl here ↦ by_case (found q.unit ps) refl (subst (λ (os : List Operation). Contains os o) (part_joins us op ps q h).operations here)
+          | inr later ↦ behind (operation_from op (part_joined number op ps q).result qs (part_ordered op ps q h k.0) k.2 o later)
+        ]
       where
         first : List Operation
         first = (part_joined number op ps q).operations
@@ -342,31 +353,44 @@ module _ (number : Numbering) where
         more : List Operation
         more = (parts_joined number op (part_joined number op ps q).result qs).operations
 
-        by_test : (same : Bool) → are_same_term q.unit x ≡ same → (found x (part_joined number op ps q).result ≡ Some b → found x qs ≡ Some c → is_wide op b c ≡ false) → is_wide op b c ≡ false
+        by_case : (b : Option Fraction) → found q.unit ps ≡ b → Contains (operations_at op b q.coefficient) o → JoinsBy op ps (q ∷ qs) o
+        by_case None e there = absurd (has_none o there)
+        by_case (Some b) e there =
+            elim (has_cases (record { operator = op; left = b; right = q.coefficient }) o [] there) [
+              | inl is ↦ (q.unit, b, q.coefficient, e, itself q qs, is)
+              | inr none ↦ absurd (has_none o none)
+            ]
+
+        by_test : (x : Term) (b c : Fraction) (same : Bool) → are_same_term q.unit x ≡ same → found x (part_joined number op ps q).result ≡ Some b → found x qs ≡ Some c
+            → record { operator = op; left = b; right = c } ≡ o → JoinsBy op ps (q ∷ qs) o
+        by_test x b c true t e f is = let none : None ≡ Some c = sym (none_of q.unit x qs t k.1) ∙ f in absurd (cc)
+        by_test x b c false t e f is =
+            (x, b, c, sym ((part_joins us op ps q h).at x ∙ ap (join_at op (found x ps)) (unseen q [] x t) ∙ join_none op (found x ps)) ∙ e, unseen q qs x t ∙ f, is)
+
+        behind : JoinsBy op (part_joined number op ps q).result qs o → JoinsBy op ps (q ∷ qs) o
+        behind (x, b, c, e, f, is) = by_test x b c (are_same_term q.unit x) refl e f is
+
+    operation_has : (op : Arithmetic) (ps qs : List Part) → IsOrdered number us ps → IsOrdered number us qs → (o : Operation) → JoinsBy op ps qs o → Contains (parts_joined number op ps qs).operations o
+    operation_has op ps [] h k o (x, b, c, e, f, is) = absurd (cc)
+    operation_has op ps (q ∷ qs) h k o (x, b, c, e, f, is) = by_test (are_same_term q.unit x) refl (operation_has op (part_joined number op ps q).result qs (part_ordered op ps q h k.0) k.2 o)
+      where
+        first : List Operation
+        first = (part_joined number op ps q).operations
+
+        more : List Operation
+        more = (parts_joined number op (part_joined number op ps q).result qs).operations
+
+        by_test : (same : Bool) → are_same_term q.unit x ≡ same → (JoinsBy op (part_joined number op ps q).result qs o → Contains more o) → Contains (first ++ more) o
         by_test true t rest =
             let at : found q.unit ps ≡ Some b = ap (λ (u : Term). found u ps) (same_term q.unit x t) ∙ e in
             let coefficient : q.coefficient ≡ c = same_Some q.coefficient c (sym (seen q qs x t) ∙ f) in
-            let operations = (part_joins us op ps q h).operations ∙ ap (λ (o : Option Fraction). operations_at op o q.coefficient) at in
-            subst (λ (d : Fraction). is_wide op b d ≡ false) coefficient
-            (single_fits op b q.coefficient (subst (λ (os : List Operation). first_wide os ≡ None) operations (front_fits first more fits)))
+            let own : Operation = record { operator = op; left = b; right = q.coefficient } in
+            let operations : first ≡ own ∷ [] = (part_joins us op ps q h).operations ∙ ap (λ (d : Option Fraction). operations_at op d q.coefficient) at in
+            let same : own ≡ o = ap (λ (d : Fraction). let r : Operation = record { operator = op; left = b; right = d } in r) coefficient ∙ is in
+            Contains-append_left first more o (subst (λ (os : List Operation). Contains os o) (sym operations) (subst (Contains (own ∷ [])) same (has_first own [])))
         by_test false t rest =
-            rest ((part_joins us op ps q h).at x ∙ ap (join_at op (found x ps)) (unseen q [] x t) ∙ join_none op (found x ps) ∙ e) (sym (unseen q qs x t) ∙ f)
-
-    fit_joined : (op : Arithmetic) (ps qs : List Part) → IsOrdered number us ps → IsOrdered number us qs → JoinsFit op ps qs → first_wide (parts_joined number op ps qs).operations ≡ None
-    fit_joined op ps [] h k fits = no_operation
-    fit_joined op ps (q ∷ qs) h k fits =
-        both_fit (part_joined number op ps q).operations (parts_joined number op (part_joined number op ps q).result qs).operations
-        (subst (λ (os : List Operation). first_wide os ≡ None) (sym (part_joins us op ps q h).operations) (by_case (found q.unit ps) refl))
-        (fit_joined op (part_joined number op ps q).result qs (part_ordered op ps q h k.0) k.2 (λ x b c e f. by_test x b c (are_same_term q.unit x) refl e f))
-      where
-        by_case : (o : Option Fraction) → found q.unit ps ≡ o → first_wide (operations_at op o q.coefficient) ≡ None
-        by_case None e = no_operation
-        by_case (Some b) e = single_none op b q.coefficient (fits q.unit b q.coefficient e (itself q qs))
-
-        by_test : (x : Term) (b c : Fraction) (same : Bool) → are_same_term q.unit x ≡ same → found x (part_joined number op ps q).result ≡ Some b → found x qs ≡ Some c → is_wide op b c ≡ false
-        by_test x b c true t e f = let none : None ≡ Some c = sym (none_of q.unit x qs t k.1) ∙ f in absurd (cc)
-        by_test x b c false t e f =
-            fits x b c (sym ((part_joins us op ps q h).at x ∙ ap (join_at op (found x ps)) (unseen q [] x t) ∙ join_none op (found x ps)) ∙ e) (unseen q qs x t ∙ f)
+            Contains-append_right first more o
+            (rest (x, b, c, (part_joins us op ps q h).at x ∙ ap (join_at op (found x ps)) (unseen q [] x t) ∙ join_none op (found x ps) ∙ e, sym (unseen q qs x t) ∙ f, is))
 
   -- ---- Sums that are multiplied
 
@@ -396,29 +420,34 @@ module _ (number : Numbering) where
         by_test true behind rest = rest
         by_test false behind rest = (h.0, behind, rest)
 
-    -- no multiplication of a coefficient leaves the numbers
-    abbrev ScalesFit : List Part → Type 0
-    ScalesFit ps = (x : Term) (c : Fraction) → found x ps ≡ Some c → first_wide (times c).operations ≡ None
+    -- an operation of the multiplication of a unit's coefficient
+    abbrev ScalesBy : List Part → Operation → Type 0
+    ScalesBy ps o = (x : Term) × (c : Fraction) × (found x ps ≡ Some c) × Contains (times c).operations o
 
-    scales_fit : (ps : List Part) → first_wide (parts_scaled times ps).operations ≡ None → ScalesFit ps
-    scales_fit [] fits x c e = absurd (cc)
-    scales_fit (p ∷ ps) fits x c e = by_test (are_same_term p.unit x) refl (scales_fit ps (rest_fits (times p.coefficient).operations (parts_scaled times ps).operations fits) x c)
+    scale_from : (ps : List Part) → IsOrdered number us ps → (o : Operation) → Contains (parts_scaled times ps).operations o → ScalesBy ps o
+    scale_from [] h o has = absurd (has_none o has)
+    scale_from (p ∷ ps) h o has =
+        elim (Contains-append_cases (times p.coefficient).operations (parts_scaled times ps).operations o has) [
+          | inl here ↦ (p.unit, p.coefficient, itself p ps, here)
+          | inr later ↦ behind (scale_from ps h.2 o later)
+        ]
       where
-        by_test : (b : Bool) → are_same_term p.unit x ≡ b → (found x ps ≡ Some c → first_wide (times c).operations ≡ None) → first_wide (times c).operations ≡ None
+        by_test : (x : Term) (c : Fraction) (b : Bool) → are_same_term p.unit x ≡ b → found x ps ≡ Some c → Contains (times c).operations o → ScalesBy (p ∷ ps) o
+        by_test x c true t e there = let none : None ≡ Some c = sym (none_of p.unit x ps t h.1) ∙ e in absurd (cc)
+        by_test x c false t e there = (x, c, unseen p ps x t ∙ e, there)
+
+        behind : ScalesBy ps o → ScalesBy (p ∷ ps) o
+        behind (x, c, e, there) = by_test x c (are_same_term p.unit x) refl e there
+
+    scale_has : (ps : List Part) (o : Operation) → ScalesBy ps o → Contains (parts_scaled times ps).operations o
+    scale_has [] o (x, c, e, there) = absurd (cc)
+    scale_has (p ∷ ps) o (x, c, e, there) = by_test (are_same_term p.unit x) refl (scale_has ps o)
+      where
+        by_test : (b : Bool) → are_same_term p.unit x ≡ b → (ScalesBy ps o → Contains (parts_scaled times ps).operations o) → Contains ((times p.coefficient).operations ++ (parts_scaled times ps).operations) o
         by_test true t rest =
-            subst (λ (d : Fraction). first_wide (times d).operations ≡ None) (same_Some p.coefficient c (sym (seen p ps x t) ∙ e))
-            (front_fits (times p.coefficient).operations (parts_scaled times ps).operations fits)
-        by_test false t rest = rest (sym (unseen p ps x t) ∙ e)
-
-    fit_scales : (ps : List Part) → IsOrdered number us ps → ScalesFit ps → first_wide (parts_scaled times ps).operations ≡ None
-    fit_scales [] h fits = no_operation
-    fit_scales (p ∷ ps) h fits =
-        both_fit (times p.coefficient).operations (parts_scaled times ps).operations (fits p.unit p.coefficient (itself p ps))
-        (fit_scales ps h.2 (λ x c e. by_test x c (are_same_term p.unit x) refl e))
-      where
-        by_test : (x : Term) (c : Fraction) (b : Bool) → are_same_term p.unit x ≡ b → found x ps ≡ Some c → first_wide (times c).operations ≡ None
-        by_test x c true t e = let none : None ≡ Some c = sym (none_of p.unit x ps t h.1) ∙ e in absurd (cc)
-        by_test x c false t e = fits x c (unseen p ps x t ∙ e)
+            Contains-append_left (times p.coefficient).operations (parts_scaled times ps).operations o
+            (subst (λ (d : Fraction). Contains (times d).operations o) (sym (same_Some p.coefficient c (sym (seen p ps x t) ∙ e))) there)
+        by_test false t rest = Contains-append_right (times p.coefficient).operations (parts_scaled times ps).operations o (rest (x, c, sym (unseen p ps x t) ∙ e, there))
 
   -- ---- Sums that are negated
 
@@ -426,11 +455,11 @@ module _ (number : Numbering) where
   behind_negated x [] h = tt
   behind_negated x (p ∷ ps) h = (h.0, behind_negated x ps h.1)
 
-  ordered_negated : (us : List Term) (ps : List Part) → IsOrdered number us ps → IsOrdered number us (map negated_part ps)
+  pub ordered_negated : (us : List Term) (ps : List Part) → IsOrdered number us ps → IsOrdered number us (map negated_part ps)
   ordered_negated us [] h = tt
   ordered_negated us (p ∷ ps) h = (h.0, behind_negated p.unit ps h.1, ordered_negated us ps h.2)
 
-found_negated : (ps : List Part) (x : Term) → found x (map negated_part ps) ≡ option_map neg_ℚ (found x ps)
+pub found_negated : (ps : List Part) (x : Term) → found x (map negated_part ps) ≡ option_map neg_ℚ (found x ps)
 found_negated [] x = refl
 found_negated (p ∷ ps) x = by_test (are_same_term p.unit x) (found_negated ps x)
   where
@@ -453,9 +482,9 @@ sums_renumber = record {
           ∙ ap₂ (join_at op) (h.alike x) (k.alike x)
           ∙ sym (found_joined n us n_apart op rs ss x h.after k.after);
     };
-    fits = λ fits.
-        fit_joined n us n_apart op rs ss h.after k.after
-        (λ x b c e f. joins_fit m us m_apart op ps qs h.before k.before fits x b c (h.alike x ∙ e) (k.alike x ∙ f));
+    operations = λ o has.
+        let (x, b, c, e, f, is) = operation_from n us n_apart op rs ss h.after k.after o has in
+        operation_has m us m_apart op ps qs h.before k.before o (x, b, c, h.alike x ∙ e, k.alike x ∙ f, is);
   };
   scaled = λ m n us times ps qs h. record {
     result = record {
@@ -463,7 +492,7 @@ sums_renumber = record {
       after = ordered_scaled n us times qs h.after;
       alike = λ x. found_scaled m us times ps x h.before ∙ ap (scaled_at times) (h.alike x) ∙ sym (found_scaled n us times qs x h.after);
     };
-    fits = λ fits. fit_scales n us times qs h.after (λ x c e. scales_fit m us times ps fits x c (h.alike x ∙ e));
+    operations = λ o has. let (x, c, e, there) = scale_from n us times qs h.after o has in scale_has m us times ps o (x, c, h.alike x ∙ e, there);
   };
   negated = λ m n us ps qs h. record {
     before = ordered_negated m us ps h.before;

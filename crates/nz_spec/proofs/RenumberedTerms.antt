@@ -1,9 +1,9 @@
 -- The forms of terms and their rows in the tables, where units are numbered anew.
-use Rattle.std.proofs.Common.{◌≡◌, Bool, true, false, List, [], ◌∷◌, map, Option, Some, None, pos, refl, ap, ap₂, subst}
+use Rattle.std.proofs.Common.{◌≡◌, Bool, true, false, List, [], ◌∷◌, map, Option, Some, None, pos, inl, inr, refl, sym, ap, ap₂, subst}
 use Rattle.std.specs.Prelude.{Contains, if◌then◌else◌}
 use Rattle.std.specs.List.{AllByRecursion}
-use Rattle.nz_fractions.specs.Fraction.{Fraction, whole, neg_ℚ, Arithmetic, Sum, Difference, Product, Quotient, outcome, first_wide}
-use Rattle.nz_fractions.proofs.FirstOperations.{no_operation}
+use Rattle.std.proofs.lemmas.List.Elements.{Contains-append_cases, Contains-append_left, Contains-append_right}
+use Rattle.nz_fractions.specs.Fraction.{Fraction, whole, neg_ℚ, Arithmetic, Sum, Difference, Product, Quotient, outcome}
 use Rattle.nz_spec.specs.numbers.Computation.{Computation, operated, at_once, turned_into, and_then, in_turn}
 use Rattle.nz_spec.specs.terms.Term.{int_sort, real_sort, Head, equality, choice, less, at_most, sum, difference, product, quotient, integer_quotient, modulus, magnitude, to_real, to_int, is_int, Term, apply, Terms, no_terms, terms}
 use Rattle.nz_spec.specs.terms.Linear.{head_constant, constant_value, constant_values}
@@ -15,16 +15,16 @@ use Rattle.nz_spec.specs.clauses.Gates.{holds, fails, list_of, is_boolean_term}
 use Rattle.nz_spec.specs.clauses.Links.{plus, minus, at_most_literal, below_literal, links_over, link_clauses}
 use Rattle.nz_spec.specs.clauses.Units.{at_most_zero, at_most_number, below_number, times_unit, greatest_remainder, quotient_rows, remainder_rows, magnitude_rows, units_over, unit_clauses}
 use Rattle.nz_spec.specs.laws.Renumbering.{IsRenumbered, GoTogether, AreEach, MayRenumber, FormsRenumber, LiteralsRenumber, ClausesRenumber, TablesRenumber, TermsRenumber}
-use Rattle.nz_spec.proofs.RenumberedSums.{front_fits, rest_fits, both_fit, sums_renumber}
+use Rattle.nz_spec.proofs.RenumberedSums.{sums_renumber}
 
 -- ---- Computations that go together
 
 pub once_together : {A B : Type 0} (R : A → B → Type 0) (x : A) (y : B) → R x y → GoTogether R (at_once x) (at_once y)
-once_together R x y h = record { result = h; fits = λ e. no_operation }
+once_together R x y h = record { result = h; operations = λ op has. has }
 
 pub turned_together : {A B C D : Type 0} (R : A → B → Type 0) (S : C → D → Type 0) (f : A → C) (g : B → D) (c : Computation A) (d : Computation B)
     → GoTogether R c d → ((x : A) (y : B) → R x y → S (f x) (g y)) → GoTogether S (turned_into f c) (turned_into g d)
-turned_together R S f g c d h k = record { result = k c.result d.result h.result; fits = h.fits }
+turned_together R S f g c d h k = record { result = k c.result d.result h.result; operations = h.operations }
 
 pub then_together : {A B C D : Type 0} (R : A → B → Type 0) (S : C → D → Type 0) (f : A → Computation C) (g : B → Computation D) (c : Computation A) (d : Computation B)
     → GoTogether R c d → ((x : A) (y : B) → R x y → GoTogether S (f x) (g y)) → GoTogether S (and_then c f) (and_then d g)
@@ -32,10 +32,10 @@ then_together R S f g c d h k =
     let next = k c.result d.result h.result in
     record {
       result = next.result;
-      fits = λ e.
-          both_fit d.operations (g d.result).operations
-          (h.fits (front_fits c.operations (f c.result).operations e))
-          (next.fits (rest_fits c.operations (f c.result).operations e));
+      operations = λ op has. elim (Contains-append_cases d.operations (g d.result).operations op has) [
+        | inl first ↦ Contains-append_left c.operations (f c.result).operations op (h.operations op first)
+        | inr later ↦ Contains-append_right c.operations (f c.result).operations op (next.operations op later)
+      ];
     }
 
 -- the same computation, and then two that go together
@@ -45,17 +45,17 @@ behind_together S f g c k =
     let next = k c.result in
     record {
       result = next.result;
-      fits = λ e.
-          both_fit c.operations (g c.result).operations
-          (front_fits c.operations (f c.result).operations e)
-          (next.fits (rest_fits c.operations (f c.result).operations e));
+      operations = λ op has. elim (Contains-append_cases c.operations (g c.result).operations op has) [
+        | inl first ↦ Contains-append_left c.operations (f c.result).operations op first
+        | inr later ↦ Contains-append_right c.operations (f c.result).operations op (next.operations op later)
+      ];
     }
 
 -- an operation on the same numbers
 pub operated_together : (op : Arithmetic) {p q r s : Fraction} → p ≡ q → r ≡ s → GoTogether (λ (x y : Fraction). x ≡ y) (operated op p r) (operated op q s)
 operated_together op {p} {q} {r} {s} e f =
     let same : operated op p r ≡ operated op q s = ap₂ (operated op) e f in
-    record { result = ap₂ (outcome op) e f; fits = λ fits. subst (λ (c : Computation Fraction). first_wide c.operations ≡ None) same fits }
+    record { result = ap₂ (outcome op) e f; operations = λ o has. subst (λ (c : Computation Fraction). Contains c.operations o) (sym same) has }
 
 pub each_map : {A B C D : Type 0} (R : A → B → Type 0) (S : C → D → Type 0) (f : A → C) (g : B → D) → ((x : A) (y : B) → R x y → S (f x) (g y))
     → (xs : List A) (ys : List B) → AreEach R xs ys → AreEach S (map f xs) (map g ys)
@@ -84,13 +84,13 @@ module _ (m n : Numbering) (us : List Term) (may : MayRenumber m n us) where
   none_renumbers : Sums [] []
   none_renumbers = record { before = tt; after = tt; alike = λ u. refl }
 
-  constant_renumbers : (q : Fraction) → Forms (constant_form q) (constant_form q)
+  pub constant_renumbers : (q : Fraction) → Forms (constant_form q) (constant_form q)
   constant_renumbers q = record { parts = none_renumbers; offset = refl }
 
   one_renumbers : (p : Part) → Contains us p.unit → Sums (p ∷ []) (p ∷ [])
   one_renumbers p has = record { before = (has, tt, tt); after = (has, tt, tt); alike = λ u. refl }
 
-  unit_renumbers : (u : Term) → Contains us u → Forms (unit_form u) (unit_form u)
+  pub unit_renumbers : (u : Term) → Contains us u → Forms (unit_form u) (unit_form u)
   unit_renumbers u has = record { parts = one_renumbers (record { coefficient = whole (pos 1); unit = u }) has; offset = refl }
 
   negated_renumbers : (f g : Form) → Forms f g → Forms (negated_form f) (negated_form g)
@@ -98,9 +98,9 @@ module _ (m n : Numbering) (us : List Term) (may : MayRenumber m n us) where
 
   with_offset : (ps qs : List Part) → Sums ps qs → (c d : Computation Fraction) → GoTogether (λ (x y : Fraction). x ≡ y) c d
       → GoTogether Forms (turned_into (λ x. let f : Form = record { parts = ps; offset = x } in f) c) (turned_into (λ x. let f : Form = record { parts = qs; offset = x } in f) d)
-  with_offset ps qs h c d k = record { result = record { parts = h; offset = k.result }; fits = k.fits }
+  with_offset ps qs h c d k = record { result = record { parts = h; offset = k.result }; operations = k.operations }
 
-  joined_renumbers : (op : Arithmetic) (f g h k : Form) → Forms f h → Forms g k → GoTogether Forms (joined m op f g) (joined n op h k)
+  pub joined_renumbers : (op : Arithmetic) (f g h k : Form) → Forms f h → Forms g k → GoTogether Forms (joined m op f g) (joined n op h k)
   joined_renumbers op f g h k a b =
       then_together Sums Forms (λ ps. turned_into (λ c. record { parts = ps; offset = c }) (operated op f.offset g.offset)) (λ ps. turned_into (λ c. record { parts = ps; offset = c }) (operated op h.offset k.offset))
       (parts_joined m op f.parts g.parts) (parts_joined n op h.parts k.parts)
@@ -115,13 +115,13 @@ module _ (m n : Numbering) (us : List Term) (may : MayRenumber m n us) where
       then_together Forms Forms (λ x. all_joined m op x gs) (λ y. all_joined n op y ks) (joined m op f g) (joined n op h k) (joined_renumbers op f g h k a b.0)
       (λ x y e. all_joined_renumber op x y gs ks e b.1)
 
-  scaled_renumbers : (times : Fraction → Computation Fraction) (f g : Form) → Forms f g → GoTogether Forms (scaled times f) (scaled times g)
+  pub scaled_renumbers : (times : Fraction → Computation Fraction) (f g : Form) → Forms f g → GoTogether Forms (scaled times f) (scaled times g)
   scaled_renumbers times f g h =
       then_together Sums Forms (λ ps. turned_into (λ c. record { parts = ps; offset = c }) (times f.offset)) (λ ps. turned_into (λ c. record { parts = ps; offset = c }) (times g.offset))
       (parts_scaled times f.parts) (parts_scaled times g.parts) (sums_renumber.scaled m n us times f.parts g.parts h.parts)
       (λ ps qs e. with_offset ps qs e (times f.offset) (times g.offset) (record {
         result = ap (λ (x : Fraction). (times x).result) h.offset;
-        fits = λ fits. subst (λ (x : Fraction). first_wide (times x).operations ≡ None) h.offset fits;
+        operations = λ o has. subst (λ (x : Fraction). Contains (times x).operations o) (sym h.offset) has;
       }))
 
   open_renumbers : (cs : List (Option Fraction)) (fs gs : List Form) → AreEach Forms fs gs → Forms (open_form cs fs) (open_form cs gs)
@@ -224,7 +224,7 @@ module _ (m n : Numbering) (us : List Term) (may : MayRenumber m n us) where
   below_zero_renumbers : (c d : Computation Form) → GoTogether Forms c d → GoTogether Literals (turned_into is_below_zero c) (turned_into is_below_zero d)
   below_zero_renumbers c d h = turned_together Forms Literals is_below_zero is_below_zero c d h (λ f g e. (e.parts, ap neg_ℚ e.offset))
 
-  most_renumbers : (t u : Term) → Contains us t → Contains us u → GoTogether Literals (at_most_literal m t u) (at_most_literal n t u)
+  pub most_renumbers : (t u : Term) → Contains us t → Contains us u → GoTogether Literals (at_most_literal m t u) (at_most_literal n t u)
   most_renumbers t u h k =
       zero_renumbers (minus m (form_of m t) (form_of m u)) (minus n (form_of n t) (form_of n u))
       (minus_renumbers (form_of m t) (form_of m u) (form_of n t) (form_of n u) (form_renumbers t h) (form_renumbers u k))

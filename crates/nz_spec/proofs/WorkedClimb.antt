@@ -138,8 +138,8 @@ climb_begins =
           (
             record {
               atom = of_table one_is_bound;
-              fresh = has_none _;
-              negation_fresh = has_none _;
+              fresh = All-nil _;
+              negation_fresh = All-nil _;
             },
             refl,
           ),

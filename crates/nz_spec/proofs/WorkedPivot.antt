@@ -1,22 +1,23 @@
 -- The worked exchange is legal, and so is the check that begins behind it.
-use Rattle.std.proofs.Common.{◌≡◌, ◌⊎◌, inl, inr, ℕ, zero, suc, ◌<◌, Bool, true, false, List, [], ◌∷◌, pos, Some, None, refl, sym, subst, ◌∙◌, arith, true≢false, if◌then◌else◌}
+use Rattle.std.proofs.Common.{◌≡◌, ◌⊎◌, inl, inr, ℕ, zero, suc, ◌<◌, Bool, true, false, List, [], ◌∷◌, pos, negsuc, Option, Some, None, refl, sym, subst, ◌∙◌, arith, true≢false, if◌then◌else◌}
 use Rattle.std.proofs.Math.Path.{fun_ext}
 use Rattle.std.specs.Prelude.{IsTrue, ◌==◌, ◌&&◌}
-use Rattle.std.proofs.lemmas.List.Elements.{All-nil, All-cons, Contains-append_left}
+use Rattle.std.proofs.lemmas.List.Elements.{All-nil, All-cons, All-contains, Contains-append_left}
 use Rattle.nz_lists.proofs.Numbers.{other-number}
 use Rattle.nz_lists.proofs.Members.{has_none}
 use Rattle.nz_ints.specs.Division.{gcd_within, gcd}
 use Rattle.nz_ints.proofs.Ring.{Atom, Literal as Whole, ◌⊕◌, ◌⊗◌}
-use Rattle.nz_fractions.specs.Fraction.{whole, denominator, over, fraction_eq, fraction_lt, fraction_cmp, neg_ℚ, ◌+ℚ◌, ◌-ℚ◌, ◌*ℚ◌, reduce, exact, outcome}
+use Rattle.nz_fractions.specs.Fraction.{Fraction, whole, denominator, over, fraction_eq, fraction_lt, fraction_cmp, neg_ℚ, ◌+ℚ◌, ◌-ℚ◌, ◌*ℚ◌, reduce, exact, outcome}
 use Rattle.nz_fractions.proofs.Laws.{=ℚ_refl}
 use Rattle.nz_fractions.proofs.Solver.{solve}
 use Rattle.nz_spec.specs.numbers.Infinitesimal.{Infinitesimal, infinitesimal_cmp}
 use Rattle.nz_spec.specs.numbers.Computation.{at_once, in_turn}
 use Rattle.nz_spec.specs.terms.Term.{over_int, sum, Assignment, is_true, value_of}
 use Rattle.nz_spec.specs.terms.Normal.{paired}
-use Rattle.nz_spec.specs.terms.Form.{Part}
+use Rattle.nz_spec.specs.terms.Form.{Part, reordered}
+use Rattle.nz_spec.specs.terms.Same.{are_same_term}
 use Rattle.nz_spec.specs.terms.Model.{IsAssignment}
-use Rattle.nz_spec.specs.clauses.Literal.{Literal, is_literal_true}
+use Rattle.nz_spec.specs.clauses.Literal.{Literal, SayTheSame, is_literal_true}
 use Rattle.nz_spec.specs.clauses.Gates.{fails}
 use Rattle.nz_spec.specs.clauses.Links.{at_most_literal}
 use Rattle.nz_spec.specs.simplex.Basis.{Coefficients, IsZeroAtBasic, IsRow}
@@ -30,9 +31,10 @@ use Rattle.nz_spec.specs.search.Legal.{after_lines, Lead}
 use Rattle.nz_spec.specs.search.Work.{PivotEntry, UnitLine}
 use Rattle.nz_spec.specs.worked.TermSamples.{x_term, y_term, numeral_term}
 use Rattle.nz_spec.specs.worked.WorkedArithmetic.{sample_order, part}
-use Rattle.nz_spec.specs.worked.WorkedWork.{sum_term, sum_from_one, pivot_task, opening, pivot_lines, HasPivot, three_forms, later_task, later_lines, HasLaterCheck}
+use Rattle.nz_spec.specs.worked.WorkedWork.{sum_term, sum_from_one, pivot_task, opening, pivot_lines, HasPivot, three_forms, later_task, later_lines, HasLaterCheck, sum_turned_round, HasEitherOrder}
 use Rattle.nz_spec.proofs.LegalWork.{goes_on}
 use Rattle.nz_spec.proofs.MoreTerms.{more_terms_may_begin}
+use Rattle.nz_spec.proofs.SameSums.{say_back}
 use Rattle.nz_spec.proofs.Starts.{legal_work_may_begin}
 use Rattle.nz_spec.proofs.LinkTruths.{links_are_true}
 use Rattle.nz_spec.proofs.WorkedWork.{opened, none_other, one_known, no_values, only_second, above_zero, in_first_row, as_it_is}
@@ -207,7 +209,7 @@ later_lead =
           x,
           x,
           ([], refl),
-          (record { atom = of_table sum_bound; fresh = has_none _; negation_fresh = has_none _ }, refl),
+          (record { atom = of_table sum_bound; fresh = All-nil _; negation_fresh = All-nil _ }, refl),
           (
             x,
             moved_by three_forms sum_from_one x,
@@ -235,4 +237,31 @@ later_check = record {
     begun = omega arith;
     spread = no_values later_task;
   };
+}
+
+-- ---- Orders of units
+
+turned_round : SayTheSame sum_turned_round sum_from_one
+turned_round = (reordered (record { before = ((refl, tt), (tt, tt)); after = ((refl, tt), (tt, tt)); alike = λ u. either (are_same_term y_term u) (are_same_term x_term u) }), refl)
+  where
+    one : Option Fraction
+    one = Some (whole (negsuc 0))
+
+    either : (a b : Bool) → (if a then one else if b then one else None) ≡ (if b then one else if a then one else None)
+    either true true = refl
+    either true false = refl
+    either false true = refl
+    either false false = refl
+
+pub either_order : HasEitherOrder
+either_order = record {
+  known = record {
+    plain = sum_from_one;
+    tabled = sum_tabled;
+    written = sum_turned_round;
+    same = turned_round;
+    is_tight = false;
+    is = refl;
+  };
+  refused = λ s x has may. All-contains (λ (m : Literal). SayTheSame m sum_turned_round → ⊥) s.atoms sum_from_one may.fresh has (say_back sum_turned_round sum_from_one turned_round);
 }

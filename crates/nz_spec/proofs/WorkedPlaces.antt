@@ -1,5 +1,5 @@
 -- The worked place is where its list ends.
-use Rattle.std.proofs.Common.{◌≡◌, inr, ℕ, zero, suc, Bool, true, false, List, [], ◌∷◌, pos, Some, None, refl, sym, ap, subst, ◌∙◌, arith, true≢false}
+use Rattle.std.proofs.Common.{◌≡◌, inl, inr, ℕ, zero, suc, Bool, true, false, List, [], ◌∷◌, pos, Some, None, refl, sym, ap, subst, ◌∙◌, arith, true≢false}
 use Rattle.std.specs.Prelude.{Contains, IsTrue, if◌then◌else◌}
 use Rattle.std.proofs.lemmas.Option.{same_Some}
 use Rattle.std.proofs.lemmas.List.Elements.{All-nil, All-cons}
@@ -35,6 +35,7 @@ use Rattle.nz_spec.proofs.LinkTruths.{links_are_true}
 use Rattle.nz_spec.proofs.Sorted.{default_is}
 use Rattle.nz_spec.proofs.Starts.{legal_work_may_begin}
 use Rattle.nz_spec.proofs.Tables.{same_constant}
+use Rattle.nz_spec.proofs.SameSums.{say_itself}
 use Rattle.nz_spec.proofs.WorkedWork.{x_parts, joined_alone, opened, none_other, one_known, no_values, only_second, in_first_row, as_it_is}
 
 -- ---- The list
@@ -228,7 +229,7 @@ one_is_model = record {
 all_told : AreAllTold great_search
 unfolding denominator fraction_lt neg_ℚ
 all_told =
-    All-cons (λ (l : Literal). IsTrue (is_linear_literal l) → HasUnit l → WasTold great_search l) x_from_one [] (λ linear unit. (true, false, has_first x_from_one [])) (All-nil _)
+    All-cons (λ (l : Literal). IsTrue (is_linear_literal l) → HasUnit l → WasTold great_search l) x_from_one [] (λ linear unit. (x_from_one, say_itself x_from_one, true, false, has_first x_from_one [])) (All-nil _)
 
 pub great_worth : HasGreatWorth
 unfolding gcd_within gcd lcm denominator neg_ℚ is_wide_sum is_wide first_wide legal
@@ -237,5 +238,5 @@ great_worth = record {
   legal = legal;
   leaves = record { left = one_is_number; right = largest_is_number; wide = refl };
   due = all_told;
-  at = record { listed = (5, omega arith, refl); model = one_is_model; first = refl };
+  at = record { listed = (5, omega arith, refl); model = one_is_model; of = inl refl };
 }

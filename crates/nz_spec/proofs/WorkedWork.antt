@@ -1,20 +1,22 @@
 -- The worked lists of work are legal, and the lines that are refused may not follow.
-use Rattle.std.proofs.Common.{◌≡◌, ◌⊎◌, inl, inr, ℕ, zero, suc, ◌<◌, ◌≤◌, Bool, true, false, List, [], ◌∷◌, length, pos, refl, sym, ap, subst, ◌∙◌, arith, true≢false}
+use Rattle.std.proofs.Common.{◌≡◌, ◌⊎◌, inl, inr, ℕ, zero, suc, ◌<◌, ◌≤◌, Bool, true, false, List, [], ◌∷◌, length, pos, negsuc, refl, sym, ap, subst, ◌∙◌, arith, true≢false}
 use Rattle.std.specs.Prelude.{◌++◌, Option, unwrap_or, All, Contains, IsTrue, not, ◌||◌, Some, slice_get, ℤ}
 use Rattle.std.specs.List.{AllByRecursion}
 use Rattle.std.specs.declared.cmp.Ordering.TheVariants.{Less}
-use Rattle.std.proofs.lemmas.List.Elements.{All-nil, All-cons, All-contains}
-use Rattle.nz_lists.proofs.Members.{has_cases, has_first, has_none, has_found, each_of}
+use Rattle.std.proofs.lemmas.List.Elements.{All-nil, All-cons, All-contains, All-from_recursion}
+use Rattle.nz_lists.proofs.Members.{has_cases, has_first, has_none, has_found}
+use Rattle.nz_lists.proofs.Elements.{AllByRecursion-weaker}
 use Rattle.nz_lists.proofs.Tests.{no_contradiction}
 use Rattle.nz_ints.specs.Division.{gcd_within, gcd, floor_div}
 use Rattle.nz_fractions.specs.Fraction.{whole, denominator, over, fraction_eq, fraction_lt, fraction_cmp, ◌<ℚ◌, neg_ℚ, ◌+ℚ◌, ◌-ℚ◌, ◌*ℚ◌, ◌/ℚ◌, flipped, reciprocal, ratio, floor, ceiling, reduce, exact, outcome}
-use Rattle.nz_fractions.proofs.Order.{lt_from}
+use Rattle.nz_fractions.proofs.Laws.{=ℚ-from_same}
+use Rattle.nz_fractions.proofs.Order.{lt_from, fraction_eq-same}
 use Rattle.nz_spec.specs.numbers.Infinitesimal.{Infinitesimal, ◌=δ◌, infinitesimal_cmp}
 use Rattle.nz_spec.specs.numbers.Computation.{Computation, at_once, in_turn}
 use Rattle.nz_spec.specs.terms.Term.{Assignment, is_true, value_of, decimal_number, Term}
 use Rattle.nz_spec.specs.terms.Form.{Part}
 use Rattle.nz_spec.specs.terms.Model.{IsAssignment, IsModel}
-use Rattle.nz_spec.specs.clauses.Literal.{Literal, StandOnce, is_below, Clause, negation_of, are_same_literal, is_literal_true}
+use Rattle.nz_spec.specs.clauses.Literal.{Literal, StandOnce, is_below, Clause, negation_of, SayTheSame, is_literal_true}
 use Rattle.nz_spec.specs.clauses.Gates.{fails}
 use Rattle.nz_spec.specs.clauses.Links.{link_clauses, at_most_literal}
 use Rattle.nz_spec.specs.clauses.Units.{unit_clauses}
@@ -34,7 +36,7 @@ use Rattle.nz_spec.specs.worked.TermSamples.{a_term, x_term, alone, numeral_term
 use Rattle.nz_spec.specs.worked.WorkedSteps.{a_true}
 use Rattle.nz_spec.specs.worked.WorkedWork.{boolean_task, boolean_lines, HasSearches, HasSpentUnits, half_term, x_from_half, branch_task, opening, lines_to_half, branching_lines, one_term, x_up_to_one, HasBranch, HasRefusals}
 use Rattle.nz_spec.specs.worked.WorkedArithmetic.{sample_order, part, one_half, x_up_to_zero, x_from_one}
-use Rattle.nz_spec.proofs.Literals.{one_literal}
+use Rattle.nz_spec.proofs.SameSums.{say_itself, say_limits, broken_below}
 use Rattle.nz_spec.proofs.LinkTruths.{links_are_true}
 use Rattle.nz_spec.proofs.Starts.{legal_work_may_begin}
 use Rattle.nz_spec.proofs.LegalWork.{goes_on}
@@ -95,8 +97,8 @@ searches_lead =
         (
           record {
             atom = of_term a_is_truth;
-            fresh = has_none _;
-            negation_fresh = has_none _;
+            fresh = All-nil _;
+            negation_fresh = All-nil _;
           },
           refl,
         ),
@@ -155,9 +157,12 @@ spent_units = record {
 
 -- ---- A branch
 
--- a literal isn't in a list where the test tells it from each there
-not_in : (ls : List Literal) (m : Literal) → AllByRecursion (λ (l : Literal). are_same_literal l m ≡ false) ls → Contains ls m → ⊥
-not_in ls m others has = true≢false (sym (one_literal m) ∙ each_of (λ (l : Literal). are_same_literal l m ≡ false) ls others m has)
+-- no literal of a list says the same where the limits differ
+not_said : (ls : List Literal) (m : Literal) → AllByRecursion (λ (l : Literal). fraction_eq (bound_of l).limit (bound_of m).limit ≡ false) ls → All (λ (l : Literal). SayTheSame l m → ⊥) ls
+not_said ls m others =
+    All-from_recursion (λ (l : Literal). SayTheSame l m → ⊥) ls
+    (AllByRecursion-weaker (λ (l : Literal). fraction_eq (bound_of l).limit (bound_of m).limit ≡ false) (λ (l : Literal). SayTheSame l m → ⊥)
+    (λ l differ same. true≢false (sym (fraction_eq-same (bound_of l).limit (bound_of m).limit (=ℚ-from_same (say_limits l m same))) ∙ differ)) ls others)
 
 abbrev pub x_parts : List Part
 x_parts = part (pos 1) x_term ∷ []
@@ -197,7 +202,7 @@ in_first_row ts t l row listed first linear has =
 
 -- an atom of the tables, as it is
 pub as_it_is : (ts : List Term) (l : Literal) → IsTabled sample_order ts l → IsBoundOf sample_order ts l
-as_it_is ts l tabled = record { plain = l; tabled = tabled; is_tight = false; is = refl }
+as_it_is ts l tabled = record { plain = l; tabled = tabled; written = l; same = say_itself l; is_tight = false; is = refl }
 
 -- the point of a sum that joins alone
 abbrev pub joined_alone : Literal → Point
@@ -218,7 +223,7 @@ opened q l bound linear follows =
         x,
         x,
         ([], refl),
-        (record { atom = of_table bound; fresh = has_none l; negation_fresh = has_none (negation_of l) }, refl),
+        (record { atom = of_table bound; fresh = All-nil _; negation_fresh = All-nil _ }, refl),
         (
           x,
           y,
@@ -286,7 +291,9 @@ half_within side bound i breaks =
 
 half_meets : IsBroken half_position x_from_half → ⊥
 unfolding denominator over fraction_eq fraction_lt neg_ℚ
-half_meets broken = infinitesimals_are_ordered.never_less half_value (sym (infinitesimals_move.ordered broken.value half_value half_value half_value (stands broken.value broken.has) (infinitesimals_move.itself half_value)) ∙ broken.outside)
+half_meets broken =
+    let (v, has, below) = broken_below half_position x_parts (over (negsuc 0) 2) broken in
+    infinitesimals_are_ordered.never_less half_value (sym (infinitesimals_move.ordered v half_value half_value half_value (stands v has) (infinitesimals_move.itself half_value)) ∙ below)
 
 abbrev with_atoms : List Literal → Search
 with_atoms ls = record half_search { atoms = ls }
@@ -305,8 +312,8 @@ may_branch ls =
       new = All-nil (λ (b : Branch). LiesBetween half_position b → ⊥);
       within = half_within;
       meets = All-cons Met x_from_half [] (λ has broken. half_meets broken) (All-nil Met);
-      all_told = All-cons Told x_from_half (x_below_half ∷ []) (λ has. (true, false, has_first x_from_half []))
-          (All-cons Told x_below_half [] (λ has. (false, false, has_first x_from_half [])) (All-nil Told));
+      all_told = All-cons Told x_from_half (x_below_half ∷ []) (λ has. (x_from_half, say_itself x_from_half, true, false, has_first x_from_half []))
+          (All-cons Told x_below_half [] (λ has. (x_below_half, say_itself x_below_half, false, false, has_first x_from_half [])) (All-nil Told));
     }
 
 branch_lead : Lead branch_task half_search at_half branching_lines at_half
@@ -320,8 +327,8 @@ branch_lead =
       (
         record {
           atom = of_split (may_branch (x_from_half ∷ []));
-          fresh = not_in (x_from_half ∷ []) x_up_to_zero (refl, tt);
-          negation_fresh = not_in (x_from_half ∷ []) (negation_of x_up_to_zero) (refl, tt);
+          fresh = not_said (x_from_half ∷ []) x_up_to_zero (refl, tt);
+          negation_fresh = not_said (x_from_half ∷ []) (negation_of x_up_to_zero) (refl, tt);
         },
         refl,
       ),
@@ -343,8 +350,8 @@ branch_lead =
           (
             record {
               atom = of_branch x_up_to_zero (1, omega arith, refl) (has_first (branch_by x_up_to_zero) []) refl;
-              fresh = not_in two x_from_one (refl, (refl, tt));
-              negation_fresh = not_in two (negation_of x_from_one) (refl, (refl, tt));
+              fresh = not_said two x_from_one (refl, (refl, tt));
+              negation_fresh = not_said two (negation_of x_from_one) (refl, (refl, tt));
             },
             refl,
           ),
@@ -418,8 +425,8 @@ refusing_lead = (
   (
     record {
       atom = of_table (one_bound branch_task.listed (6, omega arith, refl));
-      fresh = not_in (x_from_half ∷ []) x_up_to_one (refl, tt);
-      negation_fresh = not_in (x_from_half ∷ []) (negation_of x_up_to_one) (refl, tt);
+      fresh = not_said (x_from_half ∷ []) x_up_to_one (refl, tt);
+      negation_fresh = not_said (x_from_half ∷ []) (negation_of x_up_to_one) (refl, tt);
     },
     refl,
   ),

@@ -7,3 +7,4 @@ pub mod Links
 pub mod Literal
 pub mod Steps
 pub mod Units
+pub mod Wishes

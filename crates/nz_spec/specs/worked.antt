@@ -5,4 +5,5 @@ pub mod WorkedBasis
 pub mod WorkedFamilies
 pub mod WorkedPlaces
 pub mod WorkedSteps
+pub mod WorkedWishes
 pub mod WorkedWork

@@ -1,9 +1,10 @@
 //! Laws of work lists.
 ghost use Rattle.nz_spec.specs.search.Branches.{BranchesAreFew};
-ghost use Rattle.nz_spec.specs.laws.LegalWork.{LegalBranchesAreFew, LegalWorkDoesNotRepeat, LegalWorkGoesOn, LegalWorkMayBegin, MoreTermsMayBegin, PivotsAreLegal, PlainWorkIsLegal};
+ghost use Rattle.nz_spec.specs.laws.LegalWork.{LegalBranchesAreFew, LegalWorkDoesNotRepeat, LegalWorkGoesOn, LegalWorkMayBegin, MoreTermsMayBegin, NegationsHaveNoRows, PivotsAreLegal, PlainAtomsAreOne, PlainWorkIsLegal, RenumberedWorkIsLegal};
 ghost use Rattle.nz_spec.specs.laws.MoreTerms.{MoreTermsEndLegally};
 ghost use Rattle.nz_spec.specs.worked.WorkedPlaces.{HasGreatWorth, HasScaling};
-ghost use Rattle.nz_spec.specs.worked.WorkedWork.{HasBranch, HasClimb, HasLaterCheck, HasPivot, HasRefusals, HasSearches, HasSpentUnits};
+ghost use Rattle.nz_spec.specs.worked.WorkedWishes.{HasWishes};
+ghost use Rattle.nz_spec.specs.worked.WorkedWork.{HasBranch, HasClimb, HasEitherOrder, HasLaterCheck, HasPivot, HasRefusals, HasSearches, HasSpentUnits};
 
 /// A legal list goes on by a line that may follow.
 pub fn legal_work_goes_on()
@@ -41,6 +42,21 @@ pub fn more_terms_end_legally()
     ensures ends { MoreTermsEndLegally }
 {}
 
+/// Atoms of terms and of their tables that say the same are one, where the units of sums stand in the order of their numbers.
+pub fn plain_atoms_are_one()
+    ensures one { PlainAtomsAreOne }
+{}
+
+/// The tables have nothing of a negation, and its form is the negation alone.
+pub fn negations_have_no_rows()
+    ensures none { NegationsHaveNoRows }
+{}
+
+/// What is legal where the units of sums are numbered in one way is legal where they are numbered in another.
+pub fn renumbered_work_is_legal()
+    ensures legal { RenumberedWorkIsLegal }
+{}
+
 /// Marks that stand for gaps or none are few where each gap is one of them at most, and of two neighbours one is a gap.
 pub fn branches_are_few()
     ensures few { BranchesAreFew }
@@ -60,10 +76,17 @@ pub fn worked_work()
     ensures pivot { HasPivot }
     ensures later { HasLaterCheck }
     ensures refusals { HasRefusals }
+    ensures orders { HasEitherOrder }
 {}
 
 /// A list that ends where the value of a term leaves the numbers, and columns that are scaled to integers.
 pub fn worked_places()
     ensures worth { HasGreatWorth }
     ensures scaling { HasScaling }
+{}
+
+/// Groups of wishes: what they come to, and where weights leave the numbers.
+#[tactic(auto, using(crate::proofs::WorkedWishes::wishes))]
+pub fn worked_wishes()
+    ensures wishes { HasWishes }
 {}

@@ -23,7 +23,7 @@ pub use assign::{Assign, Value};
 pub use companions::add_companions;
 pub use heads::{Constant, Head, NumberSort, Operator, Sort, operators_are_no_leaves};
 pub use instances::instance;
-pub use listings::listing_order;
+pub use listings::{companion, listing_order};
 pub use nodes::{Node, TermId};
 pub use order::post_order;
 pub use stops::ArithmeticStop;

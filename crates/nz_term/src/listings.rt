@@ -83,8 +83,12 @@ fn list_term(terms: &Terms, listing: &mut Listing, id: TermId) -> Result<(), Mem
     }
 }
 
-/// The number of what a term list has just before this term.
-fn companion(terms: &Terms, id: TermId) -> Result<Option<TermId>, Memory>
+/// The number of what a term list has just before this term, where it has something: its companion.
+///
+/// # Errors
+///
+/// `Memory`.
+pub fn companion(terms: &Terms, id: TermId) -> Result<Option<TermId>, Memory>
     requires within { id < length terms.now }
     requires companions { HasCompanions terms.now }
     ensures companion { IfOk result (AreCompanions terms.now (term_in terms.now id)) }

@@ -1,5 +1,5 @@
 //! Assumed literals, whose terms are covered above all levels, for one check.
-ghost use Rattle.std.specs.Prelude.{◌≡◌, ◌<◌, ℕ, ◌≤◌, All, List, length, IfErr, IsSome, OnOk};
+ghost use Rattle.std.specs.Prelude.{◌≡◌, ◌⊎◌, ◌<◌, ℕ, ◌≤◌, [], ◌∷◌, All, List, length, IfErr, IsSome, OnOk};
 ghost use Rattle.nz_spec.specs.terms.Order.{HasCompanions};
 ghost use Rattle.nz_spec.specs.terms.Table.{term_in};
 ghost use Rattle.nz_spec.specs.terms.Taken.{IsTaken};
@@ -7,8 +7,8 @@ ghost use Rattle.nz_log.specs.Logs.{told_level};
 ghost use Rattle.nz_cform.specs.Covering.{Covers};
 ghost use Rattle.nz_cform.specs.Forms.{covered_at};
 ghost use Rattle.nz_engine.specs.Checking.{AreCovered, AreTakenAt, IsRootStop, IsTermStop, terms_named};
-ghost use Rattle.nz_engine.specs.Levels.{count_of};
-ghost use Rattle.nz_engine.specs.Preparing.{IsAssumable, IsPrepared, IsStanding};
+ghost use Rattle.nz_search.specs.Levels.{Level};
+ghost use Rattle.nz_engine.specs.Preparing.{Extends, IsAllAdded, IsAssumable, IsMadeOf, IsStanding};
 
 use super::Prepared;
 use crate::levels::Levels;
@@ -28,10 +28,10 @@ impl Prepared {
         requires companions { HasCompanions terms.now }
         requires told { (t : ℕ) → told_level self.old.log t ≤ level }
         requires covers { Covers terms.now self.old.log self.old.form }
-        ensures stands { OnOk result ((levels : List (List ℕ)) (more : List ℕ) → IsAssumable terms.now levels more term level self.old → IsStanding terms.now levels more self.new) }
+        ensures stands { OnOk result ((levels : List Level) (more : List ℕ) → IsAssumable terms.now levels more term level self.old → IsStanding terms.now levels more self.new) }
         ensures covered { OnOk result (IsSome (covered_at self.new.form term)) }
-        ensures stays { OnOk result ((t : ℕ) → IsSome (covered_at self.old.form t) → IsSome (covered_at self.new.form t)) }
-        ensures given { OnOk result (self.new.given ≡ self.old.given) }
+        ensures made { OnOk result ((t : ℕ) → IsSome (covered_at self.new.form t) → IsSome (covered_at self.old.form t) ⊎ IsMadeOf terms.now (term ∷ []) t) }
+        ensures extends { OnOk result (Extends self.old self.new) }
         ensures theory { self.new.sat.theory ≡ self.old.sat.theory }
         ensures stop { IfErr result (IsTermStop terms.now (term_in terms.now term)) }
     {
@@ -62,11 +62,12 @@ impl Prepared {
         requires within { All (λ t. t < length terms.now) (terms_named assumed.now) }
         requires taken { AreTakenAt terms.now (terms_named assumed.now) }
         requires companions { HasCompanions terms.now }
-        requires stands { IsPrepared terms.now levels.now levels.now self.old }
-        requires all_given { count_of levels.now ≡ self.old.given }
-        ensures stands { OnOk result (IsStanding terms.now levels.now (terms_named assumed.now) self.new) }
+        requires stands { (more : List ℕ) × IsStanding terms.now levels.now more self.old }
+        requires all { IsAllAdded levels.now self.old }
+        ensures stands { OnOk result ((more : List ℕ) × IsStanding terms.now levels.now more self.new) }
         ensures covered { OnOk result (AreCovered self.new assumed.now) }
-        ensures given { OnOk result (self.new.given ≡ self.old.given) }
+        ensures made { OnOk result ((t : ℕ) → IsSome (covered_at self.new.form t) → IsSome (covered_at self.old.form t) ⊎ IsMadeOf terms.now (terms_named assumed.now) t) }
+        ensures extends { OnOk result (Extends self.old self.new) }
         ensures theory { self.new.sat.theory ≡ self.old.sat.theory }
         ensures stop { IfErr result (IsRootStop terms.now (terms_named assumed.now)) }
     {

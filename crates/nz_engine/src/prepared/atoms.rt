@@ -1,10 +1,11 @@
 //! The atoms of a search: which covered terms are Boolean, and the notes of atoms.
-ghost use Rattle.std.specs.Prelude.{◌≡◌, ◌<◌, ◌++◌, All, length, IfOk, OnOk};
+ghost use Rattle.std.specs.Prelude.{◌≡◌, ◌<◌, ◌++◌, [], ◌∷◌, All, length, IfOk, OnOk};
 ghost use Rattle.nz_spec.specs.clauses.Gates.{is_boolean_term};
 ghost use Rattle.nz_spec.specs.terms.Table.{term_in};
-ghost use Rattle.nz_engine.specs.Checking.{NotesFirst, atom_lines, note_of};
-ghost use Rattle.nz_engine.specs.Preparing.{boolean_term, boolean_terms};
+ghost use Rattle.nz_engine.specs.Checking.{AreMarksOf, NotesFirst, atom_lines, note_of};
+ghost use Rattle.nz_engine.specs.Preparing.{Names, boolean_term, boolean_terms};
 
+use super::values::marks_of;
 use nz_base::{Memory, Work};
 use nz_log::{Atom, AtomId, Log};
 use nz_search::Note;
@@ -39,7 +40,7 @@ fn add_boolean(terms: &Terms, term: TermId, booleans: &mut Vec<TermId>) -> Resul
 }
 
 /// Whether a term is Boolean.
-fn is_boolean(terms: &Terms, term: TermId) -> bool
+pub fn is_boolean(terms: &Terms, term: TermId) -> bool
     requires within { term < length terms.now }
     ensures boolean { result ≡ is_boolean_term (term_in terms.now term) }
 {
@@ -76,4 +77,51 @@ pub(super) fn note_atoms(
         work.note(line)?;
     }
     Ok(())
+}
+
+/// Names an atom, unless it is named. What is named is marked, by the numbers of atoms.
+fn name_atom(atoms: &mut Vec<AtomId>, is_named: &mut [bool], atom: AtomId) -> Result<(), Memory>
+    requires within { atom < length is_named.old }
+    requires marked { AreMarksOf atoms.old.items is_named.old }
+    ensures marked { OnOk result (AreMarksOf atoms.new.items is_named.new) }
+    ensures names { OnOk result (Names atoms.old.items (atom ∷ []) atoms.new.items) }
+    ensures long { length is_named.new ≡ length is_named.old }
+{
+    if !is_named[atom] {
+        is_named[atom] = true;
+        atoms.push(atom)?;
+    }
+    Ok(())
+}
+
+/// Names these atoms too.
+fn name_more(atoms: &mut Vec<AtomId>, is_named: &mut [bool], more: &[AtomId]) -> Result<(), Memory>
+    requires within { All (λ i. i < length is_named.old) more.now }
+    requires marked { AreMarksOf atoms.old.items is_named.old }
+    ensures marked { OnOk result (AreMarksOf atoms.new.items is_named.new) }
+    ensures names { OnOk result (Names atoms.old.items more.now atoms.new.items) }
+    ensures long { length is_named.new ≡ length is_named.old }
+{
+    for atom in more {
+        name_atom(atoms, is_named, *atom)?;
+    }
+    Ok(())
+}
+
+/// Names these atoms too, and then the others: each that isn't among those that are named comes behind them. There are so many atoms.
+pub(super) fn name_atoms(
+    alloc: Global,
+    atoms: &mut Vec<AtomId>,
+    count: usize,
+    more: &[AtomId],
+    others: &[AtomId],
+) -> Result<(), Memory>
+    requires old_within { All (λ i. i < count) atoms.old.items }
+    requires within { All (λ i. i < count) more.now }
+    requires others_within { All (λ i. i < count) others.now }
+    ensures names { OnOk result (Names atoms.old.items (more.now ++ others.now) atoms.new.items) }
+{
+    let mut is_named = marks_of(alloc, count, atoms)?;
+    name_more(atoms, &mut is_named, more)?;
+    name_more(atoms, &mut is_named, others)
 }

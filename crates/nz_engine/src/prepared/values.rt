@@ -92,9 +92,10 @@ fn values_of(
 }
 
 /// By the numbers of terms, of which there are so many, whether each is among these.
-fn marks_of(alloc: Global, count: usize, listed: &[TermId]) -> Result<Vec<bool>, Memory>
+pub(super) fn marks_of(alloc: Global, count: usize, listed: &[TermId]) -> Result<Vec<bool>, Memory>
     requires within { All (λ t. t < count) listed.now }
     ensures marks { IfOk result (λ ms. AreMarksOf listed.now ms.items) }
+    ensures long { IfOk result (λ ms. length ms.items ≡ count) }
 {
     let mut marks = vec![in alloc; false; count]?;
     for term in listed {

@@ -1,12 +1,12 @@
 -- Which reply to a thing heard is right, and what it leaves (SMT-LIB 2.6, section 4.2).
-use Rattle.std.specs.Prelude.{◌≡◌, ℕ, Bool, true, false, not, List, [], ◌∷◌, ◌++◌, map, filter, flat_map, drop, Option, Some, None, ◌⊎◌, if◌then◌else◌}
+use Rattle.std.specs.Prelude.{◌≡◌, ℕ, Bool, true, false, not, List, [], ◌∷◌, ◌++◌, map, flat_map, drop, Option, Some, None, ◌⊎◌, if◌then◌else◌}
 use Rattle.std.specs.List.{repeat}
 use Rattle.nz_script.specs.text.Tree.{Tree}
 use Rattle.nz_spec.specs.terms.Term.{Term, Assignment}
 use Rattle.nz_spec.specs.terms.Normal.{negated, normal_of}
-use Rattle.nz_spec.specs.clauses.Gates.{is_boolean_term}
 use Rattle.nz_spec.specs.clauses.Literal.{Literal, term_literal, is_at_most, is_below}
-use Rattle.nz_spec.specs.terms.Form.{Numbering, TellsApart, Part}
+use Rattle.nz_spec.specs.terms.Form.{Part}
+use Rattle.nz_spec.specs.terms.FormOf.{place_of}
 use Rattle.nz_script.specs.text.Text.{What, intact, faulty, unclosed, unread}
 use Rattle.nz_spec.specs.outside.Error.{nothing_to_show, incomplete, out_of_memory}
 use Rattle.nz_spec.specs.terms.Model.{assignment_of, AreModel, IsUnsatisfiable}
@@ -50,21 +50,18 @@ normal_literal (term_literal t sign) = term_literal (normal_of t) sign
 normal_literal (is_at_most ps b) = is_at_most (map normal_part ps) b
 normal_literal (is_below ps b) = is_below (map normal_part ps) b
 
--- what a check under these assumed literals asks a search: whether the normal terms can be true, where units of sums stand in the order of these numbers
-abbrev pub task_of : Numbering → Context → List Literal → Task
-task_of number c assumed = record {
+-- what a check under these assumed literals asks a search: whether the normal terms can be true. Units are numbered by their places in the list.
+abbrev pub task_of : Context → List Literal → Task
+task_of c assumed = record {
   asserted = map normal_of (assertions_of c.state);
   assumed = map normal_literal assumed;
   goals = [];
+  groups = [];
   listed = listed_under c.state assumed;
-  numbering = number;
+  numbering = place_of (listed_under c.state assumed);
   earlier = c.earlier;
   earlier_goals = [];
 }
-
--- the terms that aren't of sort Bool, among which units of sums are
-abbrev pub numeric_among : List Term → List Term
-numeric_among ts = filter (λ (t : Term). not (is_boolean_term t)) ts
 
 -- An answer to a check under these assumed literals.
 abbrev pub IsRightCheck : Context → List Literal → Reply → Cause → Type 0
@@ -73,10 +70,10 @@ IsRightCheck c assumed unsat cause = IsUnsatisfiable (assertions_of c.state) ass
 -- Each unit of the limit was used, step by step as a search may.
 IsRightCheck c assumed (unknown r) plain = ⊥
 IsRightCheck c assumed (unknown r) (spent list) =
-    (r ≡ units_spent c.limit) × (list.limit ≡ c.limit) × (number : Numbering) × TellsApart number (numeric_among (listed_under c.state assumed)) × IsSpentLegally (task_of number c assumed) list
+    (r ≡ units_spent c.limit) × (list.limit ≡ c.limit) × IsSpentLegally (task_of c assumed) list
 -- An operation left the numbers, at its place.
 IsRightCheck c assumed (unknown r) (stopped place list) =
-    (r ≡ number_left place.operation) × (list.limit ≡ c.limit) × (number : Numbering) × TellsApart number (numeric_among (listed_under c.state assumed)) × IsStoppedLegally (task_of number c assumed) list place
+    (r ≡ number_left place.operation) × (list.limit ≡ c.limit) × IsStoppedLegally (task_of c assumed) list place
 IsRightCheck c assumed reply cause = ⊥
 
 -- what the last answer shows, where it has something to show

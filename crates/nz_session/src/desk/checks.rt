@@ -16,7 +16,7 @@ ghost use Rattle.nz_sort.specs.Assuming.{AreAssumed};
 ghost use Rattle.nz_sort.specs.Live.{asserted_by};
 ghost use Rattle.nz_session.specs.Assumed.{IsTakenAt};
 ghost use Rattle.nz_session.specs.Desk.{BeginsOver};
-ghost use Rattle.nz_session.specs.Told.{IsTold};
+ghost use Rattle.nz_session.specs.Told.{IsTold, only_asserted};
 ghost use Rattle.nz_session.specs.Undecided.{IfUndecided, IsUndecided};
 
 use super::{Answer, Desk, said};
@@ -24,6 +24,7 @@ use crate::assumed::are_consistent;
 use crate::told::{ToldExtent, tell};
 use nz_base::{Error, Memory, Work};
 use nz_reply::Reply;
+use nz_search::laws::checks_may_start;
 use nz_search::{Decide, Note, Stop, Verdict};
 use nz_sort::Live;
 use nz_spec::deciding::normal_terms_are_taken;
@@ -103,9 +104,10 @@ fn decide<E: Decide>(
     ensures unsat { IfOk result (λ v. OnUnsat v (IsUnsatisfiable (asserted_terms terms.now (asserted_by live.now)) (map (literal_of terms.now) assumed.now))) }
     ensures undecided { (ts : List term.Term) → E.begins engine.old ts → IfErr result (λ s. IfUndecided s (IsUndecided terms.now (asserted_by live.now) assumed.now ts limit work.new)) }
     ensures front { IsFrontOfTable (E.table engine.new) terms.now }
-    ensures begins { (ts : List term.Term) → BeginsOver E.begins engine.old ts → BeginsOver E.begins engine.new (terms_known (task_in terms.now (asserted_by live.now) assumed.now ts)) }
+    ensures begins { (ts : List term.Term) → BeginsOver E.begins engine.old ts → BeginsOver E.begins engine.new (terms_known (task_in terms.now (map only_asserted (asserted_by live.now)) assumed.now ts)) }
 {
-    tell(engine, told, live)?;
+    checks_may_start();
+    tell(engine, told, live, terms)?;
     work.reserve(limit)?;
     engine.check(terms, assumed, work)
 }

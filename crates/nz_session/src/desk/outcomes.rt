@@ -23,12 +23,12 @@ use nz_place::Place;
 use nz_reply::{Cause, Reason, Reply, Stopped, WorkDone};
 use nz_script::transcript::{assertions_are_over, assumptions_are_taken};
 use nz_search::Decide;
-use nz_spec::form::term_has_its_number;
+use nz_spec::form::{listings_may_renumber, places_tell_apart, term_has_its_number};
 use nz_spec::table::term_of_node;
 use nz_spec::term::{
     constants_tell_values, decimals_are_numbers, normal_keeps_value, numerals_are_whole,
 };
-use nz_spec::work::more_terms_end_legally;
+use nz_spec::work::{more_terms_end_legally, negations_have_no_rows, renumbered_work_is_legal};
 use nz_term::{Assign, known_table};
 use std::alloc::{AllocError, Global};
 use std::rc::Rc;
@@ -54,6 +54,10 @@ impl<E: Decide> Desk<E> {
         ensures terms { table_of self.new ≡ table_of self.old }
     {
         more_terms_end_legally();
+        renumbered_work_is_legal();
+        negations_have_no_rows();
+        places_tell_apart();
+        listings_may_renumber();
         known_table(&self.terms);
         term_of_node();
         term_has_its_number();

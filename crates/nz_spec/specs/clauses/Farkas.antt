@@ -63,6 +63,10 @@ multiples_onto number x (m ∷ ms) =
 abbrev pub sum_of_multiples : Numbering → List Multiple → Computation Bound
 sum_of_multiples number ms = multiples_onto number empty_bound ms
 
+-- the sums that these literals bound
+abbrev pub sums_of : List Multiple → List (List Part)
+sums_of ms = map (λ (m : Multiple). (bound_of m.literal).parts) ms
+
 -- ---- The clause
 
 -- No unit is left, and 0 isn't within the limit.

@@ -7,7 +7,7 @@ use Rattle.nz_fractions.specs.Fraction.{Fraction, neg_ℚ, fraction_le, fraction
 use Rattle.nz_spec.specs.terms.Term.{Term, Assignment, is_true, value_of}
 unfoldable pub use Rattle.nz_spec.specs.terms.Same.{sort_number, head_kind, head_digits, head_place, head_name, head_numbers, are_same_head, are_same_term, are_same_terms, TellsHeads}
 use Rattle.nz_spec.specs.terms.Same.{are_same_fraction}
-use Rattle.nz_spec.specs.terms.Form.{Part, negated_part, parts_value}
+use Rattle.nz_spec.specs.terms.Form.{Part, AreSameSum, negated_part, parts_value}
 
 -- ---- Literals
 
@@ -39,6 +39,13 @@ are_same_literal (term_literal t p) (term_literal u q) = are_same_term t u && ar
 are_same_literal (is_at_most ps b) (is_at_most qs c) = are_same_parts ps qs && are_same_fraction b c
 are_same_literal (is_below ps b) (is_below qs c) = are_same_parts ps qs && are_same_fraction b c
 are_same_literal l m = false
+
+-- Two literals say the same where they are one but for the order of the units in their sums.
+abbrev pub SayTheSame : Literal → Literal → Type 0
+SayTheSame (term_literal t p) (term_literal u q) = (t ≡ u) × (p ≡ q)
+SayTheSame (is_at_most ps b) (is_at_most qs c) = AreSameSum ps qs × (b ≡ c)
+SayTheSame (is_below ps b) (is_below qs c) = AreSameSum ps qs × (b ≡ c)
+SayTheSame l m = ⊥
 
 abbrev pub is_literal_true : Assignment → Literal → Bool
 is_literal_true a (term_literal t sign) = are_same_sign sign (is_true (value_of a t))

@@ -2,23 +2,28 @@
 use Rattle.std.specs.Prelude.{◌≡◌, ℕ, ◌≤◌, ◌+◌, ◌*◌, Bool, true, false, ◌⊎◌, List, [], ◌∷◌, ◌++◌, map, count_by, All, Contains, Some, slice_get}
 use Rattle.nz_fractions.specs.Fraction.{whole}
 use Rattle.nz_spec.specs.numbers.Infinitesimal.{Infinitesimal}
-use Rattle.nz_spec.specs.terms.Term.{Term, apply, at_most, terms, no_terms}
-use Rattle.nz_spec.specs.terms.Form.{Part, constant_form}
+use Rattle.nz_spec.specs.numbers.Computation.{at_once}
+use Rattle.nz_spec.specs.terms.Term.{negation, Term, apply, at_most, Terms, terms, no_terms}
+use Rattle.nz_spec.specs.terms.Form.{Numbering, Part, constant_form, unit_form}
 use Rattle.nz_spec.specs.terms.FormOf.{form_of}
-use Rattle.nz_spec.specs.clauses.Literal.{Literal, term_literal, AreSameSet, StandOnce}
+use Rattle.nz_spec.specs.clauses.Literal.{Literal, term_literal, negation_of, SayTheSame, AreSameSet, StandOnce}
+use Rattle.nz_spec.specs.clauses.Links.{link_clauses}
+use Rattle.nz_spec.specs.clauses.Units.{unit_clauses}
 use Rattle.nz_spec.specs.simplex.Basis.{IsBasis}
 use Rattle.nz_spec.specs.simplex.Bland.{Point, Position, is_nonbasic}
 use Rattle.nz_spec.specs.simplex.PositionMoves.{AreConsistent}
 use Rattle.nz_spec.specs.simplex.Pivots as pivots
 use Rattle.nz_spec.specs.simplex.Pivots.{Pivot}
-use Rattle.nz_spec.specs.search.Work.{PivotEntry, BranchEntry, WorkLine, UnitLine}
-use Rattle.nz_spec.specs.search.Notes.{Note}
+use Rattle.nz_spec.specs.search.Work.{PivotEntry, BranchEntry, WorkLine, UnitLine, WorkList}
+use Rattle.nz_spec.specs.search.Notes.{Note, Place}
 use Rattle.nz_spec.specs.clauses.Goals.{Goal}
 use Rattle.nz_spec.specs.search.Branches.{is_integer_of, Range, total_width}
 use Rattle.nz_spec.specs.search.Search.{Task, terms_known, goals_known, Search, at_first, no_point, literal_by, told_literals, position_of}
 use Rattle.nz_spec.specs.search.Atoms.{IsTruth, IsTabled}
 use Rattle.nz_spec.specs.search.Beginnings.{IsKnownForm, IsKnownPlace, MayBegin}
-use Rattle.nz_spec.specs.search.Legal.{after_lines, MayFollow, Lead, AreLegal}
+use Rattle.nz_spec.specs.search.Legal.{after_lines, MayFollow, Lead, AreLegal, IsSpentLegally}
+use Rattle.nz_spec.specs.search.Places.{IsStoppedLegally}
+use Rattle.nz_spec.specs.laws.Renumbering.{MayRenumber}
 
 -- ---- Lists that go on
 
@@ -41,9 +46,10 @@ pub record PivotsAreLegal : Type 0 where
 
 -- ---- What stands once
 
--- Of atoms, negated or not, just those of one number are one literal.
+-- Of atoms, negated or not, just those of one number say the same.
 abbrev pub AreNamedApart : List Literal → Type 0
-AreNamedApart atoms = (i j : ℕ) (a b : Bool) (l m : Literal) → slice_get atoms i ≡ Some l → slice_get atoms j ≡ Some m → literal_by atoms (i, a) ≡ literal_by atoms (j, b) → i ≡ j
+AreNamedApart atoms = (i j : ℕ) (a b : Bool) (l m : Literal) → slice_get atoms i ≡ Some l → slice_get atoms j ≡ Some m
+    → SayTheSame (literal_by atoms (i, a)) (literal_by atoms (j, b)) → i ≡ j
 
 -- nothing stands twice where a check stands
 pub record IsWithoutRepeats (s : Search) : Type 0 where
@@ -92,6 +98,41 @@ pub record MoreTermsMayBegin : Type 0 where
   pub legal : (q : Task) (listed earlier : List Term) (earlier_goals : List Goal) (lines : List (WorkLine Note)) → ((t : Term) → Contains q.listed t → Contains listed t)
       → ((t : Term) → Contains q.earlier t → Contains earlier t) → ((g : Goal) → Contains q.earlier_goals g → Contains earlier_goals g)
       → AreLegal q lines → AreLegal (record q { listed = listed; earlier = earlier; earlier_goals = earlier_goals }) lines
+
+-- ---- Other numberings
+
+-- By any numbering the term's form is the term alone, and the tables have no row of it.
+pub record HasNoRows (t : Term) : Type 0 where
+  pub form : (number : Numbering) → form_of number t ≡ at_once (unit_form t)
+  pub rows : (number : Numbering) → link_clauses number t ++ unit_clauses number t ≡ []
+
+-- A negation is such a term.
+abbrev pub NegationsHaveNoRows : Type 0
+NegationsHaveNoRows = (ts : Terms) → HasNoRows (apply negation ts)
+
+-- Another numbering, which tells terms apart as the task's does. What is asserted is among them, and each listed term is, or has no rows.
+pub record MayRenumberTask (q : Task) (numbering : Numbering) : Type 0 where
+  pub terms : List Term
+  pub may : MayRenumber q.numbering numbering terms
+  pub asserted : All (Contains terms) q.asserted
+  pub listed : All (λ (t : Term). Contains terms t ⊎ HasNoRows t) q.listed
+
+-- Where the numbers tell the terms apart, truths of terms and literals of their tables that say the same are one, and so are one of them and the negation of
+-- another.
+pub record PlainAtomsAreOne : Type 0 where
+  pub same : (number : Numbering) (us ts : List Term) → MayRenumber number number us → All (λ (t : Term). Contains us t ⊎ HasNoRows t) ts
+      → (l m : Literal) → IsTruth ts l ⊎ IsTabled number ts l → IsTruth ts m ⊎ IsTabled number ts m → SayTheSame l m → l ≡ m
+  pub negation : (number : Numbering) (us ts : List Term) → MayRenumber number number us → All (λ (t : Term). Contains us t ⊎ HasNoRows t) ts
+      → (l m : Literal) → IsTruth ts l ⊎ IsTabled number ts l → IsTruth ts m ⊎ IsTabled number ts m → SayTheSame l (negation_of m) → l ≡ negation_of m
+
+-- What is legal by one numbering is legal by another.
+pub record RenumberedWorkIsLegal : Type 0 where
+  pub legal : (q : Task) (numbering : Numbering) (lines : List (WorkLine Note)) → MayRenumberTask q numbering
+      → AreLegal q lines → AreLegal (record q { numbering = numbering }) lines
+  pub spent : (q : Task) (numbering : Numbering) (work : WorkList Note) → MayRenumberTask q numbering
+      → IsSpentLegally q work → IsSpentLegally (record q { numbering = numbering }) work
+  pub stopped : (q : Task) (numbering : Numbering) (work : WorkList Note) (place : Place) → MayRenumberTask q numbering
+      → IsStoppedLegally q work place → IsStoppedLegally (record q { numbering = numbering }) work place
 
 -- ---- How many branches
 

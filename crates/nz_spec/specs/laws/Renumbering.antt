@@ -1,13 +1,12 @@
 -- Sums, forms, clauses and derivations whose units are numbered anew: they stay the same, with the parts of each sum in another order.
 -- The order of a sum's parts, and so of the operations on it, is this solver's own.
-use Rattle.std.specs.Prelude.{◌≡◌, ◌<◌, List, [], ◌∷◌, map, Contains, Option, Some, None, ⊤, if◌then◌else◌}
+use Rattle.std.specs.Prelude.{◌≡◌, ◌<◌, List, [], ◌∷◌, map, flat_map, Contains, Option, Some, None, ⊤}
 use Rattle.std.specs.List.{AllByRecursion}
-use Rattle.nz_fractions.specs.Fraction.{Fraction, Arithmetic, first_wide}
+use Rattle.nz_fractions.specs.Fraction.{Fraction, Arithmetic, Operation}
 use Rattle.nz_spec.specs.numbers.Computation.{Computation}
 use Rattle.nz_spec.specs.terms.Term.{Head, Term, apply, Terms}
-use Rattle.nz_spec.specs.terms.Same.{are_same_term}
-use Rattle.nz_spec.specs.terms.Order.{companions_of}
-use Rattle.nz_spec.specs.terms.Form.{Numbering, TellsApart, Part, Form, negated_part, parts_joined, parts_scaled}
+use Rattle.nz_spec.specs.terms.Order.{companions_of, listing_order}
+use Rattle.nz_spec.specs.terms.Form.{Numbering, TellsApart, Part, Form, AreAlike, negated_part, parts_joined, parts_scaled}
 use Rattle.nz_spec.specs.terms.FormOf.{form_of}
 use Rattle.nz_spec.specs.clauses.Literal.{Literal, term_literal, is_at_most, is_below, Clause}
 use Rattle.nz_spec.specs.clauses.Gates.{list_of}
@@ -15,18 +14,10 @@ use Rattle.nz_spec.specs.clauses.Links.{link_clauses}
 use Rattle.nz_spec.specs.clauses.Units.{unit_clauses}
 use Rattle.nz_spec.specs.clauses.Farkas.{Multiple}
 use Rattle.nz_spec.specs.clauses.Goals.{Goal}
+use Rattle.nz_spec.specs.clauses.Wishes.{Wish, cost_of, wishes_form}
 use Rattle.nz_spec.specs.clauses.Steps.{Held, Claim, Premises, Step, given_step, hold_step, beat_step, gate_step, link_step, unit_step, farkas_step, branch_step, cut_step, resolve_step, IsDerivation, StepsFit}
 
 -- ---- Sums by their units
-
--- the coefficient of a unit in a sum, where it has one
-abbrev pub found : Term → List Part → Option Fraction
-found u [] = None
-found u (p ∷ ps) = if are_same_term p.unit u then Some p.coefficient else found u ps
-
--- each unit has the same coefficient in both, or none
-abbrev pub AreAlike : List Part → List Part → Type 0
-AreAlike ps qs = (u : Term) → found u ps ≡ found u qs
 
 -- The units are of these, and stand in the order of their numbers.
 abbrev pub IsOrdered : Numbering → List Term → List Part → Type 0
@@ -39,10 +30,10 @@ pub record IsRenumbered (m n : Numbering) (us : List Term) (ps qs : List Part) :
   pub after : IsOrdered n us qs
   pub alike : AreAlike ps qs
 
--- Two computations come to what is related, and where the first one stays within the numbers, so does the second.
+-- Two computations come to what is related, and each operation of the second is one of the first.
 pub record GoTogether {A B : Type 0} (R : A → B → Type 0) (c : Computation A) (d : Computation B) : Type 0 where
   pub result : R c.result d.result
-  pub fits : first_wide c.operations ≡ None → first_wide d.operations ≡ None
+  pub operations : (op : Operation) → Contains d.operations op → Contains c.operations op
 
 -- ---- Forms and clauses
 
@@ -144,6 +135,16 @@ pub record TermsRenumber : Type 0 where
   pub forms : (m n : Numbering) (us : List Term) → MayRenumber m n us → (t : Term) → Contains us t → GoTogether (FormsRenumber m n us) (form_of m t) (form_of n t)
   pub links : (m n : Numbering) (us : List Term) → MayRenumber m n us → (t : Term) → Contains us t → TablesRenumber m n us (link_clauses m t) (link_clauses n t)
   pub units : (m n : Numbering) (us : List Term) → MayRenumber m n us → (t : Term) → Contains us t → TablesRenumber m n us (unit_clauses m t) (unit_clauses n t)
+
+-- So is the form of a group of wishes, whose costs are among the terms.
+abbrev pub GroupsRenumber : Type 0
+GroupsRenumber = (m n : Numbering) (us : List Term) → MayRenumber m n us → (ws : List Wish) → AllByRecursion (λ (w : Wish). Contains us (cost_of w)) ws
+    → GoTogether (FormsRenumber m n us) (wishes_form m ws) (wishes_form n ws)
+
+-- What terms are made of, with companions, holds what it is made of, and their companions: so numberings that tell that apart may take one another's place.
+abbrev pub ListingsMayRenumber : Type 0
+ListingsMayRenumber = (m n : Numbering) (us : List Term) → TellsApart m (flat_map listing_order us) → TellsApart n (flat_map listing_order us)
+    → MayRenumber m n (flat_map listing_order us)
 
 -- A derivation stays one where the units are numbered anew, and fits where it fitted: with its sums in the other order it derives its clauses with theirs in
 -- that order.

@@ -9,19 +9,18 @@ use Rattle.nz_spec.specs.numbers.Infinitesimal.{Infinitesimal}
 use Rattle.nz_spec.specs.numbers.Computation.{Computation}
 use Rattle.nz_spec.specs.terms.Term.{Term, apply, at_most, terms, no_terms}
 use Rattle.nz_spec.specs.terms.Order.{listing_order}
-use Rattle.nz_spec.specs.terms.Form.{Numbering, Part}
-use Rattle.nz_spec.specs.clauses.Literal.{Literal, term_literal, is_at_most, negation_of, Clause}
+use Rattle.nz_spec.specs.terms.Form.{Numbering, Part, IsOrderOf}
+use Rattle.nz_spec.specs.clauses.Literal.{Literal, term_literal, is_at_most, negation_of, SayTheSame, Clause}
 use Rattle.nz_spec.specs.clauses.LinearLiteral.{parts_of, are_integral, common_divisor, is_without_units, tight_form}
 use Rattle.nz_spec.specs.clauses.Gates.{is_boolean_term}
 use Rattle.nz_spec.specs.clauses.Links.{link_clauses, at_most_literal}
 use Rattle.nz_spec.specs.clauses.Units.{unit_clauses}
-use Rattle.nz_spec.specs.clauses.Farkas.{Multiple, Bound, sum_of_multiples, is_multiple, is_linear_literal, bound_of}
+use Rattle.nz_spec.specs.clauses.Farkas.{Multiple, Bound, sums_of, sum_of_multiples, is_multiple, is_linear_literal, bound_of}
 use Rattle.nz_spec.specs.clauses.Cuts.{rounded_limit}
 use Rattle.nz_spec.specs.simplex.Basis.{Coefficients, IsRow}
-use Rattle.nz_spec.specs.simplex.Bland.{Point, Position, Side, lower_side, upper_side, is_nonbasic, ◌<δ◌, standing, IsOutside, IsWithinBounds}
-use Rattle.nz_spec.specs.simplex.LiteralBounds.{turned, bound_on_side}
+use Rattle.nz_spec.specs.simplex.Bland.{Point, Position, is_nonbasic, ◌<δ◌, standing, at_most_bound, IsWithinBounds}
 use Rattle.nz_spec.specs.simplex.Climb.{linear_literals}
-use Rattle.nz_spec.specs.search.Branches.{Branch, is_turned, branch_at, is_plain}
+use Rattle.nz_spec.specs.search.Branches.{Branch, branch_at, is_plain}
 use Rattle.nz_spec.specs.search.Search.{Task, Search, signed_literal, tight_if, told_literals, position_of, HasWorth}
 
 -- ---- Literals of the tables
@@ -35,12 +34,14 @@ pub record IsTabled (number : Numbering) (ts : List Term) (l : Literal) : Type 0
   pub linear : IsTrue (is_linear_literal l)
   pub has : Contains row.result l ⊎ Contains row.result (negation_of l)
 
--- such a literal, as it is or in its tight form
+-- such a literal, with its units in any order, as it is or in its tight form
 pub record IsBoundOf (number : Numbering) (ts : List Term) (l : Literal) : Type 0 where
   pub plain : Literal
   pub tabled : IsTabled number ts plain
+  pub written : Literal
+  pub same : SayTheSame written plain
   pub is_tight : Bool
-  pub is : l ≡ tight_if is_tight plain
+  pub is : l ≡ tight_if is_tight written
 
 -- That a Boolean one of these terms is true.
 pub record IsTruth (ts : List Term) (l : Literal) : Type 0 where
@@ -51,19 +52,11 @@ pub record IsTruth (ts : List Term) (l : Literal) : Type 0 where
 
 -- ---- Bounds at a position
 
--- the side on which a bound on a sum from above bounds the turned sum
-abbrev pub side_of : List Part → Side
-side_of ps = side_if (is_turned ps)
-  where
-    side_if : Bool → Side
-    side_if true = lower_side
-    side_if false = upper_side
-
--- A linear literal bounds its turned sum, and that is worth more, or less, at this position.
+-- A linear literal bounds its sum from above, and the sum is worth more at this position.
 pub record IsBroken (p : Position) (l : Literal) : Type 0 where
   pub value : Infinitesimal
-  pub has : HasWorth p (turned (parts_of l)) value
-  pub outside : IsOutside (side_of (parts_of l)) (bound_on_side (side_of (parts_of l)) (bound_of l).is_strict (bound_of l).limit) value
+  pub has : HasWorth p (parts_of l) value
+  pub outside : at_most_bound (bound_of l).is_strict (bound_of l).limit <δ value
 
 -- The sum of a branch lies between its two integers.
 pub record LiesBetween (p : Position) (b : Branch) : Type 0 where
@@ -95,13 +88,15 @@ pub record AreOfRow (p : Position) (ms : List Multiple) (sum : List Part) : Type
   pub each : All (λ (m : Multiple). (c : Fraction) × IsOfRow (length p.forms) row c × (m.multiplier =ℚ c *ℚ factor)) ms
   pub scaled : (factor ≡ whole (pos 1)) ⊎ (IsTrue (are_integral sum) × (common_divisor sum ≡ 1))
 
--- The literal is what a cut says of literals that were told.
-pub record IsCut (q : Task) (s : Search) (x : Point) (l : Literal) : Type 0 where
+-- The literal is what a cut says of literals that were told, whose sums are in one order.
+pub record IsCut (s : Search) (x : Point) (l : Literal) : Type 0 where
   pub multiples : List Multiple
   pub multiplied : IsTrue (list_all is_multiple multiples)
   pub told : All (λ (m : Multiple). Contains (told_literals s) m.literal) multiples
+  pub numbering : Numbering
+  pub ordered : IsOrderOf numbering (sums_of multiples)
   pub sum : Bound
-  pub sums : (sum_of_multiples q.numbering multiples).result ≡ sum
+  pub sums : (sum_of_multiples numbering multiples).result ≡ sum
   pub integral : IsTrue (are_integral sum.parts)
   pub says : l ≡ is_at_most sum.parts (rounded_limit sum).result
   pub multipliers : AreOfRow (position_of s x) multiples sum.parts
@@ -111,7 +106,7 @@ pub record IsCut (q : Task) (s : Search) (x : Point) (l : Literal) : Type 0 wher
 -- A branch is plain, or one of a cut behind none or a plain one.
 pub data IsInTurn (q : Task) (s : Search) (x : Point) (l : Literal) (b : Branch) : Type 0 where
   on_unit : is_plain q.listed b.parts ≡ true → IsInTurn q s x l b
-  on_cut : is_plain q.listed b.parts ≡ false → IsCut q s x l
+  on_cut : is_plain q.listed b.parts ≡ false → IsCut s x l
       → ((i : ℕ) (c : Branch) → suc i ≡ length s.branches → slice_get s.branches i ≡ Some c → is_plain q.listed c.parts ≡ true)
       → IsInTurn q s x l b
 
@@ -124,9 +119,9 @@ bounds_asserted number t = []
 abbrev pub HasUnit : Literal → Type 0
 HasUnit l = is_without_units (parts_of l) ≡ false
 
--- It was told with one of its signs, as it is or in its tight form.
+-- It was told, with its units in any order, with one of its signs, as it is or in its tight form.
 abbrev pub WasTold : Search → Literal → Type 0
-WasTold s l = (sign is_tight : Bool) × Contains (told_literals s) (tight_if is_tight (signed_literal l sign))
+WasTold s l = (m : Literal) × SayTheSame m l × (sign is_tight : Bool) × Contains (told_literals s) (tight_if is_tight (signed_literal m sign))
 
 -- A search may branch on a literal where its sum lies between two integers, and no sum that was branched on lies so. All bounds of what is asserted were
 -- told, and no bound is broken.
@@ -159,11 +154,11 @@ pub data IsAtom (q : Task) (s : Search) (x : Point) (l : Literal) : Type 0 where
   of_split : MayBranch q s x l → IsAtom q s x l
   of_branch : (m : Literal) → Contains s.atoms m → Contains s.branches (branch_by m) → l ≡ other_side_of m → IsAtom q s x l
 
--- It is named once, negated or not.
+-- It is named once, negated or not, and in one order of its units.
 pub record MayName (q : Task) (s : Search) (x : Point) (l : Literal) : Type 0 where
   pub atom : IsAtom q s x l
-  pub fresh : Contains s.atoms l → ⊥
-  pub negation_fresh : Contains s.atoms (negation_of l) → ⊥
+  pub fresh : All (λ (m : Literal). SayTheSame m l → ⊥) s.atoms
+  pub negation_fresh : All (λ (m : Literal). SayTheSame m (negation_of l) → ⊥) s.atoms
 
 -- The last atom that was named is one to branch on.
 pub record MayBranchOn (q : Task) (s : Search) (x : Point) (atom : ℕ) : Type 0 where

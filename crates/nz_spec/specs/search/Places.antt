@@ -1,35 +1,65 @@
 -- Where an operation may leave the numbers in a check: the computations of terms, rows, values, sums and bounds that are made there.
 -- Sources: Dutertre and de Moura, A Fast Linear-Arithmetic Solver for DPLL(T), CAV 2006, sections 3 to 5; Gomory, Outline of an algorithm for integer
 -- solutions to linear programs, 1958. The order of the operations is this solver's own.
-use Rattle.std.specs.Prelude.{◌≡◌, ℕ, suc, ◌<◌, ◌≤◌, true, false, ◌⊎◌, List, [], ◌∷◌, ◌++◌, length, map, flat_map, take, All, Contains, Some, IsTrue, slice_get, ⊤, ℤ, pos, ◌+ℤ◌}
+use Rattle.std.specs.Prelude.{◌≡◌, ℕ, suc, ◌<◌, ◌≤◌, true, false, ◌⊎◌, List, [], ◌∷◌, ◌++◌, length, map, flat_map, take, All, Contains, Some, None, IsTrue, slice_get, ⊤, ℤ, pos, ◌+ℤ◌}
 use Rattle.std.specs.List.{list_all}
 use Rattle.nz_fractions.specs.Fraction.{Fraction, whole, ◌=ℚ◌, ◌≤ℚ◌, neg_ℚ, ◌*ℚ◌, reduce, Sum, Difference, Product, Quotient, outcome, Operation, is_wide, IsNumber, first_wide}
 use Rattle.nz_spec.specs.numbers.Infinitesimal.{Infinitesimal, Pair, at, is_limiting, limit_operations, IsLeastLimit}
 use Rattle.nz_spec.specs.numbers.Computation.{Computation}
-use Rattle.nz_spec.specs.terms.Term.{Term, Constant, int_sort, is_bool, sort_of, truth, number, Assignment, default_value}
+use Rattle.nz_spec.specs.terms.Term.{Term, Constant, int_sort, is_bool, sort_of, truth, number, Assignment, is_true, value_of, default_value}
 use Rattle.nz_spec.specs.terms.Model.{Binding, assignment_of, ValuesFit, IsModel}
 use Rattle.nz_spec.specs.terms.Operations.{operations_of}
 use Rattle.nz_spec.specs.terms.Order.{listing_order}
-use Rattle.nz_spec.specs.terms.Form.{Numbering, Part, unit_form}
+use Rattle.nz_spec.specs.terms.Form.{Numbering, Part, IsOrderOf, unit_form}
 use Rattle.nz_spec.specs.terms.FormOf.{form_of}
 use Rattle.nz_spec.specs.clauses.Literal.{Literal, Clause, StandOnce}
 use Rattle.nz_spec.specs.clauses.LinearLiteral.{is_whole, are_integral, tight_form}
 use Rattle.nz_spec.specs.clauses.Links.{link_clauses}
 use Rattle.nz_spec.specs.clauses.Units.{unit_clauses}
-use Rattle.nz_spec.specs.clauses.Farkas.{Multiple, is_multiple, is_linear_literal, sum_of_multiples, is_contradiction}
+use Rattle.nz_spec.specs.clauses.Farkas.{Multiple, is_multiple, is_linear_literal, sums_of, sum_of_multiples, is_contradiction}
 use Rattle.nz_spec.specs.clauses.Cuts.{cut_clause}
 use Rattle.nz_spec.specs.simplex.Basis.{Coefficients, IsRow, IsCoefficient}
 use Rattle.nz_spec.specs.simplex.BasisMoves.{Rows, AreRows, AreNumbered, exchange, joining_row}
 use Rattle.nz_spec.specs.simplex.Bland.{Point, is_nonbasic, row_value, Position, HasValue, Side, lower_side, upper_side, bound_on, IsWithinBounds}
-use Rattle.nz_spec.specs.simplex.Climb.{Course, steady, along, Family, units_in, terms_in, unit_of}
+use Rattle.nz_spec.specs.simplex.Climb.{IsInRange, Course, steady, along, Family, member, units_in, terms_in, unit_of}
 use Rattle.nz_spec.specs.simplex.Families.{line_of, IsSteady, operations_along, form_line_operations, scaled_to_integers}
 use Rattle.nz_spec.specs.clauses.Goals.{Goal}
+use Rattle.nz_spec.specs.clauses.Wishes.{Wish, Group, cost_of, wish_joined, wishes_form, wishes_goal, penalty}
 use Rattle.nz_spec.specs.search.Work.{WorkLine, NoteLine, WorkList, unit_count}
 use Rattle.nz_spec.specs.search.Notes.{Note, form_note, goal_note, Site, term_site, goal_site, joining_site, exchange_site, value_site, sum_site, cut_site, tight_site, split_site, move_site, limit_site, model_site, worth_site, line_site, goal_line_site, scaling_site, Place}
 use Rattle.nz_spec.specs.search.Search.{Task, Found, Search, at_first, no_point, told_literals, position_of, HasWorth, IsHeld}
 use Rattle.nz_spec.specs.search.Atoms.{AreOfRow, HasUnit, WasTold}
 use Rattle.nz_spec.specs.search.Beginnings.{IsComparison}
 use Rattle.nz_spec.specs.search.Legal.{after_lines, Lead, IsExchange, AreLegal}
+
+-- ---- Groups of wishes
+
+-- A wish of a group, which has these before it. The group's goal is the sum of the group, by some numbering.
+pub record IsWishOf (q : Task) (before : List Wish) (w : Wish) : Type 0 where
+  pub group : Group
+  pub listed : Contains q.groups group
+  pub behind : List Wish
+  pub wishes : group.wishes ≡ before ++ w ∷ behind
+  pub number : Numbering
+  pub goal : slice_get q.goals group.goal ≡ Some (wishes_goal number group.wishes)
+
+-- The term is the cost of a wish, whose weight times it joins the sum of those before.
+pub record IsOfWish (q : Task) (t : Term) (op : Operation) : Type 0 where
+  pub before : List Wish
+  pub wish : Wish
+  pub is_wish : IsWishOf q before wish
+  pub cost : cost_of wish ≡ t
+  pub of : Contains (wish_joined is_wish.number (wishes_form is_wish.number before).result wish).operations op
+
+-- The term is the cost of a wish that is false, whose weight is added to those of the false ones before; these had a sum among the numbers.
+pub record IsOfPenalty (q : Task) (a : Assignment) (t : Term) (op : Operation) : Type 0 where
+  pub before : List Wish
+  pub wish : Wish
+  pub is_wish : IsWishOf q before wish
+  pub cost : cost_of wish ≡ t
+  pub unmet : is_true (value_of a wish.term) ≡ false
+  pub fits : first_wide (penalty a before).operations ≡ None
+  pub of : op ≡ record { operator = Sum; left = (penalty a before).result; right = wish.weight }
 
 -- ---- Terms
 
@@ -38,10 +68,10 @@ abbrev pub term_operations : Numbering → Term → List Operation
 term_operations numbering t =
     (form_of numbering t).operations ++ flat_map (λ (c : Computation Clause). c.operations) (link_clauses numbering t ++ unit_clauses numbering t)
 
--- a listed term
+-- a listed term: an operation of its own, which are the same by any numbering that tells the listed terms apart, or of a group's sum at it
 pub record IsOfTerm (q : Task) (t : Term) (op : Operation) : Type 0 where
   pub listed : Contains q.listed t
-  pub of : Contains (term_operations q.numbering t) op
+  pub of : Contains (term_operations q.numbering t) op ⊎ IsOfWish q t op
 
 -- a goal compared with a number with which a search may go: the number less what the goal adds
 pub record IsOfGoal (q : Task) (s : Search) (x : Point) (goal : ℕ) (op : Operation) : Type 0 where
@@ -89,9 +119,12 @@ pub record AreMultiplesOf (literals : List Literal) (ms : List Multiple) : Type 
   pub apart : StandOnce (map (λ (m : Multiple). m.literal) ms)
   pub multiplied : IsTrue (list_all is_multiple ms)
 
--- Such multiples, by the sizes of the coefficients of a row, sum to a contradiction; the first operation of the sum that leaves the numbers.
-pub record IsOfSum (number : Numbering) (literals : List Literal) (p : Position) (ms : List Multiple) (op : Operation) : Type 0 where
+-- Such multiples, by the sizes of the coefficients of a row, sum to a contradiction; the first operation of the sum that leaves the numbers. The sums of
+-- the literals are in one order.
+pub record IsOfSum (literals : List Literal) (p : Position) (ms : List Multiple) (op : Operation) : Type 0 where
   pub multiples : AreMultiplesOf literals ms
+  pub number : Numbering
+  pub ordered : IsOrderOf number (sums_of ms)
   pub form : ℕ
   pub listed : form < length p.forms
   pub row : Coefficients
@@ -101,8 +134,10 @@ pub record IsOfSum (number : Numbering) (literals : List Literal) (p : Position)
   pub first : first_wide (sum_of_multiples number ms).operations ≡ Some op
 
 -- Such multiples, by a row, sum to a sum of integers, whose bound is rounded.
-pub record IsOfCut (number : Numbering) (literals : List Literal) (p : Position) (ms : List Multiple) (op : Operation) : Type 0 where
+pub record IsOfCut (literals : List Literal) (p : Position) (ms : List Multiple) (op : Operation) : Type 0 where
   pub multiples : AreMultiplesOf literals ms
+  pub number : Numbering
+  pub ordered : IsOrderOf number (sums_of ms)
   pub multipliers : AreOfRow p ms (sum_of_multiples number ms).result.parts
   pub integral : IsTrue (are_integral (sum_of_multiples number ms).result.parts)
   pub first : first_wide (cut_clause number ms).operations ≡ Some op
@@ -211,11 +246,11 @@ pub record IsModelAt (q : Task) (p : Position) (bs : List Binding) : Type 0 wher
   pub fits : ValuesFit bs
   pub makes : IsModel q.asserted q.assumed (assignment_of bs)
 
--- the first operation of a listed term's value at that model
+-- the first operation of a listed term's value at that model, or that of a group's value at the term
 pub record IsOfWorth (q : Task) (p : Position) (t : Term) (bs : List Binding) (op : Operation) : Type 0 where
   pub listed : Contains q.listed t
   pub model : IsModelAt q p bs
-  pub first : first_wide (operations_of (assignment_of bs) t) ≡ Some op
+  pub of : (first_wide (operations_of (assignment_of bs) t) ≡ Some op) ⊎ IsOfPenalty q (assignment_of bs) t op
 
 -- ---- Lines of terms along a family
 
@@ -272,12 +307,12 @@ pub data GoesFrom (p : Position) (f : Family) : Type 0 where
   by_infinitesimals : All (λ (c : Constant × Course). Goes (IsInfinitesimalPart p) p c.0 c.1) f.courses → GoesFrom p f
   by_column : (moves : ℕ) (scale : Fraction) → All (λ (c : Constant × Course). Goes (IsScaledCoefficient p moves scale) p c.0 c.1) f.courses → GoesFrom p f
 
--- the first operation of a listed term's line along a steady family
+-- the first operation of a listed term's line along a steady family, or that of a group's value at the term, at a member of the family
 pub record IsOfLine (q : Task) (s : Search) (p : Position) (t : Term) (f : Family) (op : Operation) : Type 0 where
   pub listed : Contains q.listed t
   pub steady : IsSteadyFor q s f
   pub goes : GoesFrom p f
-  pub first : first_wide (operations_along f t) ≡ Some op
+  pub of : (first_wide (operations_along f t) ≡ Some op) ⊎ ((at : Fraction) × IsInRange f.range at × IsOfPenalty q (member f at) t op)
 
 -- that of the line of a goal's form
 pub record IsOfGoalLine (q : Task) (s : Search) (p : Position) (goal : ℕ) (f : Family) (op : Operation) : Type 0 where
@@ -306,16 +341,16 @@ pub record IsOfScaling (p : Position) (forms : List ℕ) (moves : ℕ) (op : Ope
 -- ---- Places
 
 -- an operation of the computation at a site, of a simplex that was told these literals, at a position
-abbrev pub IsOperationIn : Numbering → List Literal → Position → Site → Operation → Type 0
-IsOperationIn numbering told p joining_site op = IsOfJoining p op
-IsOperationIn numbering told p (exchange_site leaves enters) op = IsOfExchange p leaves enters op
-IsOperationIn numbering told p (value_site form) op = IsOfValue p form op
-IsOperationIn numbering told p (sum_site ms) op = IsOfSum numbering told p ms op
-IsOperationIn numbering told p (cut_site ms) op = IsOfCut numbering told p ms op
-IsOperationIn numbering told p (move_site form moves side) op = IsOfMove p form moves side op
-IsOperationIn numbering told p (limit_site form side) op = IsOfLimit p form side op
-IsOperationIn numbering told p (scaling_site forms moves) op = IsOfScaling p forms moves op
-IsOperationIn numbering told p site op = ⊥
+abbrev pub IsOperationIn : List Literal → Position → Site → Operation → Type 0
+IsOperationIn told p joining_site op = IsOfJoining p op
+IsOperationIn told p (exchange_site leaves enters) op = IsOfExchange p leaves enters op
+IsOperationIn told p (value_site form) op = IsOfValue p form op
+IsOperationIn told p (sum_site ms) op = IsOfSum told p ms op
+IsOperationIn told p (cut_site ms) op = IsOfCut told p ms op
+IsOperationIn told p (move_site form moves side) op = IsOfMove p form moves side op
+IsOperationIn told p (limit_site form side) op = IsOfLimit p form side op
+IsOperationIn told p (scaling_site forms moves) op = IsOfScaling p forms moves op
+IsOperationIn told p site op = ⊥
 
 -- and where a check stands
 abbrev pub IsOperationAt : Task → Search → Point → Site → Operation → Type 0
@@ -327,7 +362,7 @@ IsOperationAt q s x (model_site form) op = IsOfModel q.listed (position_of s x) 
 IsOperationAt q s x (worth_site t bs) op = IsOfWorth q (position_of s x) t bs op
 IsOperationAt q s x (line_site t f) op = IsOfLine q s (position_of s x) t f op
 IsOperationAt q s x (goal_line_site goal f) op = IsOfGoalLine q s (position_of s x) goal f op
-IsOperationAt q s x site op = IsOperationIn q.numbering (told_literals s) (position_of s x) site op
+IsOperationAt q s x site op = IsOperationIn (told_literals s) (position_of s x) site op
 
 -- the last of these lines is that of a form that joins
 abbrev pub EndWithForm : List (WorkLine Note) → Type 0

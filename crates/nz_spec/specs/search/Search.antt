@@ -17,15 +17,18 @@ use Rattle.nz_spec.specs.simplex.LiteralBounds.{position_under}
 use Rattle.nz_spec.specs.search.Notes.{Telling, told_atom, told_under}
 use Rattle.nz_spec.specs.search.Branches.{Branch}
 use Rattle.nz_spec.specs.clauses.Goals.{Goal, goal_value}
+use Rattle.nz_spec.specs.clauses.Wishes.{Group}
 
 -- ---- What is asked
 
 -- Whether the asserted terms and the assumed literals can be true together, and what the goals' best values are, in order. All live items are made of
--- the listed terms. The checks before were asked of earlier terms and goals. Units of sums stand in the order of their numbers.
+-- the listed terms. The groups of wishes name their goals by number. The checks before were asked of earlier terms and goals. In the forms of terms and in their
+-- tables units stand in the order of their numbers.
 pub record Task : Type 0 where
   pub asserted : List Term
   pub assumed : List Literal
   pub goals : List Goal
+  pub groups : List Group
   pub listed : List Term
   pub numbering : Numbering
   pub earlier : List Term

@@ -1,7 +1,7 @@
 -- Linear forms: units with coefficients, and a number that is added. What a form stands for, and how forms are added and scaled.
 -- Sources: SMT-LIB 2.6, logics LIRA and QF_LRA (linear terms); Dutertre and de Moura, A Fast Linear-Arithmetic Solver for
 -- DPLL(T), CAV 2006, section 3 (sums of variables with coefficients). The order of the operations is this solver's own.
-use Rattle.std.specs.Prelude.{◌≡◌, ℕ, ◌≤◌, nat_lt, false, List, [], ◌∷◌, map, Contains, pos, if◌then◌else◌, ⊤}
+use Rattle.std.specs.Prelude.{◌≡◌, ℕ, ◌≤◌, nat_lt, false, List, [], ◌∷◌, map, flat_map, All, Contains, Option, Some, None, pos, if◌then◌else◌, ⊤}
 use Rattle.std.specs.List.{AllByRecursion}
 use Rattle.nz_fractions.specs.Fraction.{Fraction, whole, neg_ℚ, ◌+ℚ◌, ◌*ℚ◌, Arithmetic, Difference}
 use Rattle.nz_spec.specs.numbers.Computation.{Computation, operated, at_once, turned_into, and_then}
@@ -64,6 +64,38 @@ AreRising number (p ∷ ps) = AllByRecursion (MayPrecede number p) ps × AreRisi
 pub record IsSum (number : Numbering) (f : Form) : Type 0 where
   pub rising : AreRising number f.parts
   pub nonzero : AllByRecursion (λ (p : Part). is_zero p.coefficient ≡ false) f.parts
+
+-- ---- One sum in any order
+
+-- the coefficient of a unit in a sum, where it has one
+abbrev pub found : Term → List Part → Option Fraction
+found u [] = None
+found u (p ∷ ps) = if are_same_term p.unit u then Some p.coefficient else found u ps
+
+-- each unit has the same coefficient in both, or none
+abbrev pub AreAlike : List Part → List Part → Type 0
+AreAlike ps qs = (u : Term) → found u ps ≡ found u qs
+
+-- no unit stands twice
+abbrev pub HaveOwnUnits : List Part → Type 0
+HaveOwnUnits [] = ⊤
+HaveOwnUnits (p ∷ ps) = AllByRecursion (λ (q : Part). are_same_term p.unit q.unit ≡ false) ps × HaveOwnUnits ps
+
+-- the same parts in two orders, with no unit twice
+pub record IsReordered (ps qs : List Part) : Type 0 where
+  pub before : HaveOwnUnits ps
+  pub after : HaveOwnUnits qs
+  pub alike : AreAlike ps qs
+
+-- Two sums are one but for the order of their units.
+pub data AreSameSum (ps qs : List Part) : Type 0 where
+  as_written : ps ≡ qs → AreSameSum ps qs
+  reordered : IsReordered ps qs → AreSameSum ps qs
+
+-- The numbers tell the units of these sums apart, and each sum has its units in the order of their numbers.
+pub record IsOrderOf (number : Numbering) (sums : List (List Part)) : Type 0 where
+  pub apart : TellsApart number (flat_map (λ (ps : List Part). map (λ (p : Part). p.unit) ps) sums)
+  pub rising : All (AreRising number) sums
 
 -- ---- Arithmetic
 

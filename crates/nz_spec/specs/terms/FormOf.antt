@@ -10,7 +10,7 @@ use Rattle.nz_spec.specs.terms.Linear.{head_constant, constant_values, is_linear
 use Rattle.nz_spec.specs.terms.Same.{are_same_term}
 use Rattle.nz_spec.specs.terms.Order.{post_order}
 use Rattle.nz_spec.specs.terms.Table.{Node, IsTable, with_term, term_in}
-use Rattle.nz_spec.specs.terms.Form.{Numbering, Part, Form, constant_form, unit_form, negated_form, all_joined, scaled, unit_value, form_value, IsSum}
+use Rattle.nz_spec.specs.terms.Form.{Numbering, TellsApart, Part, Form, constant_form, unit_form, negated_form, all_joined, scaled, unit_value, form_value, IsSum}
 
 -- Arithmetic opens these terms where they aren't constant. Any other term of sort Int or Real is a unit.
 abbrev pub is_opened : Head → Bool
@@ -118,3 +118,7 @@ TermHasItsNumber = (ns : List Node) → IsTable ns → (i : ℕ) → i < length 
 -- The units of a term's form are among what the term is made of.
 abbrev pub UnitsAreParts : Type 0
 UnitsAreParts = (number : Numbering) (t : Term) → AllByRecursion (λ (p : Part). Contains (post_order t) p.unit) (form_of number t).result.parts
+
+-- Places in a list tell apart what it has.
+abbrev pub PlacesTellApart : Type 0
+PlacesTellApart = (us : List Term) → TellsApart (place_of us) us

@@ -1,5 +1,5 @@
 -- Worked lists of work: each is legal line by line, and lines that may not follow.
-use Rattle.std.specs.Prelude.{ℕ, true, false, List, [], ◌∷◌, ◌++◌, Some, None, pos, negsuc}
+use Rattle.std.specs.Prelude.{ℕ, true, false, List, [], ◌∷◌, ◌++◌, Contains, Some, None, pos, negsuc}
 use Rattle.nz_fractions.specs.Fraction.{whole, over}
 use Rattle.nz_spec.specs.terms.Term.{over_int, at_most, decimal_number, sum, Term}
 use Rattle.nz_spec.specs.terms.Normal.{paired}
@@ -10,7 +10,8 @@ use Rattle.nz_spec.specs.simplex.Bland.{Point, zero_infinitesimal, standing}
 use Rattle.nz_spec.specs.search.Work.{DecisionEntry, LearnedEntry, PivotEntry, BranchEntry, FoundEntry, WorkLine, UnitLine, NoteLine}
 use Rattle.nz_spec.specs.search.Notes.{told_atom, told_under, Note, start_note, atom_note, form_note, goal_note, under_note, told_note}
 use Rattle.nz_spec.specs.clauses.Goals.{Goal}
-use Rattle.nz_spec.specs.search.Search.{Task, at_first, no_point}
+use Rattle.nz_spec.specs.search.Search.{Task, Search, at_first, no_point}
+use Rattle.nz_spec.specs.search.Atoms.{IsBoundOf, MayName}
 use Rattle.nz_spec.specs.search.Legal.{after_lines, MayFollow, Lead, AreLegal, IsSpentLegally}
 use Rattle.nz_spec.specs.worked.TermSamples.{a_term, x_term, y_term, alone, numeral_term, real_of}
 use Rattle.nz_spec.specs.worked.WorkedArithmetic.{sample_order, part, up_to, x_up_to_zero, x_from_one}
@@ -19,7 +20,7 @@ use Rattle.nz_spec.specs.worked.WorkedSteps.{a_true}
 -- terms are asserted, of those that are listed
 abbrev pub task_of : (asserted listed : List Term) → Task
 task_of asserted listed =
-    record { asserted = asserted; assumed = []; goals = []; listed = listed; numbering = sample_order; earlier = []; earlier_goals = [] }
+    record { asserted = asserted; assumed = []; goals = []; groups = []; listed = listed; numbering = sample_order; earlier = []; earlier_goals = [] }
 
 -- A search begins under nothing, names a bound, joins its sum to the forms, and tells the bound.
 abbrev pub opening : Literal → List (WorkLine Note)
@@ -143,3 +144,14 @@ pub record HasRefusals : Type 0 where
   pub lead : Lead branch_task at_first no_point refusing_lines point
   pub pivot : (i j : ℕ) (y : Point) → MayFollow branch_task (after_lines at_first refusing_lines) point (UnitLine (PivotEntry i j)) y → ⊥
   pub branch : (y : Point) → MayFollow branch_task (after_lines at_first refusing_lines) point (UnitLine (BranchEntry 1)) y → ⊥
+
+-- ---- Orders of units
+
+-- the same with y before x
+abbrev pub sum_turned_round : Literal
+sum_turned_round = up_to (part (negsuc 0) y_term ∷ part (negsuc 0) x_term ∷ []) (negsuc 0)
+
+-- Either order may be named, and the other one then not.
+pub record HasEitherOrder : Type 0 where
+  pub known : IsBoundOf sample_order pivot_task.listed sum_turned_round
+  pub refused : (s : Search) (x : Point) → Contains s.atoms sum_from_one → MayName pivot_task s x sum_turned_round → ⊥

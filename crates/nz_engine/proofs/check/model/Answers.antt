@@ -9,7 +9,7 @@ returns-clause-model c =
     let p = c.args.prepared.now in
     IfOk-weaker c.values.result (HasCoveredWorths ns p) _
     (λ ps covered levels assumed posed found.
-    made_true c.rows_meet_tables.ensures.met c.tables_decide.ensures.decide c.taken_terms_are_in_order.ensures.order c.term_has_its_number.ensures.number c.term_of_node.ensures.node c.assigns_by_number.ensures.listed
+    made_true c.rows_meet_tables.ensures.met c.tables_decide.ensures.decide c.term_has_its_number.ensures.number c.term_of_node.ensures.node c.assigns_by_number.ensures.listed
     c.atoms_of_terms.ensures.atoms ns levels assumed p posed found ps covered)
     c.values.ensures.worths
 

@@ -1,60 +1,29 @@
-use Rattle.std.proofs.Common.{rules, ◌≡◌, ◌<◌, ◌++◌, Err, IfErr, length, sym, subst, ◌∙◌}
-use Rattle.std.proofs.lemmas.List.Elements.{All-from_recursion, All-map, Contains-append_left, Contains-append_right}
-use Rattle.nz_spec.specs.search.Decide.{asserted_numbers}
-use Rattle.nz_spec.specs.terms.Taken.{IsTakenBoolean}
-use Rattle.nz_spec.specs.terms.Table.{term_in}
-use Rattle.nz_term.specs.declared.term_lits.TermLit.{TermLit}
-use Rattle.nz_reals.specs.Stands.{IsOver}
-use Rattle.nz_reals.specs.State.{Theory}
-use Rattle.nz_engine.specs.Checking.{IsRootStop, terms_named}
-use Rattle.nz_engine.specs.Engines.{theory_of}
-use Rattle.nz_engine.proofs.KeptState.{kept_rest, over_grown}
-use Rattle.nz_engine.proofs.CheckEnds.{root_more}
+-- What is asked is posed for the first check of a list, or a later one.
+use Rattle.std.proofs.Common.{rules, ◌≡◌, List, []}
+use Rattle.nz_spec.specs.terms.Term.{Term}
+use Rattle.nz_search.specs.Asked.{AreListedIn}
+use Rattle.nz_engine.specs.Checking.{AreCoveredAmong, IsPosed}
+use Rattle.nz_engine.specs.Engines.{prepared_of, theory_of}
+use Rattle.nz_engine.specs.Preparing.{Extends}
+use Rattle.nz_engine.proofs.KeptTheory.{may_anew, may_on, ok_three}
 use Rattle.nz_engine.proofs.check.posed.Goals as goal
 
-pub assume-requires-clause-within : goal.assume-requires-clause-within
-assume-requires-clause-within c =
-    let n = length c.args.terms.now in
-    All-map (λ t. t < n) (λ (l : TermLit). l.term) c.args.assumed.now (All-from_recursion (λ (l : TermLit). l.term < n) c.args.assumed.now c.requires.within)
-
-pub assume-requires-clause-taken : goal.assume-requires-clause-taken
-assume-requires-clause-taken c = All-map (λ t. IsTakenBoolean (term_in c.args.terms.now t)) (λ (l : TermLit). l.term) c.args.assumed.now c.requires.assumed_taken
-
-pub returns-clause-posed : goal.returns-clause-posed
-returns-clause-posed c =
+pub returns-then-is_empty-clause-may : goal.returns-then-is_empty-clause-may
+returns-then-is_empty-clause-may c =
     let ns = c.args.terms.now in
-    let n = length ns in
-    let same : c.assume.new.self.sat.theory ≡ theory_of c.args.kept = c.assume.ensures.theory ∙ c.add_assertions.ensures.theory ∙ c.in_ok-prepared.ensures.theory in
-    record {
-      table = c.known_table.ensures.table;
-      over = subst (λ (t : Theory). IsOver t ns) (sym same)
-          (over_grown c.theories_restart.ensures.restart c.requires.kept.0 ns (theory_of c.args.kept) c.requires.kept.1 c.known_table.ensures.table
-          (kept_rest c.requires.kept.0 c.args.levels.now c.args.kept c.requires.kept.2).over);
-      standing = c.in_ok-assume.ensures.stands;
-      all_given = c.in_ok-add_assertions.ensures.all_given ∙ sym c.in_ok-assume.ensures.given;
-      assumed_covered = c.in_ok-assume.ensures.covered;
-      taken = c.requires.taken;
-      assumed_taken = All-map (λ t. IsTakenBoolean (term_in c.args.terms.now t)) (λ (l : TermLit). l.term) c.args.assumed.now c.requires.assumed_taken;
-      assumed_within = All-map (λ t. t < n) (λ (l : TermLit). l.term) c.args.assumed.now (All-from_recursion (λ (l : TermLit). l.term < n) c.args.assumed.now c.requires.within);
-    }
+    let levels = c.args.levels.now in
+    let assumed = c.args.assumed.now in
+    let none : c.args.work.now.lines ≡ [] = search rules in
+    let did = c.posed_anew.ensures in
+    ok_three c.posed_anew.result (IsPosed ns levels assumed) (λ p. (ts : List Term) → AreListedIn ns levels assumed ts → AreCoveredAmong ns p ts) (λ p. p.sat.theory ≡ theory_of c.args.kept) _
+    (λ p posed among theory q may. may_anew none posed among theory may) did.posed did.among did.theory
 
-pub returns-clause-theory : goal.returns-clause-theory
-returns-clause-theory c = c.assume.ensures.theory ∙ c.add_assertions.ensures.theory ∙ c.in_ok-prepared.ensures.theory
-
-pub returns-in_err-add_assertions-clause-stop : goal.returns-in_err-add_assertions-clause-stop
-returns-in_err-add_assertions-clause-stop c =
-    let same : Err c.in_err-add_assertions.field-0.0 ≡ c.from_residual-in_err-add_assertions.result = search rules in
+pub returns-else-is_empty-clause-may : goal.returns-else-is_empty-clause-may
+returns-else-is_empty-clause-may c =
     let ns = c.args.terms.now in
-    let asserted = asserted_numbers c.args.levels.now in
-    let assumed = terms_named c.args.assumed.now in
-    subst (λ r. IfErr r (IsRootStop ns (asserted ++ assumed))) same
-    (root_more ns asserted (asserted ++ assumed) c.in_err-add_assertions.field-0.0 (λ r has. Contains-append_left asserted assumed r has) c.in_err-add_assertions.ensures.stop)
-
-pub returns-in_err-assume-clause-stop : goal.returns-in_err-assume-clause-stop
-returns-in_err-assume-clause-stop c =
-    let same : Err c.in_err-assume.field-0.0 ≡ c.from_residual-in_err-assume.result = search rules in
-    let ns = c.args.terms.now in
-    let asserted = asserted_numbers c.args.levels.now in
-    let assumed = terms_named c.args.assumed.now in
-    subst (λ r. IfErr r (IsRootStop ns (asserted ++ assumed))) same
-    (root_more ns assumed (asserted ++ assumed) c.in_err-assume.field-0.0 (λ r has. Contains-append_right asserted assumed r has) c.in_err-assume.ensures.stop)
+    let levels = c.args.levels.now in
+    let assumed = c.args.assumed.now in
+    let some : c.args.work.now.lines ≡ [] → ⊥ = λ none. search (rules, none) in
+    let did = c.posed_on.ensures in
+    ok_three c.posed_on.result (IsPosed ns levels assumed) (λ p. (ts : List Term) → AreListedIn ns levels assumed ts → AreCoveredAmong ns (prepared_of c.args.kept) ts → AreCoveredAmong ns p ts)
+    (Extends (prepared_of c.args.kept)) _ (λ p posed among x q may. may_on some posed among x may) did.posed did.among did.extends

@@ -1,7 +1,7 @@
--- The assertions of the levels so far are taken off.
+-- The terms of the levels so far are taken off.
 use Rattle.std.proofs.Common.{◌≡◌, ◌-◌}
-use Rattle.nz_engine.specs.Levels.{count_in, numbers_by_level}
+use Rattle.nz_engine.specs.Levels.{by_level, count_in, levels_of}
 use Rattle.nz_engine.proofs.levels.left_of.Given as goal
 
-abbrev pub invariant-loop-terms : goal.invariant-loop-terms
-invariant-loop-terms l = l.left ≡ l.count - count_in (numbers_by_level l.levels) l.terms-index
+abbrev pub invariant-loop-added : goal.invariant-loop-added
+invariant-loop-added l = l.left ≡ l.count - count_in (by_level l.kind (levels_of l.levels)) l.added-index

@@ -11,6 +11,7 @@ use Rattle.nz_log.specs.Axioms.{AreMultiplesIn, first_wide_in_step, multiples_in
 use Rattle.nz_reals.specs.Tells.{AreBoundsOf}
 use Rattle.nz_reals.proofs.Contradictions.{contradict_in}
 use Rattle.nz_reals.proofs.RefutationClauses.{all_bounds, all_in, clash_is, sum_stops, told_then}
+use Rattle.nz_reals.proofs.SumOrders.{sums_in_order}
 use Rattle.nz_reals.proofs.refute.refute.Goals as goal
 
 pub farkas-requires-clause-multiples : goal.farkas-requires-clause-multiples
@@ -46,5 +47,6 @@ returns-in_ok-bounds-in-Err-Wide-clause-place c = λ ns over.
     let bounds : AreBoundsOf ns atoms ms c.in_ok-bounds-in-Err-Wide.bounds.items =
     subst (λ (list : List Atom). AreMultiplesIn ns list ms → AreBoundsOf ns list ms c.in_ok-bounds-in-Err-Wide.bounds.items) c.farkas.ensures.atoms (c.in_ok-bounds-in-Err-Wide.ensures.bounds ns) among in
     sum_stops ns t atoms c.requires.of.0 ms c.in-Err-Wide.wide c.in_ok-bounds-in-Err-Wide.bounds c.stopped.result c.requires.of.1 c.requires.known over
+    (sums_in_order ns over.table c.term_has_its_number.ensures.number t atoms c.requires.of.0 c.requires.of.1 c.tells_literals.ensures.tells c.sums_stay.ensures.stay ms c.requires.known among)
     (contradict_in c.args.theory.now c.args.log.now.atoms c.requires.of.0 c.args.multiples.now c.stored.ensures.forms c.requires.of.1 c.requires.known c.requires.refutes
     c.contradictions_stay.ensures.stay c.sums_stay.ensures.stay c.term_has_its_number.ensures.number c.tells_literals.ensures.tells ns over.table among) c.stopped.ensures.left c.stopped.ensures.right (subst (IsStopAt (first_wide_in_step ns (farkas_step (multiples_in ns atoms ms)))) c.in-Err-Wide.field-0-is (c.in-Err-Wide.ensures.stop ns over.table among)) bounds c.stopped.ensures.stop

@@ -60,3 +60,9 @@ returns-clause-output_faults g c =
     let status : c.status_at-status.result ≡ status_by c.serve-end.result ks = c.status_at-status.ensures.status c.into_kept-journal.result.1 in
     c.serve-end.ensures.output_faults
     ∙ ap (λ b. counted g.K.Sink.last b (g.K.Sink.faults c.args.out.now)) (sym (ap (λ n. n == 4) status ∙ write_status c.serve-end.result ks))
+
+pub serve-end-requires : goal.serve-end-requires
+serve-end-requires g c =
+    record {
+      start = (c.in-Ok.units, reading_begins _ _ _ c.in-Ok.units c.in-Ok-new-2.session (g.S.Source.left c.args.input.now) (g.K.Sink.held c.args.out.now) c.in-Ok-new-2.ensures.serves c.in-Ok-new-2.ensures.nothing);
+    }

@@ -1,13 +1,13 @@
 -- The stack leads from one term to what it is made of.
-use Rattle.std.proofs.Common.{◌≡◌, ◌<◌, [], ◌∷◌, ◌++◌, Some, None, Err, ap, sym, subst, ◌∙◌, rules, IfErr}
+use Rattle.std.proofs.Common.{◌≡◌, ◌<◌, [], ◌∷◌, ◌++◌, length, Err, ap, sym, subst, ◌∙◌, rules, IfErr}
 use Rattle.nz_spec.specs.terms.Table.{term_in}
-use Rattle.nz_term.specs.Heads.{head_of}
 use Rattle.nz_cform.specs.declared.stop.FormStop.{FormStop}
 use Rattle.nz_cform.specs.Forms.{Grows, covered_at}
+use Rattle.nz_cform.specs.Covering.{kids_at}
 use Rattle.nz_cform.specs.Stops.{IsStopIn, OnWide}
 use Rattle.nz_cform.proofs.Listed.{has_some}
 use Rattle.nz_cform.proofs.Sizes.{less_gone, less_opened, total}
-use Rattle.nz_cform.proofs.Underway.{IsUnderway, cover_on, grows_more, is_taken, is_within, no_parts, parts_on, skip, start_underway, stops_too}
+use Rattle.nz_cform.proofs.Underway.{IsUnderway, cover_on, grows_more, is_taken, is_within, no_parts, none_waits, parts_on, skip, start_underway, stops_too}
 use Rattle.nz_cform.proofs.form.ClauseForm.add_term.Goals as goal
 use Rattle.nz_cform.proofs.form.ClauseForm.add_term.Goals.{After-cover, In-Some}
 
@@ -36,10 +36,10 @@ cover-requires-clause-taken c =
     is_taken c.args.terms.now c.args.id c.args.level c.args.log.now c.args.self.now c.loop-term.log c.loop-term.self c.loop-term.clauses.items
     c.pop.new.self.items c.in-Some.term (underway (goal.at.cover-requires-clause-taken c).In-Some) c.taken_terms_are_in_order.ensures.order c.requires.taken
 
-pub node-node-requires : goal.node-node-requires
-node-node-requires c =
+pub put_parts-requires-clause-within : goal.put_parts-requires-clause-within
+put_parts-requires-clause-within c =
     is_within c.args.terms.now c.args.id c.args.level c.args.log.now c.args.self.now c.loop-term.log c.loop-term.self c.loop-term.clauses.items
-    c.pop.new.self.items c.in-Some.term (underway (goal.at.node-node-requires c).In-Some)
+    c.pop.new.self.items c.in-Some.term (underway (goal.at.put_parts-requires-clause-within c).In-Some)
 
 pub returns-in_err-cover-clause-grown : goal.returns-in_err-cover-clause-grown
 returns-in_err-cover-clause-grown c = grown_here (goal.at.returns-in_err-cover-clause-grown c).After-cover
@@ -63,32 +63,30 @@ returns-in_err-cover-clause-stop c =
 pub loop-term-smaller-in-Continue-branch-3 : goal.loop-term-smaller-in-Continue-branch-3
 loop-term-smaller-in-Continue-branch-3 c =
     let term = term_in c.args.terms.now in
-    let after = c.in_ok-extend_from_slice.ensures.items in
-    subst (λ l. total term c.extend_from_slice.new.self.items < total term l) (sym c.in-Some.ensures.items)
-    (subst (λ l. total term l < total term (c.pop.new.self.items ++ c.in-Some.term ∷ [])) (sym after)
-    (less_opened term c.pop.new.self.items c.node-node.result.kids.now c.in-Some.term (head_of c.node-node.result.head) c.node-node.ensures.term))
+    let puts = c.in_ok-put_parts.ensures.puts in
+    subst (λ l. total term c.put_parts.new.waiting.items < total term l) (sym c.in-Some.ensures.items)
+    (subst (λ l. total term l < total term (c.pop.new.self.items ++ c.in-Some.term ∷ [])) (sym puts.joined)
+    (less_opened term c.pop.new.self.items (kids_at c.args.terms.now c.in-Some.term) puts.companions c.in-Some.term puts.head puts.is puts.beside))
 
 pub loop-term-preserved-in-Continue-branch-3 : goal.loop-term-preserved-in-Continue-branch-3
 loop-term-preserved-in-Continue-branch-3 c =
     let ns = c.args.terms.now in
     let did = c.in_ok-cover.ensures in
-    let after = c.in_ok-extend_from_slice.ensures.items in
-    subst (IsUnderway ns c.args.id c.args.level c.args.log.now c.args.self.now c.cover.new.log c.cover.new.self c.cover.new.clauses.items) (sym after)
-    (cover_on ns c.args.id c.args.level c.args.log.now c.args.self.now c.loop-term.log c.loop-term.self c.loop-term.clauses.items
+    cover_on ns c.args.id c.args.level c.args.log.now c.args.self.now c.loop-term.log c.loop-term.self c.loop-term.clauses.items
     c.pop.new.self.items c.in-Some.term (underway (goal.at.loop-term-preserved-in-Continue-branch-3 c).In-Some) c.cover.new.log
     c.cover.new.self c.cover.new.clauses.items did.taken did.rows did.bounds did.adds did.grown did.kept did.told did.only did.sound
-    (head_of c.node-node.result.head) c.node-node.result.kids.now (ap (λ o. elim o [ None ↦ [] | Some n ↦ n.kids ]) c.node-node.ensures.node) c.node-node.ensures.term c.node-node.ensures.before)
+    c.put_parts.new.waiting.items c.in_ok-put_parts.ensures.puts
 
-pub returns-in_err-extend_from_slice-clause-grown : goal.returns-in_err-extend_from_slice-clause-grown
-returns-in_err-extend_from_slice-clause-grown c = grown_here (goal.at.returns-in_err-extend_from_slice-clause-grown c).After-cover
+pub returns-in_err-put_parts-clause-grown : goal.returns-in_err-put_parts-clause-grown
+returns-in_err-put_parts-clause-grown c = grown_here (goal.at.returns-in_err-put_parts-clause-grown c).After-cover
 
-pub returns-in_err-extend_from_slice-clause-sound : goal.returns-in_err-extend_from_slice-clause-sound
-returns-in_err-extend_from_slice-clause-sound c levels order = c.cover.ensures.sound levels (c.loop-term.invariant.sound levels order)
+pub returns-in_err-put_parts-clause-sound : goal.returns-in_err-put_parts-clause-sound
+returns-in_err-put_parts-clause-sound c levels order = c.cover.ensures.sound levels (c.loop-term.invariant.sound levels order)
 
-pub returns-in_err-extend_from_slice-clause-made_of : goal.returns-in_err-extend_from_slice-clause-made_of
-returns-in_err-extend_from_slice-clause-made_of c =
+pub returns-in_err-put_parts-clause-made_of : goal.returns-in_err-put_parts-clause-made_of
+returns-in_err-put_parts-clause-made_of c =
     parts_on c.args.terms.now c.args.id c.args.level c.args.log.now c.args.self.now c.loop-term.log c.loop-term.self c.loop-term.clauses.items
-    c.pop.new.self.items c.in-Some.term (underway (goal.at.returns-in_err-extend_from_slice-clause-made_of c).In-Some) c.cover.new.self c.cover.ensures.only
+    c.pop.new.self.items c.in-Some.term (underway (goal.at.returns-in_err-put_parts-clause-made_of c).In-Some) c.cover.new.self c.cover.ensures.only
 
 pub returns-in_err-push-clause-made_of : goal.returns-in_err-push-clause-made_of
 returns-in_err-push-clause-made_of c = no_parts c.args.terms.now c.args.id c.args.self.now
@@ -105,3 +103,11 @@ loop-term-preserved c =
     let level = has_some (covered_at c.loop-term.self c.in-Some.term) (sym c.is_covered.ensures.covered ∙ c.if-not-is_covered.false) in
     skip c.args.terms.now c.args.id c.args.level c.args.log.now c.args.self.now c.loop-term.log c.loop-term.self c.loop-term.clauses.items
     c.pop.new.self.items c.in-Some.term (underway (goal.at.loop-term-preserved c).In-Some) level.0 level.1
+
+-- ---- None waits
+
+pub returns-clause-covers : goal.returns-clause-covers
+returns-clause-covers c =
+    let none : length c.loop-term.waiting.items ≡ 0 = search rules in
+    none_waits c.args.terms.now c.args.id c.args.level c.args.log.now c.args.self.now c.loop-term.log c.loop-term.self c.loop-term.clauses.items
+    c.loop-term.waiting.items none c.loop-term.invariant

@@ -3,7 +3,7 @@ use Rattle.nz_reals.specs.Starts.{MayRestart}
 use Rattle.nz_reals.specs.State.{Theory}
 use Rattle.nz_engine.specs.Engines.{Begins, EngineState, IsKept, table_of, theory_of}
 use Rattle.nz_engine.proofs.KeptState.{kept_either}
-use Rattle.nz_engine.proofs.AssertionPlaces.{number_goes_on}
+use Rattle.nz_engine.proofs.AssertionPlaces.{added_goes_on}
 use Rattle.nz_engine.proofs.engine.EngineDecide.add.Goals as goal
 
 pub invariant_of-self : goal.invariant_of-self
@@ -11,8 +11,8 @@ invariant_of-self c =
     let ns = table_of c.self.inside.seen in
     let levels = c.self.inside.levels in
     let stay = c.logs_stay.ensures.stay in
-    let some : 0 < length levels = subst (λ (e : EngineState). 0 < length e.levels) (sym c.self.view_is) c.requires in
-    kept_either c.add.result stay ns levels _ c.add.new.self c.lowered.result (number_goes_on stay levels c.args.term some) c.add.ensures.ok c.add.ensures.err
+    let some : 0 < length levels = subst (λ (e : EngineState). 0 < length e.levels) (sym c.self.view_is) c.requires.some in
+    kept_either c.add.result stay ns levels _ c.add.new.self c.lowered.result (added_goes_on stay c.args.terms.now levels c.args.term some) c.add.ensures.ok c.add.ensures.err
     (c.lowered.ensures.low ns (subst (IsKept ns levels) (sym c.take_kept-kept.ensures.taken) c.self.invariant))
 
 pub returns-clause-begins : goal.returns-clause-begins

@@ -1,25 +1,29 @@
-use Rattle.std.proofs.Common.{rules, Err, IfErr, ◌≡◌, ◌<◌, ◌≤◌, false, length, get_or, take, refl, sym, ◌∙◌, subst, arith}
+use Rattle.std.proofs.Common.{rules, Err, IfErr, inl, ◌≡◌, ◌++◌, ◌<◌, ◌≤◌, false, length, get_or, take, sym, ◌∙◌, subst, arith}
 use Rattle.std.specs.Prelude.{All, Contains, IsSome}
 use Rattle.std.proofs.lemmas.List.{take_all, take_more}
-use Rattle.std.proofs.lemmas.List.Elements.{All-push, All-weaker, Contains-get_or}
+use Rattle.std.proofs.lemmas.List.Elements.{All-contains, All-contains_itself, All-push, All-weaker, Contains-append_left, Contains-append_right, Contains-get_or}
 use Rattle.nz_lists.proofs.Members.{map_has}
 use Rattle.nz_spec.specs.terms.Taken.{IsTakenBoolean}
 use Rattle.nz_spec.specs.terms.Table.{term_in}
 use Rattle.nz_term.specs.declared.term_lits.TermLit.{TermLit}
 use Rattle.nz_cform.specs.Forms.{covered_at}
 use Rattle.nz_engine.specs.Checking.{AreCovered, IsRootStop, terms_named}
-use Rattle.nz_engine.proofs.LevelPreservation.{standing}
+use Rattle.nz_engine.proofs.AssumptionLevels.{extends_both, extends_itself, made_then, standing_more}
 use Rattle.nz_engine.proofs.NamedTerms.{all_named}
 use Rattle.nz_engine.proofs.CheckEnds.{root_of}
 use Rattle.nz_engine.proofs.prepared.Prepared.assume.Goals as goal
 
 pub loop-literal-init : goal.loop-literal-init
 loop-literal-init c =
+    let named = terms_named c.args.assumed.now in
+    let before = c.requires.stands.0 in
     record {
-      standing = standing c.args.terms.now c.args.levels.now (terms_named c.args.assumed.now) c.args.self.now c.requires.stands;
+      more = before ++ named;
+      all = All-weaker (Contains named) (Contains (before ++ named)) (λ t has. Contains-append_right before named t has) named (All-contains_itself named);
+      standing = standing_more c.args.terms.now c.args.levels.now before (before ++ named) c.args.self.now (λ t has. Contains-append_left before named t has) c.requires.stands.1;
       covered = λ k d below. absurd (omega (arith, below));
-      given = refl;
-      theory = refl;
+      made = λ t some. inl some;
+      extends = extends_itself c.args.self.now;
     }
 
 pub assume_term-requires-clause-within : goal.assume_term-requires-clause-within
@@ -41,21 +45,27 @@ loop-literal-preserved c =
     let form = c.assume_term.new.self.form in
     let P : TermLit → Type 0 = λ m. IsSome (covered_at form m.term) in
     let taken = all_named (λ t. IsTakenBoolean (term_in ns t)) assumed c.requires.taken k (record { term = 0; sign = false }) c.loop-literal-test.true in
+    let has = map_has (λ (m : TermLit). m.term) assumed l (Contains-get_or assumed k (record { term = 0; sign = false }) c.loop-literal-test.true) in
     record {
-      standing = did.stands c.args.levels.now (terms_named assumed)
+      more = before.more;
+      all = before.all;
+      standing = did.stands c.args.levels.now before.more
           (record {
             last = sym c.len-level.ensures.count;
-            named = map_has (λ (m : TermLit). m.term) assumed l (Contains-get_or assumed k (record { term = 0; sign = false }) c.loop-literal-test.true);
+            named = All-contains (Contains before.more) (terms_named assumed) l.term before.all has;
             taken = taken.taken;
-            all_given = c.requires.all_given ∙ sym before.given;
+            all = record { given = c.requires.all.given ∙ sym before.extends.given; numbered = c.requires.all.numbered ∙ sym before.extends.numbered };
             standing = before.standing;
           });
       covered = subst (All P) (sym (take_more assumed k (record { term = 0; sign = false }) c.loop-literal-test.true))
           (All-push P (take k assumed) l
-          (All-weaker (λ (m : TermLit). IsSome (covered_at c.loop-literal.self.form m.term)) P (λ m some. did.stays m.term some) (take k assumed) before.covered) did.covered);
-      given = did.given ∙ before.given;
-      theory = c.assume_term.ensures.theory ∙ before.theory;
+          (All-weaker (λ (m : TermLit). IsSome (covered_at c.loop-literal.self.form m.term)) P (λ m some. did.extends.covered m.term some) (take k assumed) before.covered) did.covered);
+      made = λ t some. made_then ns assumed l.term has t (IsSome (covered_at c.args.self.now.form t)) (IsSome (covered_at c.loop-literal.self.form t)) (before.made t) (did.made t some);
+      extends = extends_both c.args.self.now c.loop-literal.self c.assume_term.new.self before.extends did.extends;
     }
+
+pub returns-clause-stands : goal.returns-clause-stands
+returns-clause-stands c = (c.loop-literal.invariant.more, c.loop-literal.invariant.standing)
 
 pub returns-clause-covered : goal.returns-clause-covered
 returns-clause-covered c =

@@ -1,14 +1,18 @@
--- The terms of the literals so far are covered.
-use Rattle.std.proofs.Common.{◌≡◌, take}
+-- The terms of the literals so far are covered, and others may be that were before.
+use Rattle.std.proofs.Common.{◌⊎◌, ℕ, List, take}
+use Rattle.std.specs.Prelude.{All, Contains, IsSome}
+use Rattle.nz_cform.specs.Forms.{covered_at}
 use Rattle.nz_engine.specs.Checking.{AreCovered, terms_named}
-use Rattle.nz_engine.specs.Preparing.{IsStanding}
+use Rattle.nz_engine.specs.Preparing.{Extends, IsMadeOf, IsStanding}
 use Rattle.nz_engine.proofs.prepared.Prepared.assume.Given as goal
 
 abbrev pub invariant-loop-literal : goal.invariant-loop-literal
 invariant-loop-literal l =
     record {
-      standing : IsStanding l.terms l.levels (terms_named l.assumed) l.self;
+      more : List ℕ;
+      all : All (Contains more) (terms_named l.assumed);
+      standing : IsStanding l.terms l.levels more l.self;
       covered : AreCovered l.self (take l.literal-index l.assumed);
-      given : l.self.given ≡ l.fn.self.given;
-      theory : l.self.sat.theory ≡ l.fn.self.sat.theory;
+      made : (t : ℕ) → IsSome (covered_at l.self.form t) → IsSome (covered_at l.fn.self.form t) ⊎ IsMadeOf l.terms (terms_named l.assumed) t;
+      extends : Extends l.fn.self l.self;
     }

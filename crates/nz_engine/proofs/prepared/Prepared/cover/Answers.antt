@@ -8,7 +8,7 @@ pub returns-clause-covered : goal.returns-clause-covered
 returns-clause-covered c =
     let ns = c.args.terms.now in
     let did = c.in-Ok.ensures in
-    let new : PreparedState = record { log = c.add_term.new.log; form = c.add_term.new.self; sat = c.hold.new.sat; given = c.self.inside.given; above = c.self.inside.above } in
+    let new : PreparedState = record { log = c.add_term.new.log; form = c.add_term.new.self; sat = c.hold.new.sat; given = c.self.inside.given; numbered = c.self.inside.numbered; above = c.self.inside.above; noted = c.self.inside.noted.items } in
     subst (λ (s : PreparedState). CoversAlso ns s c.args.term c.args.level new) c.self.view_is
     (record {
       covers = did.covers;
@@ -22,6 +22,7 @@ returns-clause-covered c =
       told = did.told;
       sound = did.sound;
       given = refl;
+      numbered = refl;
     })
 
 pub returns-in-Err-clause-stop : goal.returns-in-Err-clause-stop

@@ -1,15 +1,14 @@
 use Rattle.std.proofs.Common.{rules, ◌≡◌, ℕ, false, length, refl, sym, ap, subst, ◌∙◌}
 use Rattle.std.specs.Prelude.{Contains, IsSome}
 use Rattle.nz_cform.specs.Listings.{listed_at}
-use Rattle.nz_engine.specs.Levels.{count_of}
 use Rattle.nz_engine.specs.Preparing.{PreparedState, CutsTo, KeepsBounds}
 use Rattle.nz_engine.proofs.LevelPreservation.{all_kept}
 use Rattle.nz_engine.proofs.prepared.Prepared.cut.Goals as goal
 
 pub returns-clause-cuts : goal.returns-clause-cuts
 returns-clause-cuts c =
-    let new : PreparedState = record { log = c.drop_above.new.self; form = c.cut.new.self; sat = c.cut-2.new.self; given = c.count_up_to-self-inside.result; above = false } in
-    let P : PreparedState → Type 0 = λ s. CutsTo s c.args.level (count_of c.args.levels.now) new in
+    let new : PreparedState = record { log = c.drop_above.new.self; form = c.cut.new.self; sat = c.cut-2.new.self; given = c.count_up_to-self-inside.result; numbered = c.count_up_to-self-inside-2.result; above = false; noted = c.self.inside.noted.items } in
+    let P : PreparedState → Type 0 = λ s. CutsTo s c.args.level c.args.levels.now new in
     subst P c.self.view_is
     (record {
       log = c.drop_above.ensures.drops;
@@ -18,6 +17,7 @@ returns-clause-cuts c =
       clauses = c.cut-2.ensures.clauses;
       theory = c.cut-2.ensures.theory;
       given = c.count_up_to-self-inside.ensures.count;
+      numbered = c.count_up_to-self-inside-2.ensures.count;
       above = refl;
     })
 

@@ -5,6 +5,7 @@ pub returns : goal.returns
 returns c = record {
   laws = record {
     rows = record { sums = c.forms_are_sums.ensures.sums; operands = c.operands_are_sorted.ensures.sorted };
+    node = c.term_of_node.ensures.node;
     atoms = c.atoms_of_terms.ensures.atoms;
     covers = c.covers_stay.ensures.stay;
     restart = c.theories_restart.ensures.restart;

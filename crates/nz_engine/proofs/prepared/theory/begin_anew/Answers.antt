@@ -1,5 +1,6 @@
 -- What comes of the theory that was arranged comes of it as it was.
 use Rattle.std.proofs.Common.{rules, ◌≡◌, Err, subst}
+use Rattle.std.proofs.lemmas.Option.{slice_get_within}
 use Rattle.nz_search.specs.declared.stop.Stop.TheVariants.{Memory}
 use Rattle.nz_reals.specs.State.{Theory}
 use Rattle.nz_sat.specs.Sats.{SatState}
@@ -34,3 +35,6 @@ returns-clause-begins c =
     let begun = c.begin_theory in
     subst (λ (s : SatState Theory). BeginsAnew all ids s.theory begun.new.theory c.args.work.now begun.new.work begun.result) c.sat.view_is
     (begins_arranged all ids c.sat.inside.theory c.arrange.new.theory c.arrange.ensures.over c.arrange.ensures.rest begun.new.theory c.args.work.now begun.new.work begun.result begun.ensures.begins)
+
+pub truths_for-requires-clause-within : goal.truths_for-requires-clause-within
+truths_for-requires-clause-within c = λ k d below. let s = (c.requires.learnable.each k d below).within in slice_get_within c.args.log.now.atoms _ s.atom s.at

@@ -35,7 +35,7 @@ returns-in_err-note_atoms c =
     let after = c.note_atoms.new.work in
     record {
       begins = subst (BeginsAnew all ids t new c.args.work.now after) same
-          (names_stop c.legal_work_goes_on.ensures.goes_on c.tells_lits.ensures.tells c.tells_literals.ensures.tells all ids (t, c.requires.learnable) t new c.args.work.now c.restart.new.work c.requires.no_steps c.in_ok-restart.ensures.notes
+          (names_stop c.legal_work_goes_on.ensures.goes_on c.tells_lits.ensures.tells c.tells_literals.ensures.tells c.sums_renumber.ensures.renumber c.term_has_its_number.ensures.number all ids (t, c.requires.learnable) t new c.args.work.now c.restart.new.work c.requires.no_steps c.in_ok-restart.ensures.notes
           c.in_ok-restart.ensures.stands new after c.note_atoms.ensures.first);
     }
 
@@ -47,7 +47,7 @@ returns c =
     let t = c.args.theory.now in
     let joins = c.join_sums.ensures in
     record {
-      begins = sums_joined c.legal_work_goes_on.ensures.goes_on c.tells_lits.ensures.tells c.tells_literals.ensures.tells c.args.log.now.atoms c.args.atoms.now (t, c.requires.learnable) t c.restart.new.self c.args.work.now c.restart.new.work
+      begins = sums_joined c.legal_work_goes_on.ensures.goes_on c.tells_lits.ensures.tells c.tells_literals.ensures.tells c.sums_renumber.ensures.renumber c.term_has_its_number.ensures.number c.args.log.now.atoms c.args.atoms.now (t, c.requires.learnable) t c.restart.new.self c.args.work.now c.restart.new.work
           c.requires.no_steps c.in_ok-restart.ensures.notes c.in_ok-restart.ensures.stands c.note_atoms.new.work c.in_ok-note_atoms.ensures.all c.join_sums.new.theory c.join_sums.new.work joins.forms
           c.join_sums.result c.restart.ensures.over joins.untold joins.of joins.over joins.stands joins.stopped joins.unspent;
     }

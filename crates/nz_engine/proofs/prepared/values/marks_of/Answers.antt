@@ -23,4 +23,7 @@ pub returns : goal.returns
 returns c =
     let listed = c.args.listed.now in
     let past : length listed ≤ c.loop-term.term-index = omega (arith, c.loop-term-test.false) in
-    record { marks = subst (λ (xs : List ℕ). AreMarksOf xs c.loop-term.marks.items) (take_all c.loop-term.term-index listed past) c.loop-term.invariant.marked }
+    record {
+      long = c.loop-term.invariant.long;
+      marks = subst (λ (xs : List ℕ). AreMarksOf xs c.loop-term.marks.items) (take_all c.loop-term.term-index listed past) c.loop-term.invariant.marked;
+    }
