@@ -1,0 +1,10 @@
+pub mod Goings
+pub mod Holding
+pub mod LiteralNumbers
+pub mod Removals
+pub mod Rewatching
+pub mod SetPlaces
+pub mod TrailTables
+pub mod Truths
+pub mod Visiting
+pub mod Watching

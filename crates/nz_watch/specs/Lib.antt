@@ -1,0 +1,5 @@
+pub mod Clauses
+pub mod Lists
+pub mod Stored
+pub mod Trails
+pub mod Watched
