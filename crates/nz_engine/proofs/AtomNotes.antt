@@ -1,7 +1,7 @@
 -- Notes of atoms are legal: each is of what is asked, and none is named twice. Behind the note of a start they lead to where the theory stands that began so.
-use Rattle.std.proofs.Common.{◌≡◌, ◌≢◌, inl, inr, ℕ, zero, suc, ◌+◌, ◌<◌, Bool, true, false, List, [], ◌∷◌, ◌++◌, append-nil, length, get_or, take, map, Option, Some, None, option_map, Err, refl, sym, ap, ◌∙◌, subst, arith, append_assoc, ◌⊎◌, Vec, Global}
+use Rattle.std.proofs.Common.{◌≡◌, inl, inr, ℕ, zero, suc, ◌+◌, ◌<◌, Bool, true, false, List, [], ◌∷◌, ◌++◌, append-nil, length, get_or, take, map, Option, Some, None, option_map, Err, refl, sym, ap, ◌∙◌, subst, arith, append_assoc, ◌⊎◌, Vec, Global}
 use Rattle.std.specs.Prelude.{All, Contains, flat_map, if◌then◌else◌, slice_get, slice_index_or}
-use Rattle.std.specs.List.{AllByRecursion, AllPairs}
+use Rattle.std.specs.List.{AllByRecursion}
 use Rattle.std.proofs.lemmas.List.{length-map, map-append, take_more}
 use Rattle.std.proofs.lemmas.List.Sums.{sum_by-append}
 use Rattle.std.proofs.lemmas.Option.{get_or_from_slice_get, slice_get-get_or, slice_get_within}
@@ -54,7 +54,7 @@ use Rattle.nz_sat.specs.Sats as sat
 use Rattle.nz_sat.specs.Sats.{HoldsLearned}
 use Rattle.nz_search.specs.Levels.{Level, added_by_level}
 use Rattle.nz_engine.specs.Checking.{AreNumbered, EndsWith, GoesUnder, HasBegun, HasGoneUnder, IsPlain, IsPlainAtom, IsUnbegun, MayBegin, NotesAll, NotesForms, NotesUnder, atom_at, atom_lines, form_lines, note_of, terms_named}
-use Rattle.nz_engine.proofs.AssertionPlaces.{in_second, lower_or_not}
+use Rattle.nz_engine.proofs.AssertionPlaces.{in_second}
 use Rattle.nz_engine.proofs.SaidAtoms.{IsPositive, negated, positive_said, same_atoms, says_itself}
 
 -- ---- Lists of lines
@@ -466,21 +466,6 @@ stopped_lead ns q work (Wide place) (inl h) = (h.point, h.legal)
 stopped_lead ns q work (Wide place) (inr h) = (h.point, h.legal)
 stopped_lead ns q work Spent h = (h.point, h.legal)
 stopped_lead ns q work Memory h = h
-
--- ---- None is noted twice
-
-pub once_from_pairs : (ids : List ℕ) → AllPairs (λ t u. t ≢ u) ids → StandOnce ids
-once_from_pairs ids pairs i j t e k =
-    let first = slice_get_within ids i t e in
-    let second = slice_get_within ids j t k in
-    let same : get_or ids i 0 ≡ get_or ids j 0 = get_or_from_slice_get ids i t 0 e ∙ sym (get_or_from_slice_get ids j t 0 k) in
-    elim (lower_or_not i j) [
-      | inl below ↦ absurd (pairs i j 0 below second same)
-      | inr past ↦ elim (lower_or_not j i) [
-        | inl above ↦ absurd (pairs j i 0 above first (sym same))
-        | inr other ↦ omega (arith, past, other)
-      ]
-    ]
 
 -- ---- What a search is asked lists what the atoms are
 

@@ -72,10 +72,6 @@ over_grown laws front ns t is table over =
     let joined = grown_from front ns is in
     subst (IsOver t) joined (laws.over t front (drop (length front) ns) (subst IsTable (sym joined) table) over)
 
-pub rest_grown : TheoriesRestart → (front ns : List Node) (t : Theory) → IsFrontOfTable front ns → IsTable ns → IsAtRest front t → IsAtRest ns t
-rest_grown laws front ns t is table h =
-    record { over = over_grown laws front ns t is table h.over; known = h.known; may = rests_over laws front ns t h.known is h.over h.may }
-
 -- of what is kept the theory is so
 pub kept_rest : (ns : List Node) (levels : List Level) (k : Retained) → IsKept ns levels k → IsAtRest ns (theory_of k)
 kept_rest ns levels (kept.Theory t) h = h

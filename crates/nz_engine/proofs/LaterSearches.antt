@@ -30,18 +30,10 @@ use Rattle.nz_engine.specs.Checking.{EndsWith, HasGoneUnder, HoldsNamed, IsBegun
 use Rattle.nz_engine.specs.Preparing.{Excludes, PreparedState, ids_held}
 use Rattle.nz_engine.specs.SearchLaws.{SearchLaws}
 use Rattle.nz_engine.proofs.AtomNotes.{has_gone, learned_under, noted_still, stands_under, under_after, within_append}
-use Rattle.nz_engine.proofs.CheckEnds.{first_none}
 use Rattle.nz_engine.proofs.ExclusionClauses.{ready_excluded}
 use Rattle.nz_engine.proofs.HeldClauses.{held_still, learned_of, noted_stay}
 use Rattle.nz_engine.proofs.SearchAtoms.{ids_within, may_learn_more, ready_with}
 use Rattle.nz_engine.proofs.SearchEntry.{covered_still, of_terms}
-
--- a list that is under way has a line
-pub has_lines : (ns : List Node) (levels : List Level) (q : Task) (work : WorkList Note) (p : PreparedState) → IsUnderWay ns levels q work p → work.lines ≡ [] → ⊥
-has_lines ns levels q work p u none =
-    let count = ap (λ (s : Search). s.begun) (first_none ns work none) in
-    let begun = u.begun in
-    absurd (omega (arith, count, begun))
 
 pub way_of : {ns : List Node} {levels : List Level} {q : Task} {work : WorkList Note} {p : PreparedState} → (work.lines ≡ [] → ⊥) → IsFrom ns levels q work p → IsUnderWay ns levels q work p
 way_of some (at_start none rest) = absurd (some none)

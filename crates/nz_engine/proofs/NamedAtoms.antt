@@ -1,29 +1,13 @@
 -- Atoms that are named, one after another.
-use Rattle.std.proofs.Common.{◌≡◌, inl, inr, ℕ, zero, suc, ◌<◌, ◌+◌, List, Some, [], ◌∷◌, ◌++◌, append-nil, append_assoc, length, take, get_or, refl, sym, ap, subst, ◌∙◌, arith}
+use Rattle.std.proofs.Common.{◌≡◌, inl, inr, ℕ, zero, suc, ◌<◌, ◌+◌, List, Some, [], ◌∷◌, ◌++◌, append_assoc, length, take, get_or, refl, sym, ap, subst, ◌∙◌, arith}
 use Rattle.std.specs.Prelude.{Contains, slice_get}
 use Rattle.std.proofs.lemmas.List.{take_more}
 use Rattle.std.proofs.lemmas.List.Elements.{All-append, All-contains, All-from_recursion, All-weaker, Contains-append_cases, Contains-append_left, Contains-append_right}
 use Rattle.nz_engine.specs.Preparing.{Names}
 use Rattle.nz_engine.proofs.Onces.{once_append, once_from_stand, stand_from_once}
 
--- nothing more is named
-pub names_none : (old : List ℕ) → Names old [] old
-names_none old =
-    record { joined = []; behind = sym (append-nil old); each = λ k d below. absurd (omega (arith, below)); only = λ i has. inl has; once = λ h. h }
-
 only_one : (x y : ℕ) → Contains (x ∷ []) y → x ≡ y
 only_one x y c = All-contains (λ z. x ≡ z) (x ∷ []) y (All-from_recursion (λ z. x ≡ z) (x ∷ []) (refl, tt)) c
-
--- one that is named
-pub names_marked : (old : List ℕ) (atom : ℕ) → Contains old atom → Names old (atom ∷ []) old
-names_marked old atom has =
-    record {
-      joined = [];
-      behind = sym (append-nil old);
-      each = All-from_recursion (Contains old) (atom ∷ []) (has, tt);
-      only = λ i there. inl there;
-      once = λ h. h;
-    }
 
 -- one that isn't
 pub names_new : (old : List ℕ) (atom : ℕ) → (Contains old atom → ⊥) → Names old (atom ∷ []) (old ++ atom ∷ [])

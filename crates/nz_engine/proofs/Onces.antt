@@ -1,7 +1,7 @@
 -- Lists of numbers in which none stands twice, and the Boolean ones of some terms.
-use Rattle.std.proofs.Common.{◌≡◌, ◌⊎◌, inl, inr, ℕ, zero, suc, Bool, true, false, true≢false, List, [], ◌∷◌, ◌++◌, map, Some, refl, sym, ap, subst, ◌∙◌, arith}
+use Rattle.std.proofs.Common.{◌≡◌, ◌⊎◌, inl, inr, ℕ, zero, suc, Bool, true, false, true≢false, List, [], ◌∷◌, ◌++◌, Some, refl, sym, ap, ◌∙◌, arith}
 use Rattle.std.specs.Prelude.{Contains, if◌then◌else◌, ⊤}
-use Rattle.nz_lists.proofs.Members.{has_cases, has_first, has_more, has_none, map_from, has_found}
+use Rattle.nz_lists.proofs.Members.{has_cases, has_first, has_more, has_none, has_found}
 use Rattle.nz_spec.specs.clauses.Gates.{is_boolean_term}
 use Rattle.nz_spec.specs.clauses.Literal.{StandOnce}
 use Rattle.nz_spec.specs.terms.Table.{Node, term_in}
@@ -49,19 +49,6 @@ once_append (x ∷ xs) ys h k apart = (
   once_append xs ys h.1 k (λ y a b. apart y (has_more x y xs a) b),
 )
 
-pub once_map : (f : ℕ → ℕ) (xs : List ℕ) → ((x y : ℕ) → Contains xs x → Contains xs y → f x ≡ f y → x ≡ y) → IsOnce xs → IsOnce (map f xs)
-once_map f [] one h = tt
-once_map f (x ∷ xs) one h = (
-  (λ c.
-      let of = map_from f xs (f x) c in
-      let same : of.0 ≡ x = one of.0 x (has_more x of.0 xs of.1) (has_first x xs) of.2 in
-      h.0 (of_same of.0 same of.1)),
-  once_map f xs (λ y z a b. one y z (has_more x y xs a) (has_more x z xs b)) h.1,
-)
-  where
-    of_same : (y : ℕ) → y ≡ x → Contains xs y → Contains xs x
-    of_same y e c = subst (Contains xs) e c
-
 -- ---- Boolean terms
 
 module _ (ns : List Node) where
@@ -95,11 +82,3 @@ module _ (ns : List Node) where
   boolean_there (t ∷ ts) u c k =
       there_by t ts u (is_boolean_term (term_in ns t)) refl
       (elim (has_cases t u ts c) [ inl same ↦ inl same | inr more ↦ inr (boolean_there ts u more k) ]) k
-
-  once_by : (t : ℕ) (ts : List ℕ) (b : Bool) → (Contains (boolean_terms ns ts) t → ⊥) → IsOnce (boolean_terms ns ts) → IsOnce (behind t b (boolean_terms ns ts))
-  once_by t ts true fresh h = (fresh, h)
-  once_by t ts false fresh h = h
-
-  pub once_booleans : (ts : List ℕ) → IsOnce ts → IsOnce (boolean_terms ns ts)
-  once_booleans [] h = tt
-  once_booleans (t ∷ ts) h = once_by t ts (is_boolean_term (term_in ns t)) (λ c. h.0 (boolean_was ts t c).0) (once_booleans ts h.1)

@@ -15,7 +15,7 @@ use Rattle.nz_spec.specs.terms.FormOf.{number_in}
 use Rattle.nz_spec.specs.clauses.Gates.{is_boolean_term}
 use Rattle.nz_spec.specs.search.Search.{Task, terms_known, told_literals}
 use Rattle.nz_spec.specs.search.Atoms.{IsTabled, IsTruth}
-use Rattle.nz_spec.specs.clauses.Literal.{term_literal, is_at_most, StandOnce, Literal}
+use Rattle.nz_spec.specs.clauses.Literal.{term_literal, is_at_most, Literal}
 use Rattle.nz_spec.specs.terms.Table.{Node, IsTable, term_in}
 use Rattle.nz_spec.specs.terms.Taken.{IsTakenBoolean}
 use Rattle.nz_spec.specs.terms.Term as Term
@@ -59,8 +59,8 @@ use Rattle.nz_engine.specs.Preparing as prepared
 use Rattle.nz_engine.specs.Preparing.{AreJust, PreparedState, AreSearched, IsMadeOf, IsOfForm, IsPrepared, IsSearched, atoms_of, boolean_terms, ids_held}
 use Rattle.nz_engine.specs.SearchLaws.{RowLaws, SearchLaws}
 use Rattle.nz_engine.proofs.LevelPreservation.{some_of, some_within, still_searched}
-use Rattle.nz_engine.proofs.AtomNotes.{listed_part, once_from_pairs}
-use Rattle.nz_engine.proofs.Onces.{boolean_there, boolean_was, once_append, once_booleans, once_from_stand, once_map, stand_from_once}
+use Rattle.nz_engine.proofs.AtomNotes.{listed_part}
+use Rattle.nz_engine.proofs.Onces.{boolean_there, boolean_was}
 use Rattle.nz_engine.proofs.AssertionPlaces.{in_all, place_of}
 use Rattle.nz_engine.proofs.ClausePreservation.{from_lits, joined_prepared, learned, literal_at_atom}
 use Rattle.nz_engine.proofs.RowFacts.{AreNonzeroParts, IsOfRow, IsRowLiteral, of_row}
@@ -303,21 +303,6 @@ module _ (ns : List Node) (p : PreparedState) (own : AtomsOfTerms) (are : AreAto
         (All-weaker (Contains p.form.bounds.ids) (IsSearched ns p.log p.form)
         (λ i c. let some = (bounds.listed i).0 c in let b = bound_at i some in record { atom = AtMost b.0; at = b.1; of = some })
         p.form.bounds.ids (All-contains_itself p.form.bounds.ids))
-
-    -- none stands twice
-    pub atoms_once : StandOnce (atoms_of ns p)
-    atoms_once =
-        stand_from_once (atoms_of ns p)
-        (once_append places p.form.bounds.ids
-        (once_map (term_place p.log.atoms) booleans (λ t u c d same. same_terms p.log.atoms t u (term_here t c) (term_here u d) same)
-        (once_booleans ns p.form.terms.ids (once_from_stand p.form.terms.ids (once_from_pairs p.form.terms.ids terms.once))))
-        (once_from_stand p.form.bounds.ids (once_from_pairs p.form.bounds.ids bounds.once))
-        (λ i c d.
-        let of = from_places i c in
-        let b = bound_at i ((bounds.listed i).0 d) in
-        let both : Some (Term of.0) ≡ Some (AtMost b.0) = sym (term_here of.0 of.1) ∙ ap (slice_get p.log.atoms) of.2 ∙ b.1 in
-        let one : Term of.0 ≡ AtMost b.0 = cc in
-        absurd cc))
 
 -- what a list names behind others is just that
 pub named_numbers : (own : AtomsOfTerms) (ns : List Node) (old p : PreparedState) → AreAtoms p.log.atoms → IsListing p.form.terms → IsListing p.form.bounds → All (HasTerm p.log.atoms) (boolean_terms ns p.form.terms.ids)

@@ -1,6 +1,6 @@
 -- What a search is after it learned a clause: back where that asserts its literal.
-use Rattle.std.proofs.Common.{◌≡◌, if◌then◌else◌, ℕ, suc, ◌+◌, ◌<◌, ◌≤◌, Bool, true, false, List, [], ◌∷◌, ◌++◌, length, min, take, map, Option, Some, None, inl, inr, refl, sym, ap, subst, ◌∙◌, arith}
-use Rattle.std.specs.Prelude.{All, Contains, IsSome, filter, nat_le, option_map, slice_get}
+use Rattle.std.proofs.Common.{◌≡◌, ◌*◌, if◌then◌else◌, ℕ, suc, ◌+◌, ◌<◌, ◌≤◌, Bool, true, false, List, [], ◌∷◌, ◌++◌, length, min, take, map, Option, Some, None, inl, inr, refl, sym, ap, subst, ◌∙◌, arith}
+use Rattle.std.specs.Prelude.{All, Contains, IfSome, IsSome, filter, nat_le, slice_get}
 use Rattle.std.specs.declared.alloc.Global.{Global}
 use Rattle.std.specs.declared.result.Result.TheVariants.{Ok}
 use Rattle.std.specs.declared.vec.Vec.{Vec}
@@ -25,27 +25,32 @@ use Rattle.nz_search.specs.Standing.{search_after}
 use Rattle.nz_sat.specs.declared.analyze.Learned.{Learned}
 use Rattle.nz_sat.specs.declared.clauses.Held.{Held}
 use Rattle.nz_sat.specs.declared.consult.Bounds.{Bounds}
+use Rattle.nz_sat.specs.declared.propagation.Propagation.{Propagation}
 use Rattle.nz_sat.specs.declared.search.Search as state
 use Rattle.nz_sat.specs.declared.trail.Assigned.{Assigned}
-use Rattle.nz_sat.specs.Clauses.{Adds, HasReasonOf, IsAssumed, IsImplied, IsListed, IsOpen, IsReasonOneOf, IsWithin, Waits, by_true, by_two}
+use Rattle.nz_sat.specs.Clauses.{HasReasonOf, HasTrue, IsAssumed, IsImplied, IsReasonOneOf}
 use Rattle.nz_sat.specs.Conflicts.{AreUnmarked, is_marked}
 use Rattle.nz_sat.specs.Numbers.{numbered}
 use Rattle.nz_sat.specs.Sats.{AreHeld, HoldsLearned, held_of, ids}
-use Rattle.nz_sat.specs.Searching.{AreOpen, AreWaiting, Carries, IsSearch, KeepsFirst, Learns, WereOpen, after_learned, learned_line}
+use Rattle.nz_sat.specs.Lists.{code_of}
+use Rattle.nz_sat.specs.Searching.{AreFirst, Carries, IsSearch, KeepsFirst, Learns, after_learned, learned_line}
 use Rattle.nz_sat.specs.Theories.{AreLast, EndsLegally, IsTrailOn, TellsTrail, TheoryState, bounds_on, is_bound_at, told_literal, told_lits, told_on}
-use Rattle.nz_sat.specs.Trails.{EachBehind, IsFalseOn, IsFreeOn, IsFrontOf, IsNext, IsTrail, IsTrueOn, TrailState, assigned, below, depth, implied, is_decision, literals_on}
+use Rattle.nz_sat.specs.Trails.{EachBehind, IsFrontOf, IsNext, IsTrail, IsTrueOn, TrailState, assigned, below, depth, implied, is_decision, literals_on}
+use Rattle.nz_sat.specs.Watched.{AreWatched, HasClause, watch_state}
 use Rattle.nz_sat.proofs.SearchSteps.{StaysAt, cut_stands, told_taken}
-use Rattle.nz_sat.proofs.Clausal.{free_missing, open_grows, truth_found, truth_missing}
+use Rattle.nz_sat.proofs.Clausal.{free_missing, truth_found}
 use Rattle.nz_sat.proofs.TrailGrowth.{held_live, learned_grown}
 use Rattle.nz_sat.proofs.LearnedClauses.{all_from}
-use Rattle.nz_sat.proofs.Levels.{above_level, below_decided, below_depth, below_false, below_free, below_front, below_join, below_twice}
+use Rattle.nz_sat.proofs.LearnedWatches.{Holds, after_deep, after_true, after_watched, first_longer, front_deep, literal_free, may_hold, watched_pair, watched_within}
+use Rattle.nz_sat.proofs.Levels.{below_decided, below_false, below_front, below_twice}
 use Rattle.nz_sat.proofs.SearchLines.{search_more}
 use Rattle.nz_sat.proofs.LearnedLines as learned_lines
 use Rattle.nz_sat.proofs.LearnedLines.{IsTaught, all, decisions_on, front_depth, learned_named, line_learned, line_legal, was_learned, was_told}
 use Rattle.nz_sat.proofs.LogGrowth.{literals_stay, names_stay}
 use Rattle.nz_sat.proofs.ToldTrails.{entries_there, entry_from, stands_so, told_among, told_stay}
 use Rattle.nz_sat.proofs.AtomTrails.{cut_short, cut_told, last_push, literals_kept, names_some, reason_kept, trail_cut, trail_grown}
-use Rattle.nz_sat.proofs.TrailEntries.{assigned_one, each_front, each_push, each_weaker}
+use Rattle.nz_sat.proofs.TrailEntries.{each_front, each_push, each_weaker}
+use Rattle.nz_sat.proofs.WatchedTrails.{first_grown, grown_watched}
 
 -- ---- Reasons
 
@@ -101,39 +106,19 @@ module _ (log log' : LogState) (held : List Held) (s : state.Search) (work : Wor
   abbrev held' : List Held
   held' = held ++ held_of log' l.clause ∷ []
 
-  false_literal : IsFalseOn es l.literal
-  false_literal = h.learned.falsified l.literal h.learned.has
-
-  front_depth' : depth front ≡ l.level
-  front_depth' = let earlier = h.learned.earlier in below_depth s.trail.size es h.search.on.order l.level (omega arith)
-
-  literal_free : (k : ℕ) → k < depth es → IsFreeOn (below k es) l.literal
-  literal_free k less = let last = h.learned.last in below_free s.trail.size es h.search.on.order k l.literal false_literal (omega (arith, last, less))
-
   pub literal_missing : assigned front l.literal.atom ≡ None
-  literal_missing = free_missing front l.literal.atom (literal_free l.level h.learned.earlier)
+  literal_missing = free_missing front l.literal.atom (literal_free log' s.trail h.search.on.order l h.learned l.level h.learned.earlier)
+
+  -- the literals are of atoms of the trail
+  lits_within : (m : Lit) → Contains lits m → m.atom < s.trail.size
+  lits_within m has = All-contains (λ (t : ℕ). t < s.trail.size) s.atoms m.atom h.search.within (learned_named log log' held s work falsified l h m has)
 
   pub literal_within : l.literal.atom < s.trail.size
-  literal_within = All-contains (λ (t : ℕ). t < s.trail.size) s.atoms l.literal.atom h.search.within (learned_named log log' held s work falsified l h l.literal h.learned.has)
+  literal_within = lits_within l.literal h.learned.has
 
-  -- each literal has its place in the index
-  pub literals_within : All (λ (m : Lit). IsWithin m s.index) lits
-  literals_within =
-      all_from (λ (m : Lit). IsWithin m s.index) lits
-      (λ m has.
-      let low = All-contains (λ (t : ℕ). t < s.trail.size) s.atoms m.atom h.search.within (learned_named log log' held s work falsified l h m has) in
-      (omega (arith, low, h.search.indexed.0), omega (arith, low, h.search.indexed.1)))
-
-  after_depth : depth (after_learned es l) ≡ l.level
-  after_depth =
-      let one : depth (front ++ mine ∷ []) ≡ depth front + 0 = sum_by_push (λ (x : Assigned). if is_decision x then 1 else 0) front mine in
-      omega (arith, one, front_depth')
-
-  below_after : (k : ℕ) → k < l.level → below k (after_learned es l) ≡ below k es
-  below_after k less =
-      let high : nat_le (depth front) k ≡ false = above_level k (depth front) (omega (arith, front_depth', less)) in
-      below_join k front (mine ∷ []) ∙ ap (λ (b : Bool). below k front ++ (if b then mine ∷ [] else [])) high ∙ append-nil (below k front)
-      ∙ below_twice k l.level (omega (arith, less)) es
+  -- and those that are watched have their lists
+  pub clause_within : (n : ℕ) → 2 * s.trail.size ≤ n → IfSome (watched_pair l) (λ (pair : Lit × Lit). (code_of pair.0 < n) × (code_of pair.1 < n))
+  clause_within n room = watched_within log' s.trail h.search.on.order l h.learned lits_within n room
 
   old_literals : (i : ℕ) → Contains (ids held) i → literals_at log' i ≡ literals_at log i
   old_literals i has = literals_kept log log' h.grows i (held_live log held h.search.are_held i has)
@@ -143,36 +128,6 @@ module _ (log log' : LogState) (held : List Held) (s : state.Search) (work : Wor
 
   each_held : (P : ℕ → Type 0) → ((i : ℕ) → Contains (ids held) i → P i) → P l.clause → All P (ids held')
   each_held P f last = subst (All P) (sym ids_more) (All-push P (ids held) l.clause (all_from P (ids held) f) last)
-
-  old_open : (k : ℕ) → k < depth es → (i : ℕ) → Contains (ids held) i → IsOpen (below k es) (literals_at log' i)
-  old_open k less i has =
-      subst (IsOpen (below k es)) (sym (old_literals i has))
-      (All-contains (λ (j : ℕ). IsOpen (below k es) (literals_at log j)) (ids held) i (h.were_open k less) has)
-
-  new_open : (k : ℕ) → k < l.level → IsOpen (below k es) lits
-  new_open k less =
-      let earlier = h.learned.earlier in
-      let w = h.learned.reached (omega (arith, less)) in
-      by_two l.literal w.0 h.learned.has w.1 (λ same. w.2 (sym same)) (literal_free k (omega (arith, less, earlier)))
-      (below_free s.trail.size es h.search.on.order k w.0 (h.learned.falsified w.0 w.1) (omega (arith, less, w.3)))
-
-  after_open : WereOpen log' held' (after_learned es l)
-  after_open k less =
-      let low : k < l.level = omega (arith, less, after_depth) in
-      let earlier = h.learned.earlier in
-      subst (AreOpen log' held') (sym (below_after k low))
-      (each_held (λ (i : ℕ). IsOpen (below k es) (literals_at log' i)) (old_open k (omega (arith, low, earlier))) (new_open k low))
-
-  now_true : IsTrueOn (after_learned es l) l.literal
-  now_true =
-      truth_missing front (mine ∷ []) l.literal.atom (literal_free l.level h.learned.earlier)
-      ∙ ap (option_map (λ (x : Assigned). x.literal.sign)) (assigned_one mine l.literal.atom refl)
-
-  after_waits : AreWaiting log' held' (after_learned es l) (length front)
-  after_waits =
-      each_held (λ (i : ℕ). Waits (after_learned es l) (length front) (literals_at log' i))
-      (λ i has. open_grows front (mine ∷ []) (length front) (literals_at log' i) (omega arith) (old_open l.level h.learned.earlier i has))
-      (inl (by_true l.literal h.learned.has now_true))
 
   -- what holds of each entry, and of the new one
   after_each : (P : Assigned → Type 0) → All P es → P mine → All P (after_learned es l)
@@ -286,14 +241,12 @@ module _ (log log' : LogState) (held : List Held) (s : state.Search) (work : Wor
 
   after_first : KeepsFirst es (after_learned es l)
   after_first m holds =
-      let parts : below 0 (after_learned es l) ≡ below 0 es ++ below 0 (mine ∷ []) =
-      below_join 0 front (mine ∷ []) ∙ ap (λ (xs : List Assigned). xs ++ below 0 (mine ∷ [])) (below_twice 0 l.level (omega arith) es) in
-      subst (λ (xs : List Assigned). IsTrueOn xs m) (sym parts) (truth_found (below 0 es) (below 0 (mine ∷ [])) m.atom m.sign holds)
+      subst (λ (xs : List Assigned). IsTrueOn xs m) (sym (first_longer log' s.trail h.search.on.order l h.learned)) (truth_found (below 0 es) (below 0 (mine ∷ [])) m.atom m.sign holds)
 
   -- ---- The search
 
   module _ (s' : state.Search) (atoms : s'.atoms ≡ s.atoms) (size : s'.trail.size ≡ s.trail.size) (entries : s'.trail.entries ≡ after_learned es l) (bounds : s'.bounds ≡ record s.bounds { told = min s.bounds.told (length front) })
-      (index : Adds log' l.clause s.index s'.index) (marks : length s'.seen.items ≡ length s.seen.items) (unmarked : AreUnmarked s'.seen.items)
+      (p : Propagation) (looked : p ≡ record s.propagation { head = min s.propagation.head (length front) }) (holds : Holds log' l.clause (watched_pair l) p s'.propagation) (marks : length s'.seen.items ≡ length s.seen.items) (unmarked : AreUnmarked s'.seen.items)
       (are_held : AreHeld log' held') (ordered : IsTrail s'.trail) (room : unit_count work.lines < work.limit) where
     after_on : All (λ (e : Assigned). Contains s.atoms e.literal.atom) (after_learned es l) → IsTrailOn log' s'.atoms s'.bounds s'.trail
     after_on on_trail =
@@ -303,7 +256,7 @@ module _ (log log' : LogState) (held : List Held) (s : state.Search) (work : Wor
         let inside = made.inside in
         let least = ap (λ (x : Bounds). x.told) bounds in
         let grown = trail_grown log s.atoms (record s.bounds { told = min s.bounds.told (length front) }) cut made log' h.grows in
-        let same : depth (front ++ mine ∷ []) ≡ depth front = after_depth ∙ sym front_depth' in
+        let same : depth (front ++ mine ∷ []) ≡ depth front = after_deep log' s.trail h.search.on.order l h.learned ∙ sym (front_deep log' s.trail h.search.on.order l h.learned) in
         let last = last_push (min s.bounds.told (length front)) front mine inside (sym same) (inl same) made.untold_last in
         subst (λ (us : List ℕ). IsTrailOn log' us s'.bounds s'.trail) (sym atoms)
         (record {
@@ -317,6 +270,32 @@ module _ (log log' : LogState) (held : List Held) (s : state.Search) (work : Wor
               (subst (AreLast (min s.bounds.told (length front))) (sym entries) last);
         })
 
+    -- the clauses are those from before, and the new one
+    before_has : (i : ℕ) → HasClause s.propagation i → HasClause p i
+    before_has i has = subst (λ (x : Propagation). HasClause x i) (sym looked) has
+
+    had_before : (i : ℕ) → HasClause p i → HasClause s.propagation i
+    had_before i has = subst (λ (x : Propagation). HasClause x i) looked has
+
+    abbrev after : TrailState
+    after = record { entries = after_learned es l; size = s.trail.size }
+
+    after_trail : s'.trail ≡ after
+    after_trail = ap (λ (xs : List Assigned). record { entries = xs; size = s'.trail.size }) entries ∙ ap (λ (n : ℕ). record { entries = after_learned es l; size = n }) size
+
+    after_clauses : AreWatched log' (watch_state s'.propagation s'.trail)
+    after_clauses =
+        let order = h.search.on.order in
+        subst (λ (t : TrailState). AreWatched log' (watch_state s'.propagation t)) (sym after_trail)
+        (holds.watched after (after_watched log' s.trail order l h.learned s.propagation p looked (grown_watched log log' (watch_state s.propagation s.trail) h.grows h.search.watched))
+        (may_hold log' s.trail order l h.learned lits_within p.head))
+
+    after_lone : AreFirst log' s'
+    after_lone =
+        subst (λ (xs : List Assigned). All (λ (i : ℕ). HasTrue (below 0 xs) (literals_at log' i)) s'.propagation.lone.items) (sym entries)
+        (after_true log' s.trail h.search.on.order l h.learned (subst IsTrail after_trail ordered) p s'.propagation holds
+        (subst (λ (x : Propagation). All (λ (i : ℕ). HasTrue (below 0 es) (literals_at log' i)) x.lone.items) (sym looked) (first_grown log log' s h.grows h.search.watched h.first)))
+
     after_search : IsSearch log' held' s'
     after_search =
         let more : (i : ℕ) → Contains (ids held ++ l.clause ∷ []) i → Contains (ids held') i = λ i has. subst (λ (is : List ℕ). Contains is i) (sym ids_more) has in
@@ -329,19 +308,17 @@ module _ (log log' : LogState) (held : List Held) (s : state.Search) (work : Wor
         let on_trail = after_each (λ (e : Assigned). Contains s.atoms e.literal.atom) h.search.on.on_trail (learned_named log log' held s work falsified l h l.literal h.learned.has) in
         record {
           are_held = are_held;
-          listed = each_held (IsListed log' s'.index)
-              (λ i has m there.
-              index.kept m i
-              (All-contains (IsListed log s.index) (ids held) i h.search.listed has m (subst (λ (c : List Lit). Contains c m) (old_literals i has) there)))
-              index.listed;
-          only = λ m i has.
-              elim (index.only m i has) [
-                | inl old ↦ more i (Contains-append_left (ids held) (l.clause ∷ []) i (h.search.only m i old))
+          covered = λ i has.
+              All-contains (HasClause s'.propagation) (ids held') i
+              (each_held (HasClause s'.propagation) (λ j old. holds.kept j (before_has j (h.search.covered j old))) holds.has) has;
+          only = λ i has.
+              elim (holds.only i has) [
+                | inl old ↦ more i (Contains-append_left (ids held) (l.clause ∷ []) i (h.search.only i (had_before i old)))
                 | inr same ↦ subst (Contains (ids held')) same (more l.clause (Contains-push (ids held) l.clause))
               ];
           named = subst (λ (us : List ℕ). All (λ (i : ℕ). All (λ (m : Lit). Contains us m.atom) (literals_at log' i)) (ids held')) (sym atoms) named;
           within = subst (All (λ (t : ℕ). t < s'.trail.size)) (sym atoms) (subst (λ (n : ℕ). All (λ (t : ℕ). t < n) s.atoms) (sym size) h.search.within);
-          indexed = (index.size.0 ∙ h.search.indexed.0 ∙ sym size, index.size.1 ∙ h.search.indexed.1 ∙ sym size);
+          watched = after_clauses;
           marks = marks ∙ h.search.marks ∙ sym size;
           unmarked = unmarked;
           on = after_on on_trail;
@@ -356,13 +333,10 @@ module _ (log log' : LogState) (held : List Held) (s : state.Search) (work : Wor
       units = omega (arith, one_unit);
     }
 
-    pub learned : (place : ℕ) → place ≡ length front → Learns log' held' s s' work work' place
-    learned place is =
+    pub learned : Learns log' held' s s' work work'
+    learned =
         record {
-          search = after_search;
-          were_open = subst (WereOpen log' held') (sym entries) after_open;
-          inside = let long = ap length entries ∙ length_push front mine in omega (arith, long, is);
-          waits = subst (λ (xs : List Assigned). AreWaiting log' held' xs place) (sym entries) (subst (AreWaiting log' held' (after_learned es l)) (sym is) after_waits);
+          may = record { search = after_search; first = after_lone };
           noted = record {
             trail = subst (λ (us : List ℕ). TellsTrail log' us s'.bounds s'.trail.entries work') (sym atoms)
                 (subst (λ (xs : List Assigned). TellsTrail log' s.atoms s'.bounds xs work') (sym entries) (after_tells s'.bounds bounds));
@@ -376,9 +350,9 @@ module _ (log log' : LogState) (held : List Held) (s : state.Search) (work : Wor
         }
 
     -- the theory stands where the list leads
-    pub learned_ends : (m m' : TheoryState) → TellsLits → ClausesAreTrue → NegationIsOther → LegalWorkGoesOn → StaysAt m m' (told_lits s.bounds es) (told_lits s'.bounds s'.trail.entries) → (place : ℕ)
-        → EndsLegally m m' log s.atoms (told_lits s.bounds es) es work work' (Ok place)
-    learned_ends m m' tells clauses other goes_on stays place ns levels assumed q known only asked st =
+    pub learned_ends : (m m' : TheoryState) → TellsLits → ClausesAreTrue → NegationIsOther → LegalWorkGoesOn → StaysAt m m' (told_lits s.bounds es) (told_lits s'.bounds s'.trail.entries) → {A : Type 0} → (x : A)
+        → EndsLegally m m' log s.atoms (told_lits s.bounds es) es work work' (Ok x)
+    learned_ends m m' tells clauses other goes_on stays x ns levels assumed q known only asked st =
         let told' = told_lits s'.bounds s'.trail.entries in
         let b : Bounds = record s.bounds { told = min s.bounds.told (length front) } in
         let f = below_front s.trail.size es h.search.on.order l.level in

@@ -1,6 +1,6 @@
 -- What a conflict teaches: the clause that is put into the log, and its levels.
-use Rattle.std.proofs.Common.{◌≡◌, ◌≢◌, ℕ, ◌<◌, max, Bool, inl, inr, List, [], ◌∷◌, ◌++◌, length, take, drop, Some, None, sym, ap, subst, ◌∙◌, arith, take-append-drop}
-use Rattle.std.specs.Prelude.{All, Contains, MatchOption, Option, ◌≤◌, slice_get}
+use Rattle.std.proofs.Common.{◌≡◌, ◌≢◌, ℕ, ◌<◌, max, Bool, true, false, true≢false, ◌⊎◌, inl, inr, List, [], ◌∷◌, ◌++◌, length, take, drop, Some, None, sym, ap, subst, subst₂, ◌∙◌, arith, take-append-drop}
+use Rattle.std.specs.Prelude.{All, Contains, MatchOption, Option, ◌≤◌, is_some, slice_get}
 use Rattle.std.specs.Ordering.{nat_cmp, ord_max}
 use Rattle.std.proofs.lemmas.Bool.{cases_lt}
 use Rattle.std.proofs.lemmas.Bool.Decides.{nat_tests}
@@ -13,50 +13,93 @@ use Rattle.nz_log.specs.declared.atoms.Atom.{Atom}
 use Rattle.nz_log.specs.Atoms.{IsLitIn, TellsLits}
 use Rattle.nz_log.specs.Logs.{Entry, LogState, IsLive, Puts, chain_entry, chained, literals_at}
 use Rattle.nz_sat.specs.declared.analyze.Chain.{Chain}
+use Rattle.nz_sat.specs.declared.analyze.Learned.{Learned}
 use Rattle.nz_sat.specs.declared.trail.Assigned.{Assigned}
 use Rattle.nz_sat.specs.Trails.{EachBehind, IsFalseOn, IsNext, depth, level_on}
 use Rattle.nz_sat.specs.Clauses.{IsFalsified}
-use Rattle.nz_sat.specs.Conflicts.{AreLinks, HasLast, HasTwoLast, IsChain, IsGreatest, IsGreatestBut, IsLearned, IsLearnable, IsLoneLast}
+use Rattle.nz_sat.specs.Conflicts.{AreLinks, HasLast, HasTwoLast, IsBeside, IsChain, IsDeepestBut, IsGreatest, IsLearned, IsLearnable, IsLoneLast}
 use Rattle.nz_sat.proofs.Chains.{chained_once}
 use Rattle.nz_sat.proofs.Marks.{false_entry, level_found, marked_within}
 use Rattle.nz_sat.proofs.TrailEntries.{assigned_place, level_within}
 
--- ---- The greatest level but one
+-- ---- The deepest literal but one
+
+-- of the literals so far none differs from this one, or one is told that is of the greatest level of those that do, with that level
+abbrev pub IsDeepest : List Assigned → Lit → List Lit → Option Lit → ℕ → Type 0
+IsDeepest es but c None n = IsDeepestBut es but c None
+IsDeepest es but c (Some d) n = IsDeepestBut es but c (Some d) × (n ≡ level_on es d.atom)
+
+module _ (es : List Assigned) (but : Lit) (c : List Lit) (l : Lit) where
+  pub deepest_same : (o : Option Lit) (n : ℕ) → l ≡ but → IsDeepest es but c o n → IsDeepest es but (c ++ l ∷ []) o n
+  deepest_same None n same h = λ m has. elim (Contains-push_cases c l m has) [ inl before ↦ h m before | inr is ↦ sym is ∙ same ]
+  deepest_same (Some d) n same h = (
+    (
+      Contains-append_left c (l ∷ []) d h.0.0,
+      h.0.1,
+      λ m has other. elim (Contains-push_cases c l m has) [ inl before ↦ h.0.2 m before other | inr is ↦ absurd (other (sym is ∙ same)) ],
+    ),
+    h.1,
+  )
+
+  pub deepest_less : (o : Option Lit) (n : ℕ) → is_some o ≡ true → level_on es l.atom ≤ n → IsDeepest es but c o n → IsDeepest es but (c ++ l ∷ []) o n
+  deepest_less None n some less h = absurd (true≢false (sym some))
+  deepest_less (Some d) n some less h = (
+    (
+      Contains-append_left c (l ∷ []) d h.0.0,
+      h.0.1,
+      λ m has other.
+          elim (Contains-push_cases c l m has) [
+            | inl before ↦ h.0.2 m before other
+            | inr is ↦
+                let same : level_on es m.atom ≡ level_on es l.atom = ap (λ (x : Lit). level_on es x.atom) (sym is) in
+                omega (arith, h.1)
+          ],
+    ),
+    h.1,
+  )
+
+  pub deepest_more : (o : Option Lit) (n k : ℕ) → l ≢ but → (is_some o ≡ false) ⊎ (n < k) → k ≡ level_on es l.atom → IsDeepest es but c o n → IsDeepest es but (c ++ l ∷ []) (Some l) k
+  deepest_more None n k differ first own h = (
+    (
+      Contains-push c l,
+      differ,
+      λ m has other.
+          elim (Contains-push_cases c l m has) [
+            | inl before ↦ absurd (other (h m before))
+            | inr is ↦
+                let same : level_on es m.atom ≡ level_on es l.atom = ap (λ (x : Lit). level_on es x.atom) (sym is) in
+                omega (arith)
+          ],
+    ),
+    own,
+  )
+  deepest_more (Some d) n k differ (inl none) own h = absurd (true≢false none)
+  deepest_more (Some d) n k differ (inr more) own h = (
+    (
+      Contains-push c l,
+      differ,
+      λ m has other.
+          elim (Contains-push_cases c l m has) [
+            | inl before ↦
+                let low = h.0.2 m before other in
+                omega (arith, h.1)
+            | inr is ↦
+                let same : level_on es m.atom ≡ level_on es l.atom = ap (λ (x : Lit). level_on es x.atom) (sym is) in
+                omega (arith)
+          ],
+    ),
+    own,
+  )
+
+pub deepest_told : (es : List Assigned) (but : Lit) (c : List Lit) (o : Option Lit) (n : ℕ) → IsDeepest es but c o n → IsDeepestBut es but c o
+deepest_told es but c None n h = h
+deepest_told es but c (Some d) n h = h.0
+
+-- ---- The greatest level
 
 -- what `max` answers
 pub greater_of : (m n : ℕ) → ord_max nat_cmp m n ≡ max m n
 greater_of m n = grind (arith, nat_tests)
-
-module _ (es : List Assigned) (but : Lit) (c : List Lit) (n : ℕ) (l : Lit) (h : IsGreatestBut es but c n) where
-  kept_reached : 0 < n → (m : Lit) × Contains (c ++ l ∷ []) m × (m ≢ but) × (level_on es m.atom ≡ n)
-  kept_reached some = let w = h.reached some in (w.0, Contains-append_left c (l ∷ []) w.0 w.1, w.2, w.3)
-
-  pub greatest_same : l ≡ but → IsGreatestBut es but (c ++ l ∷ []) n
-  greatest_same same = record {
-    most = λ m has other.
-        elim (Contains-push_cases c l m has) [ inl before ↦ h.most m before other | inr is ↦ absurd (other (sym is ∙ same)) ];
-    reached = kept_reached;
-  }
-
-  pub greatest_more : l ≢ but → (k : ℕ) → k ≡ max n (level_on es l.atom) → IsGreatestBut es but (c ++ l ∷ []) k
-  greatest_more other k most = record {
-    most = λ m has differs.
-        elim (Contains-push_cases c l m has) [
-          | inl before ↦ let less = h.most m before differs in omega arith
-          | inr is ↦
-              let same : level_on es m.atom ≡ level_on es l.atom = ap (λ (x : Lit). level_on es x.atom) (sym is) in
-              omega arith
-        ];
-    reached = λ some.
-        elim (cases_lt n (level_on es l.atom)) [
-          | inl less ↦ (l, Contains-push c l, other, omega arith)
-          | inr atleast ↦
-              let w = kept_reached (omega arith) in
-              (w.0, w.1, w.2, omega (arith, w.3))
-        ];
-  }
-
--- ---- The greatest level
 
 pub greatest_grown : (es : List Assigned) (c : List Lit) (n : ℕ) (l : Lit) → IsGreatest es c n → (k : ℕ) → k ≡ max n (level_on es l.atom) → IsGreatest es (c ++ l ∷ []) k
 greatest_grown es c n l h k most =
@@ -149,6 +192,38 @@ links_within s es ns all ks within links =
     let l = All-contains (λ (e : Assigned). IsLitIn ns all e.literal) es w.1.0 within w.1.1 in
     record { atom = l.atom; at = ap (slice_get all) (sym w.1.2) ∙ l.at; within = l.within }) ks links
 
+-- ---- What is learned for a literal
+
+-- A clause is learned for a literal, with the greatest level of its others.
+pub record IsAsserting (es : List Assigned) (c : List Lit) (id : ℕ) (m : Lit) (l : Learned) : Type 0 where
+  pub clause : l.clause ≡ id
+  pub literal : l.literal ≡ m
+  pub others : (x : Lit) → Contains c x → x ≢ m → level_on es x.atom ≤ l.level
+  pub beside : IsBeside es c m l.level l.beside
+
+-- the greatest level of the others is below one that each of theirs is below
+beside_earlier : (es : List Assigned) (c : List Lit) (m : Lit) (level n : ℕ) (o : Option Lit) → 0 < n → IsBeside es c m level o
+    → ((x : Lit) → Contains c x → x ≢ m → level_on es x.atom < n) → level < n
+beside_earlier es c m level n None above h low = omega (arith, above, h.0)
+beside_earlier es c m level n (Some x) above h low = let less = low x h.0 h.1 in omega (arith, less, h.2)
+
+asserting_learned : (log : LogState) (es : List Assigned) (id : ℕ) (m : Lit) → 0 < depth es → IsLive log id → StandOnce (literals_at log id) → IsFalsified es (literals_at log id)
+    → Contains (literals_at log id) m → level_on es m.atom ≡ depth es → ((x : Lit) → Contains (literals_at log id) x → x ≢ m → level_on es x.atom < depth es)
+    → (l : Learned) → IsAsserting es (literals_at log id) id m l → IsLearned log es l
+asserting_learned log es id m above live once falsified has last low l asserts =
+    let told : IsLearned log es (record { clause = id; literal = m; level = l.level; beside = l.beside }) =
+    record {
+      live = live;
+      once = once;
+      falsified = falsified;
+      has = has;
+      last = last;
+      earlier = beside_earlier es (literals_at log id) m l.level (depth es) l.beside above asserts.beside low;
+      others = asserts.others;
+      beside = asserts.beside;
+    } in
+    subst₂ (λ (i : ℕ) (x : Lit). IsLearned log es (record { clause = i; literal = x; level = l.level; beside = l.beside })) (sym asserts.clause) (sym asserts.literal) told
+
 -- ---- A conflict that is the learned clause itself
 
 -- the level of a false literal is one of the trail's
@@ -166,27 +241,15 @@ lone_once es c l lone (inl two) =
     let none : (m : Lit) → Contains c m → level_on es m.atom ≡ depth es → (m ≢ l → ⊥) = λ m has last differ. lone.others m has differ last in
     absurd (none two.second two.has_second two.second_last (λ same. none two.first two.has_first two.first_last (λ is. two.differ (is ∙ sym same))))
 
-pub lone_taught : (size : ℕ) (es : List Assigned) → EachBehind (IsNext size) es → (log : LogState) (id : ℕ) (l : Lit) (level : ℕ) → IsLive log id
-    → IsFalsified es (literals_at log id) → IsLearnable es (literals_at log id) → 0 < depth es → IsLoneLast es (literals_at log id) l
-    → IsGreatestBut es l (literals_at log id) level → IsLearned log es (record { clause = id; literal = l; level = level })
-lone_taught size es order log id l level live falsified like above lone greatest =
-    record {
-      live = live;
-      once = lone_once es (literals_at log id) l lone like;
-      falsified = falsified;
-      has = lone.has;
-      last = lone.last;
-      earlier =
-          elim (cases_lt level (depth es)) [
-            | inl less ↦ less
-            | inr atleast ↦
-                let w = greatest.reached (omega arith) in
-                let most = false_level size es order w.0 (falsified w.0 w.1) in
-                absurd (lone.others w.0 w.1 w.2 (omega (arith, most, w.3, atleast)))
-          ];
-      others = greatest.most;
-      reached = greatest.reached;
-    }
+pub lone_taught : (size : ℕ) (es : List Assigned) → EachBehind (IsNext size) es → (log : LogState) (id : ℕ) (m : Lit) → IsLive log id
+    → IsFalsified es (literals_at log id) → IsLearnable es (literals_at log id) → 0 < depth es → IsLoneLast es (literals_at log id) m
+    → (l : Learned) → IsAsserting es (literals_at log id) id m l → IsLearned log es l
+lone_taught size es order log id m live falsified like above lone l asserts =
+    asserting_learned log es id m above live (lone_once es (literals_at log id) m lone like) falsified lone.has lone.last
+    (λ x has other.
+    let most = false_level size es order x (falsified x has) in
+    elim (cases_lt (level_on es x.atom) (depth es)) [ inl less ↦ less | inr atleast ↦ absurd (lone.others x has other (omega (arith, most, atleast))) ])
+    l asserts
 
 -- ---- The learned clause
 
@@ -199,23 +262,12 @@ module _ (old new : LogState) (es : List Assigned) (falsified : ℕ) (marks : Li
     pub literals_are : literals_at new id ≡ chained old (literals_at old falsified) c.links.items
     literals_are = puts_literals old new id (chain_entry old falsified c.links.items) puts
 
-    pub taught : TellsLits → (level : ℕ) → 0 < depth es → IsGreatestBut es c.literal (literals_at new id) level
-        → IsLearned new es (record { clause = id; literal = c.literal; level = level })
-    taught tells level above greatest =
-        record {
-          live = puts.live;
-          once = subst StandOnce (sym literals_are) (chained_once tells old (literals_at old falsified) c.links.items chain.some);
-          falsified = subst (IsFalsified es) (sym literals_are) chain.falsified_too;
-          has = subst (λ (l : List Lit). Contains l c.literal) (sym literals_are) chain.has;
-          last = chain.last;
-          earlier =
-              elim (cases_lt level (depth es)) [
-                | inl less ↦ less
-                | inr atleast ↦
-                    let w = greatest.reached (omega arith) in
-                    let less = chain.others w.0 (subst (λ (l : List Lit). Contains l w.0) literals_are w.1) w.2 in
-                    absurd (omega (arith, less, w.3))
-              ];
-          others = greatest.most;
-          reached = greatest.reached;
-        }
+    pub taught : TellsLits → 0 < depth es → (l : Learned) → IsAsserting es (literals_at new id) id c.literal l → IsLearned new es l
+    taught tells above l asserts =
+        asserting_learned new es id c.literal above puts.live
+        (subst StandOnce (sym literals_are) (chained_once tells old (literals_at old falsified) c.links.items chain.some))
+        (subst (IsFalsified es) (sym literals_are) chain.falsified_too)
+        (subst (λ (d : List Lit). Contains d c.literal) (sym literals_are) chain.has)
+        chain.last
+        (λ x has other. chain.others x (subst (λ (d : List Lit). Contains d x) literals_are has) other)
+        l asserts

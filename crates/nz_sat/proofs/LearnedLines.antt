@@ -34,7 +34,7 @@ use Rattle.nz_log.specs.Growth.{Grows}
 use Rattle.nz_sat.specs.Conflicts.{HasTwoLast, IsLearned, IsLearnable, StaysSound}
 use Rattle.nz_sat.specs.Numbers.{atom_literal, numbered}
 use Rattle.nz_sat.specs.Sats.{AreOn, HoldsLearned, HoldsMore, IsAsked, held_of, ids}
-use Rattle.nz_sat.specs.Searching.{Advances, IsConflict, IsSearch, StaysInOrder, WasNoted, WereOpen, learned_line}
+use Rattle.nz_sat.specs.Searching.{Advances, AreFirst, IsConflict, IsSearch, StaysInOrder, WasNoted, WereOpen, learned_line}
 use Rattle.nz_sat.specs.Theories.{EndsLegally, Keeps, TellsTrail, TheoryState, told_lits}
 use Rattle.nz_sat.specs.Trails.{EachBehind, IsFreeOn, IsFrontOf, IsNext, below, depth, is_decision, level_on}
 use Rattle.nz_sat.proofs.LogGrowth.{names_stay, on_kept, order_over}
@@ -46,6 +46,7 @@ use Rattle.nz_sat.proofs.Marks.{false_entry, level_found, not_itself}
 use Rattle.nz_sat.proofs.AtomTrails.{names_some}
 use Rattle.nz_sat.proofs.TrailGrowth.{learned_grown}
 use Rattle.nz_sat.proofs.TrailEntries.{assigned_place, level_within}
+use Rattle.nz_sat.proofs.WatchedTrails.{were_open}
 
 -- A clause that is falsified, and was open when the last decision was taken, has two literals of the last level.
 two_last : (size : ℕ) (es : List Assigned) → EachBehind (IsNext size) es → (c : List Lit) → IsFalsified es c → IsOpen (below (depth es - 1) es) c → HasTwoLast es c
@@ -72,21 +73,24 @@ two_last size es order c falsified (by_two l m has_l has_m differ free_l free_m)
 
 held_two : (size : ℕ) (es : List Assigned) → EachBehind (IsNext size) es → (log : LogState) (held : List Held) → WereOpen log held es → 0 < depth es
     → (i : ℕ) → Contains (ids held) i → IsFalsified es (literals_at log i) → HasTwoLast es (literals_at log i)
-held_two size es order log held were_open decided i has falsified =
+held_two size es order log held were decided i has falsified =
     let k = depth es - 1 in
     two_last size es order (literals_at log i) falsified
-    (All-contains (λ (j : ℕ). IsOpen (below k es) (literals_at log j)) (ids held) i (were_open k (omega arith)) has)
+    (All-contains (λ (j : ℕ). IsOpen (below k es) (literals_at log j)) (ids held) i (were k (omega arith)) has)
 
 -- a conflict may be the learned clause itself, or has two literals of the last level
-pub conflict_like : (size : ℕ) (es : List Assigned) → EachBehind (IsNext size) es → (log : LogState) (held : List Held) → WereOpen log held es → 0 < depth es
-    → (i : ℕ) → IsConflict log held es i → IsLearnable es (literals_at log i)
-conflict_like size es order log held were_open decided i c =
-    elim c.kind [ inl has ↦ inl (held_two size es order log held were_open decided i has c.falsified) | inr once ↦ inr once ]
+pub conflict_like : (log : LogState) (held : List Held) (s : state.Search) → IsSearch log held s → AreFirst log s → 0 < depth s.trail.entries → (i : ℕ) → IsConflict log held s.trail.entries i
+    → IsLearnable s.trail.entries (literals_at log i)
+conflict_like log held s h first decided i c =
+    elim c.kind [
+      | inl has ↦ inl (held_two s.trail.size s.trail.entries h.on.order log held (were_open log held s h first) decided i has c.falsified)
+      | inr once ↦ inr once
+    ]
 
 -- What is known where a search has learned from a clause that is falsified.
 pub record IsTaught (log log' : LogState) (held : List Held) (s : state.Search) (work : WorkList Note) (falsified : ℕ) (l : Learned) : Type 0 where
   pub search : IsSearch log held s
-  pub were_open : WereOpen log held s.trail.entries
+  pub first : AreFirst log s
   pub conflict : IsConflict log held s.trail.entries falsified
   pub decided : 0 < depth s.trail.entries
   pub noted : WasNoted log held s work
@@ -95,13 +99,13 @@ pub record IsTaught (log log' : LogState) (held : List Held) (s : state.Search) 
   pub learned : IsLearned log' s.trail.entries l
 
 pub taught : {log log' : LogState} {held : List Held} {s : state.Search} {work : WorkList Note} {l : Learned} (falsified : ℕ) → IsSearch log held s
-    → WereOpen log held s.trail.entries → IsConflict log held s.trail.entries falsified → 0 < depth s.trail.entries
+    → AreFirst log s → IsConflict log held s.trail.entries falsified → 0 < depth s.trail.entries
     → WasNoted log held s work → Grows log log' → StaysSound s.trail.entries log log' → IsLearned log' s.trail.entries l
     → IsTaught log log' held s work falsified l
-taught falsified search were_open conflict decided noted grows sound learned =
+taught falsified search first conflict decided noted grows sound learned =
     record {
       search = search;
-      were_open = were_open;
+      first = first;
       conflict = conflict;
       decided = decided;
       noted = noted;
@@ -188,7 +192,7 @@ module _ (log log' : LogState) (held : List Held) (s : state.Search) (work : Wor
   learned_new tells i has same =
       let k = depth es - 1 in
       let less : k < depth es = omega (arith, h.decided) in
-      let opened = All-contains (λ (j : ℕ). IsOpen (below k es) (literals_at log j)) (ids held) i (h.were_open k less) has in
+      let opened = All-contains (λ (j : ℕ). IsOpen (below k es) (literals_at log j)) (ids held) i (were_open log held s h.search h.first k less) has in
       open_differs s.atoms es lits learned_named h.learned.falsified tells s.trail.size h.search.on.order k l.literal
       (λ m there other. let low = h.learned.others m there other in let earlier = h.learned.earlier in omega (arith, low, earlier))
       (literals_at log i) (held_named s.atoms log (ids held) h.search.named i has) opened same
@@ -289,7 +293,7 @@ module _ (log log' : LogState) (held : List Held) (s : state.Search) (work : Wor
         may = (may_learn tells clauses other ns levels assumed q only asked, refl);
       }
 
-  -- where it isn't put into the index
+  -- where it isn't held
   pub line_memory : (A : Type 0) → TellsLits → ClausesAreTrue → NegationIsOther → LegalWorkGoesOn → (m m' : TheoryState)
       → EndsLegally {A = A} m m' log s.atoms (told_lits s.bounds es) es work (with_line work (learned_line s.atoms log' l)) (Err Memory)
   line_memory A tells clauses other goes_on m m' ns levels assumed q known only asked st =

@@ -1,7 +1,7 @@
 -- A search from its start to its end: what is assumed, and one turn of decision and conflicts.
-use Rattle.std.proofs.Common.{◌≡◌, ℕ, ◌+◌, ◌<◌, if◌then◌else◌, List, [], ◌∷◌, length, take, map, get_or, inl, Option, None, refl, sym, ap, subst, ◌∙◌, arith, Result, Ok, Err, ◌≢◌, ◌≤◌, Bool, true, ◌++◌, Some, inr}
+use Rattle.std.proofs.Common.{◌≡◌, ℕ, ◌+◌, ◌<◌, if◌then◌else◌, List, [], ◌∷◌, length, take, map, get_or, Option, None, refl, sym, ap, subst, ◌∙◌, arith, Result, Ok, Err, ◌≢◌, ◌≤◌, Bool, true, ◌++◌, Some, inr}
 use Rattle.std.specs.Prelude.{All, Contains, IfOk, IfSome, filter, unwrap_or, nat_lt, slice_get}
-use Rattle.std.proofs.lemmas.List.{get_or-map, length-map, length_push, take-append-le, append-nil, map_push}
+use Rattle.std.proofs.lemmas.List.{get_or-map, length-map, take-append-le, append-nil, map_push}
 use Rattle.std.proofs.lemmas.List.Elements.{All-contains, All-cons, All-filter, All-map, All-nil, All-push, filter-append}
 use Rattle.std.proofs.lemmas.List.Sums.{length-filter, sum_by_push}
 use Rattle.std.proofs.lemmas.Option.{IfSome_then, slice_get-get_or, same_Some, slice_get_within}
@@ -17,19 +17,17 @@ use Rattle.nz_sat.specs.declared.clauses.Held.{Held}
 use Rattle.nz_sat.specs.declared.search.Search.{Search}
 use Rattle.nz_sat.specs.Sats.{AreOn, HoldsLearned, ids}
 use Rattle.nz_sat.specs.declared.trail.Assigned.{Assigned}
-use Rattle.nz_sat.specs.Clauses.{IsAssumed, HasReasonOf}
+use Rattle.nz_sat.specs.Clauses.{HasReasonOf, HasTrue, IsAssumed}
 use Rattle.nz_sat.specs.Numbers.{number_of, numbered, atom_literal}
 use Rattle.nz_sat.specs.Conflicts.{Refutes, StaysSound}
-use Rattle.nz_sat.specs.Searching.{Advances, AreOpen, AreWaiting, AssumesAll, Carries, Decides, IsNoted, IsSearch, Runs, Settles, SettlesOn, StaysInOrder, Steps, WereOpen, assumed_entries, KeepsFirst}
+use Rattle.nz_sat.specs.Searching.{Advances, AreFirst, AssumesAll, Carries, Decides, IsLookedThrough, IsNoted, IsReady, IsSearch, KeepsFirst, Runs, Settles, SettlesOn, StaysInOrder, Steps, assumed_entries}
 use Rattle.nz_sat.specs.Theories.{EndsLegally, TheoryState, bounds_on, told_literal, told_lits, told_on}
-use Rattle.nz_sat.specs.Trails.{AreUpTo, EachBehind, IsNext, IsTrueOn, TrailState, assigned, below, decided, depth, is_decision, literals_on, with_entry}
+use Rattle.nz_sat.specs.Trails.{IsTrueOn, TrailState, assigned, below, decided, depth, is_decision, literals_on, with_entry}
 use Rattle.nz_sat.proofs.SearchSteps.{Reaches, log_reaches, reaches_step, reaches_then, steps_behind}
-use Rattle.nz_sat.proofs.Levels.{below_all, below_join, below_none}
 use Rattle.nz_sat.proofs.Propagations.{carries_far}
 use Rattle.nz_sat.proofs.LogGrowth.{order_over, grows_none}
 use Rattle.nz_sat.proofs.ToldTrails.{stands_so, keeps_none}
-use Rattle.nz_sat.proofs.TrailEntries.{level_within, assigned_at}
-use Rattle.std.proofs.lemmas.Bool.{cases_lt}
+use Rattle.nz_sat.proofs.TrailEntries.{assigned_at}
 use Rattle.std.proofs.lemmas.Bool.Decides.{Decides-ltb}
 use Rattle.nz_spec.specs.laws.LegalWork.{LegalWorkGoesOn}
 use Rattle.nz_spec.specs.search.Legal.{MayDecide}
@@ -38,9 +36,9 @@ use Rattle.nz_spec.specs.terms.Table.{Node}
 use Rattle.nz_log.specs.Atoms.{clause_in}
 use Rattle.nz_search.specs.Standing.{search_after}
 use Rattle.nz_sat.proofs.SearchLines.{adds_line, line_lead, search_more}
-use Rattle.nz_sat.proofs.Clausal.{open_grows}
 use Rattle.nz_sat.proofs.AtomNumbers.{number_found, number_place}
 use Rattle.nz_sat.proofs.AtomTrails.{trail_push}
+use Rattle.nz_sat.proofs.WatchedTrails.{below_same, below_whole, decided_watched}
 
 -- ---- A search after one decision more
 
@@ -63,47 +61,31 @@ module _ (log : LogState) (held : List Held) (s : Search) (h : IsSearch log held
       sum_by_push (λ (x : Assigned). if is_decision x then 1 else 0) s.trail.entries entry
       ∙ ap (λ (b : Bool). depth s.trail.entries + (if b then 1 else 0)) above_zero
 
-  pub decided_search : IsSearch log held (record s { trail = with_entry s.trail entry })
-  decided_search =
+  decided_search : IsLookedThrough s → IsSearch log held (record s { trail = with_entry s.trail entry })
+  decided_search all =
       record {
         are_held = h.are_held;
-        listed = h.listed;
+        covered = h.covered;
         only = h.only;
         named = h.named;
         within = h.within;
-        indexed = h.indexed;
+        watched = decided_watched log s.propagation s.trail literal h.on.order all h.watched;
         marks = h.marks;
         unmarked = h.unmarked;
         on = trail_push log s.atoms s.bounds s.trail h.on entry free (All-contains (λ (u : ℕ). u < s.trail.size) s.atoms t h.within atom) atom tt (sym more_depth) (inr whole);
         reasons = All-push (HasReasonOf (ids held)) s.trail.entries entry h.reasons tt;
       }
 
-  below_more : (k : ℕ) → k ≤ depth s.trail.entries → below k after ≡ below k s.trail.entries
-  below_more k le =
-      let P : Assigned → Type 0 = λ e. k < e.level in
-      let none : below k (entry ∷ []) ≡ [] = below_none k (entry ∷ []) (All-cons P entry [] (omega arith) (All-nil P)) in
-      below_join k s.trail.entries (entry ∷ []) ∙ ap (λ (xs : List Assigned). below k s.trail.entries ++ xs) none ∙ append-nil (below k s.trail.entries)
+  below_zero : below 0 after ≡ below 0 s.trail.entries
+  below_zero =
+      let P : Assigned → Type 0 = λ e. 0 < e.level in
+      below_same 0 s.trail.entries (entry ∷ []) (All-cons P entry [] (omega arith) (All-nil P))
 
-  up_to_depth : AreUpTo (depth s.trail.entries) s.trail.entries
-  up_to_depth k d inside =
-      level_within s.trail.size s.trail.entries h.on.order k (get_or s.trail.entries k d) (slice_get-get_or s.trail.entries k d inside)
+  decided_first : KeepsFirst s.trail.entries after
+  decided_first l true_before = subst (λ (xs : List Assigned). IsTrueOn xs l) (sym below_zero) true_before
 
-  pub decided_were : AreOpen log held s.trail.entries → WereOpen log held s.trail.entries → WereOpen log held after
-  decided_were all_open were k less =
-      let same = more_depth in
-      let low : k ≤ depth s.trail.entries = omega arith in
-      elim (cases_lt k (depth s.trail.entries)) [
-        | inl below' ↦ subst (AreOpen log held) (sym (below_more k low)) (were k below')
-        | inr top ↦
-            let at : k ≡ depth s.trail.entries = omega arith in
-            let all : below k s.trail.entries ≡ s.trail.entries =
-            ap (λ (n : ℕ). below n s.trail.entries) at ∙ below_all (depth s.trail.entries) s.trail.entries up_to_depth in
-            subst (AreOpen log held) (sym (below_more k low ∙ all)) all_open
-      ]
-
-  pub decided_waits : AreOpen log held s.trail.entries → AreWaiting log held after (length s.trail.entries)
-  decided_waits all_open k d inside =
-      open_grows s.trail.entries (entry ∷ []) (length s.trail.entries) (literals_at log (get_or (ids held) k d)) (omega arith) (all_open k d inside)
+  decided_true : AreFirst log s → AreFirst log (record s { trail = with_entry s.trail entry })
+  decided_true = subst (λ (xs : List Assigned). All (λ (i : ℕ). HasTrue xs (literals_at log i)) s.propagation.lone.items) (sym below_zero)
 
   -- ---- The line
 
@@ -209,9 +191,6 @@ module _ (log : LogState) (held : List Held) (s : Search) (h : IsSearch log held
   decided_assumed assumed only =
       All-push (IsAssumed assumed) s.trail.entries entry only (λ none level. absurd (omega arith))
 
-  pub decided_first : KeepsFirst s.trail.entries after
-  decided_first l true_before = subst (λ (xs : List Assigned). IsTrueOn xs l) (sym (below_more 0 (omega arith))) true_before
-
 -- ---- A search from its start to its end: what is assumed, and one turn of decision and conflicts
 
 abbrev entry_of : Lit → Assigned
@@ -237,31 +216,23 @@ no_decisions es none = empty (filter is_decision es) (length-filter is_decision 
   empty [] h = refl
   empty (x ∷ xs) h = absurd (omega arith)
 
-pub below_first : (size : ℕ) (es : List Assigned) → EachBehind (IsNext size) es → depth es ≡ 0 → below 0 es ≡ es
-below_first size es order none =
-    let up_to : AreUpTo 0 es =
-    λ k d inside. let level = level_within size es order k (get_or es k d) (slice_get-get_or es k d inside) in omega (arith, level, none) in
-    below_all 0 es up_to
-
 -- ---- One decision
 
--- An atom is decided: the clauses wait for it.
+-- An atom is decided.
 pub record HasDecided (theory : TheoryState) (log : LogState) (held : List Held) (s mid : Search) (work work' : WorkList Note) : Type 0 where
   pub search : IsSearch log held mid
-  pub were_open : WereOpen log held mid.trail.entries
-  pub waits : AreWaiting log held mid.trail.entries (length s.trail.entries)
+  pub first : AreFirst log mid
   pub noted : IsNoted log held mid work'
   pub carries : Carries s mid work work'
   pub reaches : Reaches theory theory s s.trail.entries mid log log held held work work'
   pub told : told_lits mid.bounds mid.trail.entries ≡ told_lits s.bounds s.trail.entries
-  pub more : length mid.trail.entries ≡ length s.trail.entries + 1
   pub units : unit_count work'.lines ≡ unit_count work.lines + 1
 
 pub has_decided : LegalWorkGoesOn → (m : TheoryState) → {s mid : Search} → {log : LogState} → {held : List Held} → {work work' : WorkList Note} → (t : ℕ)
-    → IsSearch log held s → AreOpen log held s.trail.entries → WereOpen log held s.trail.entries → IsNoted log held s work
+    → IsSearch log held s → IsReady log s → IsNoted log held s work
     → assigned s.trail.entries t ≡ None → Contains s.atoms t → s.bounds.told ≡ length s.trail.entries → mid ≡ record s { trail = mid.trail } → Decides s mid t work work'
     → HasDecided m log held s mid work work'
-has_decided goes_on m {s} {mid} {log} {held} {work} {work'} t h all_open were_open is_noted free atom whole rest d =
+has_decided goes_on m {s} {mid} {log} {held} {work} {work'} t h ready is_noted free atom whole rest d =
     let e = decided s.trail.entries (record { atom = t; sign = d.sign }) in
     let trail : TrailState = with_entry s.trail e in
     let made : Search = record s { trail = trail } in
@@ -270,9 +241,8 @@ has_decided goes_on m {s} {mid} {log} {held} {work} {work'} t h all_open were_op
     subst (λ (r : Search). HasDecided m log held s r work work') (sym (rest ∙ ap (λ (e : TrailState). record s { trail = e }) d.trail))
     (subst (HasDecided m log held s made work) (sym d.noted)
     (record {
-      search = decided_search log held s h t d.sign free atom whole;
-      were_open = decided_were log held s h t d.sign free atom whole all_open were_open;
-      waits = decided_waits log held s h t d.sign free atom whole all_open;
+      search = decided_search log held s h t d.sign free atom whole ready.all;
+      first = decided_true log held s h t d.sign free atom whole ready.first;
       noted = decided_noted log held s h t d.sign free atom whole work is_noted;
       carries = record {
         atoms = refl;
@@ -282,7 +252,6 @@ has_decided goes_on m {s} {mid} {log} {held} {work} {work'} t h all_open were_op
       };
       reaches = decided_reaches log held s h t d.sign free atom whole goes_on m work is_noted;
       told = ap (λ (xs : List Assigned). literals_on (bounds_on s.bounds.marks.items xs)) (take-append-le s.bounds.told s.trail.entries (e ∷ []) h.on.inside);
-      more = length_push s.trail.entries e;
       units = units;
     }))
 
@@ -295,8 +264,7 @@ settles_far {s = s} {mid = mid} {new = new} {work = work} {work₁ = work₁} {w
     record {
       settles = record {
         search = st.search;
-        all_open = st.all_open;
-        were_open = st.were_open;
+        ready = st.ready;
         noted = st.noted;
         carries = carries_far s mid new work work₁ work₂ d.carries st.carries;
       };
@@ -306,15 +274,15 @@ settles_far {s = s} {mid = mid} {new = new} {work = work} {work₁ = work₁} {w
 
 -- ---- The run
 
--- nothing is decided yet, and the clauses were followed
+-- nothing is decided yet, and all was propagated
 pub runs_first : {assumed : List Lit} → {start mid s : Search} → {log log' : LogState} → {held held' : List Held} → {work work' : WorkList Note}
-    → mid ≡ record start { trail = mid.trail } → AssumesAll log held assumed mid None → Settles log' held' mid s work work' → Runs log' held' assumed start s work'
+    → mid ≡ record start { trail = mid.trail; propagation = mid.propagation } → AssumesAll log held assumed mid None → Settles log' held' mid s work work' → Runs log' held' assumed start s work'
 runs_first {assumed} {start} {mid} {s} rest a st =
-    let first = below_first mid.trail.size mid.trail.entries a.search.on.order a.undecided in
+    let undecided = a.undecided in
+    let first = below_whole mid.trail.size mid.trail.entries a.search.on.order 0 (omega (arith, undecided)) in
     record {
       search = st.search;
-      all_open = st.all_open;
-      were_open = st.were_open;
+      ready = st.ready;
       noted = st.noted;
       same = st.carries.atoms ∙ ap (λ (r : Search). r.atoms) rest;
       assumed_only = st.carries.assumed_only assumed a.assumed_only;
@@ -330,7 +298,7 @@ module _ (start : Search) (none : start.trail.entries ≡ []) (log : LogState) (
   pub first_told : (es : List Assigned) → told_on start.bounds es ≡ []
   first_told es = ap (λ (n : ℕ). bounds_on start.bounds.marks.items (take n es)) first_place
 
-  pub first_noted : {mid : Search} → {assumed : List Lit} → {work : WorkList Note} → mid ≡ record start { trail = mid.trail } → AssumesAll log held assumed mid None → IsNoted log held start work
+  pub first_noted : {mid : Search} → {assumed : List Lit} → {work : WorkList Note} → mid ≡ record start { trail = mid.trail; propagation = mid.propagation } → AssumesAll log held assumed mid None → IsNoted log held start work
       → IsNoted log held mid work
   first_noted {mid} {assumed} {work} rest a noted =
       let es = mid.trail.entries in
@@ -348,12 +316,12 @@ module _ (start : Search) (none : start.trail.entries ≡ []) (log : LogState) (
         learned = noted.learned;
       })
 
-  pub first_lits : {mid : Search} → mid ≡ record start { trail = mid.trail } → told_lits mid.bounds mid.trail.entries ≡ []
+  pub first_lits : {mid : Search} → mid ≡ record start { trail = mid.trail; propagation = mid.propagation } → told_lits mid.bounds mid.trail.entries ≡ []
   first_lits {mid} rest = ap (λ (r : Search). told_lits r.bounds mid.trail.entries) rest ∙ ap literals_on (first_told mid.trail.entries)
 
   -- the entries of what is assumed are assumed
   pub first_advances : {A : Type 0} → {m m' : TheoryState} → {assumed : List Lit} → {mid : Search} → {log' : LogState} → {held' : List Held} → {work work' : WorkList Note} → {o : Option ℕ}
-      → {result : Result A Stop} → mid ≡ record start { trail = mid.trail } → AssumesAll log held assumed mid o → Advances m m' mid mid.trail.entries log log' held held' work work' result
+      → {result : Result A Stop} → mid ≡ record start { trail = mid.trail; propagation = mid.propagation } → AssumesAll log held assumed mid o → Advances m m' mid mid.trail.entries log log' held held' work work' result
       → Advances m m' start (assumed_entries assumed) log log' held held' work work' result
   first_advances {m = m} {m' = m'} {assumed} {mid} {log'} {held'} {work} {work'} {result = result} rest a step =
       let atoms : mid.atoms ≡ start.atoms = ap (λ (r : Search). r.atoms) rest in
@@ -374,7 +342,7 @@ module _ (start : Search) (none : start.trail.entries ≡ []) (log : LogState) (
 
   -- the log grows by a refutation before anything is decided
   pub first_refuted : {A : Type 0} → (m : TheoryState) → {assumed : List Lit} → {mid : Search} → {log' : LogState} → (work : WorkList Note) → {o : Option ℕ}
-      → mid ≡ record start { trail = mid.trail } → AssumesAll log held assumed mid o → Grows log log' → StaysSound mid.trail.entries log log' → (result : Result A Stop)
+      → mid ≡ record start { trail = mid.trail; propagation = mid.propagation } → AssumesAll log held assumed mid o → Grows log log' → StaysSound mid.trail.entries log log' → (result : Result A Stop)
       → EndsLegally m m log start.atoms (told_lits start.bounds start.trail.entries) (assumed_entries assumed) work work result
       → Advances m m start (assumed_entries assumed) log log' held held work work result
   first_refuted m {assumed} {mid} {log'} work rest a grows sound result ends =
@@ -389,12 +357,6 @@ module _ (start : Search) (none : start.trail.entries ≡ []) (log : LogState) (
   first_stands m work noted es A x ns levels assumed q known only asked st =
       stands_so ns log start.atoms start.bounds start.trail.entries work noted.trail (m.at ns) q st
 
-pub first_were : {mid : Search} → {log : LogState} → {held : List Held} → {assumed : List Lit} → {o : Option ℕ} → AssumesAll log held assumed mid o → WereOpen log held mid.trail.entries
-first_were a k less = let none = a.undecided in absurd (omega (arith, less, none))
-
-pub first_waits : {mid : Search} → {log : LogState} → {held : List Held} → {assumed : List Lit} → (n : ℕ) → AssumesAll log held assumed mid None → AreWaiting log held mid.trail.entries n
-first_waits n a k d inside = inl (a.all_open refl k d inside)
-
 -- the order of what is decided next has no part in it
 pub runs_ordered : {assumed : List Lit} → {start s new : Search} → {log : LogState} → {held : List Held} → {work : WorkList Note}
     → Runs log held assumed start s work → new ≡ record s { order = new.order } → Runs log held assumed start new work
@@ -404,18 +366,17 @@ runs_ordered {assumed} {start} {s} {new} {log} {held} {work} h rest =
     (record {
       search = record {
         are_held = q.are_held;
-        listed = q.listed;
+        covered = q.covered;
         only = q.only;
         named = q.named;
         within = q.within;
-        indexed = q.indexed;
+        watched = q.watched;
         marks = q.marks;
         unmarked = q.unmarked;
         on = q.on;
         reasons = q.reasons;
       };
-      all_open = h.all_open;
-      were_open = h.were_open;
+      ready = record { first = h.ready.first; all = h.ready.all };
       noted = record { trail = h.noted.trail; learned = h.noted.learned };
       same = h.same;
       assumed_only = h.assumed_only;
@@ -428,8 +389,7 @@ pub runs_on : {assumed : List Lit} → {start s new : Search} → {log log' : Lo
 runs_on {assumed} h st =
     record {
       search = st.search;
-      all_open = st.all_open;
-      were_open = st.were_open;
+      ready = st.ready;
       noted = st.noted;
       same = st.carries.atoms ∙ h.same;
       assumed_only = st.carries.assumed_only assumed h.assumed_only;

@@ -13,14 +13,15 @@ use Rattle.nz_search.specs.Theories.{IsClash}
 use Rattle.nz_log.specs.Growth.{Grows}
 use Rattle.nz_sat.specs.declared.clauses.Held.{Held}
 use Rattle.nz_sat.specs.declared.consult.Bounds.{Bounds}
+use Rattle.nz_sat.specs.declared.propagation.Propagation.{Propagation}
 use Rattle.nz_sat.specs.declared.search.Search.{Search}
 use Rattle.nz_sat.specs.declared.trail.Assigned.{Assigned}
 use Rattle.nz_sat.specs.Conflicts.{GoesBackTo, HasLast, IsFalsifiedUnder, StaysSound}
 use Rattle.nz_sat.specs.Numbers.{numbered}
-use Rattle.nz_sat.specs.Searching.{Advances, Carries, ComesTo, Follows, IsConflict, IsNoted, IsSearch, Learns, MayFollow, OpenOrConflict, OpenOrFalsified, Settles, StaysInOrder, Steps, Turns, TurnsOn, WasNoted, WereOpen, AreOpen}
+use Rattle.nz_sat.specs.Searching.{Advances, AreFirst, Carries, ComesTo, Follows, IsConflict, IsNoted, IsSearch, Learns, PropagatedOrConflict, PropagatedOrFalsified, Settles, StaysInOrder, Steps, Turns, TurnsOn, WasNoted}
 use Rattle.nz_sat.specs.Theories.{AddsLines, Consults, EndsLegally, IsMet, IsOfTheory, IsTrailOn, TellsTrail, TheoryState, told_lits}
 use Rattle.nz_sat.specs.Trails.{GoesOn, IsTrueOn, below, depth, literals_on, IsFalseOn, IsFrontOf, level_on}
-use Rattle.nz_sat.proofs.SearchSteps.{Reaches, log_reaches, reaches_step, reaches_then, stands_legal, steps_behind}
+use Rattle.nz_sat.proofs.SearchSteps.{Reaches, advances_same, ends_memory, log_reaches, reaches_step, reaches_then, stands_legal, steps_behind}
 use Rattle.nz_sat.proofs.Propagations.{carries_far, goes_first, goes_tells, goes_told}
 use Rattle.nz_sat.proofs.LogGrowth.{atoms_stay, grows_far, grows_none, held_on, on_kept, order_over}
 use Rattle.nz_sat.proofs.TrailGrowth.{goes_assumed, held_live, learned_grown}
@@ -29,10 +30,12 @@ use Rattle.nz_sat.proofs.SearchLines.{adds_keep, adds_units, adds_wider, learned
 use Rattle.nz_sat.proofs.ToldTrails.{clash_falsified, stands_so}
 use Rattle.std.proofs.lemmas.Bool.{cases_lt}
 use Rattle.std.proofs.lemmas.List.Elements.{All-contains, Contains-append_left}
-use Rattle.nz_sat.specs.Clauses.{HasReasonOf, IsAssumed, IsFalsified, IsOpen, ids_of}
+use Rattle.nz_sat.specs.Clauses.{HasReasonOf, IsAssumed, IsFalsified}
 use Rattle.nz_sat.proofs.LearnedClauses.{all_from, false_level}
 use Rattle.nz_sat.proofs.Marks.{false_entry, level_found}
 use Rattle.nz_sat.specs.Sats.{HoldsLearned, ids}
+use Rattle.nz_sat.specs.Watched.{HasClause, watch_state}
+use Rattle.nz_sat.proofs.WatchedTrails.{cut_watched, first_cut, first_grown, grown_watched}
 use Rattle.nz_sat.proofs.AtomTrails.{literals_kept, trail_cut, trail_grown}
 
 -- ---- What a search keeps where it goes back, and where the log or the work list grows
@@ -44,31 +47,25 @@ module _ (log log' : LogState) (g : Grows log log') (held : List Held) (s : Sear
   same_literals i has = literals_kept log log' g i (held_live log held h.are_held i has)
 
   -- what holds of the literals of each clause that is held
-  each_kept : (P : ℕ → List Lit → Type 0) → All (λ (i : ℕ). P i (literals_at log i)) (ids held) → All (λ (i : ℕ). P i (literals_at log' i)) (ids held)
+  each_kept : (P : List Lit → Type 0) → All (λ (i : ℕ). P (literals_at log i)) (ids held) → All (λ (i : ℕ). P (literals_at log' i)) (ids held)
   each_kept P each =
-      all_from (λ (i : ℕ). P i (literals_at log' i)) (ids held)
-      (λ i has. subst (P i) (sym (same_literals i has)) (All-contains (λ (j : ℕ). P j (literals_at log j)) (ids held) i each has))
+      all_from (λ (i : ℕ). P (literals_at log' i)) (ids held)
+      (λ i has. subst P (sym (same_literals i has)) (All-contains (λ (j : ℕ). P (literals_at log j)) (ids held) i each has))
 
   pub grown_search : IsSearch log' held s
   grown_search =
       record {
         are_held = held_on log log' held g h.are_held;
-        listed = each_kept (λ i c. (l : Lit) → Contains c l → Contains (ids_of s.index l) i) h.listed;
+        covered = h.covered;
         only = h.only;
-        named = each_kept (λ i c. All (λ (l : Lit). Contains s.atoms l.atom) c) h.named;
+        named = each_kept (λ c. All (λ (l : Lit). Contains s.atoms l.atom) c) h.named;
         within = h.within;
-        indexed = h.indexed;
+        watched = grown_watched log log' (watch_state s.propagation s.trail) g h.watched;
         marks = h.marks;
         unmarked = h.unmarked;
         on = trail_grown log s.atoms s.bounds s.trail h.on log' g;
         reasons = h.reasons;
       }
-
-  pub grown_open : (es : List Assigned) → AreOpen log held es → AreOpen log' held es
-  grown_open es all_open = each_kept (λ i c. IsOpen es c) all_open
-
-  pub grown_were : (es : List Assigned) → WereOpen log held es → WereOpen log' held es
-  grown_were es were k less = grown_open (below k es) (were k less)
 
 -- ---- The trail is cut
 
@@ -78,21 +75,22 @@ front_each P es es' f each =
     all_from P es'
     (λ x has. All-contains P es x each (subst (λ (xs : List Assigned). Contains xs x) (sym f.joined) (Contains-append_left es' f.more x has)))
 
-pub cut_search : (log : LogState) (held : List Held) (s s' : Search) → IsSearch log held s → s' ≡ record s { trail = s'.trail; order = s'.order; bounds = s'.bounds }
-    → s'.trail.size ≡ s.trail.size → (k : ℕ) → s'.trail.entries ≡ below k s.trail.entries → s'.bounds ≡ record s.bounds { told = min s.bounds.told (length s'.trail.entries) }
+pub cut_search : (log : LogState) (held : List Held) (s s' : Search) → IsSearch log held s → s' ≡ record s { trail = s'.trail; propagation = s'.propagation; order = s'.order; bounds = s'.bounds }
+    → s'.trail.size ≡ s.trail.size → (k : ℕ) → s'.trail.entries ≡ below k s.trail.entries
+    → s'.propagation ≡ record s.propagation { head = min s.propagation.head (length s'.trail.entries) } → s'.bounds ≡ record s.bounds { told = min s.bounds.told (length s'.trail.entries) }
     → IsSearch log held s'
-cut_search log held s s' h rest size k cut bounds =
+cut_search log held s s' h rest size k cut looked bounds =
     let es = s.trail.entries in
     let es' = s'.trail.entries in
     let f = subst (λ (xs : List Assigned). IsFrontOf xs es) (sym cut) (below_front s.trail.size es h.on.order k) in
     subst (IsSearch log held) (sym rest)
     (record {
       are_held = h.are_held;
-      listed = h.listed;
-      only = h.only;
+      covered = λ i has. subst (λ (p : Propagation). HasClause p i) (sym looked) (h.covered i has);
+      only = λ i has. h.only i (subst (λ (p : Propagation). HasClause p i) looked has);
       named = h.named;
       within = subst (λ (n : ℕ). All (λ (t : ℕ). t < n) s.atoms) (sym size) h.within;
-      indexed = (h.indexed.0 ∙ sym size, h.indexed.1 ∙ sym size);
+      watched = cut_watched log s.propagation s'.propagation s.trail s'.trail k h.on.order cut size looked h.watched;
       marks = h.marks ∙ sym size;
       unmarked = h.unmarked;
       on = trail_cut log s.atoms s.bounds s.trail h.on k s'.bounds s'.trail size cut bounds;
@@ -129,12 +127,6 @@ module _ (log : LogState) (held : List Held) (s : Search) (h : IsSearch log held
   pub cut_conflict : IsConflict log held es' id
   cut_conflict = record { live = c.live; falsified = cut_falsified; kind = c.kind }
 
-  pub cut_were : WereOpen log held es → WereOpen log held es'
-  cut_were were k less =
-      let inside = level_inside in
-      let same = cut_depth in
-      subst (AreOpen log held) (sym (ap (below k) b.cut ∙ below_twice k bottom (omega arith) es)) (were k (omega arith))
-
   pub cut_last : 0 < depth es' → HasLast es' lits
   cut_last above =
       let same = cut_depth in
@@ -150,20 +142,13 @@ module _ (log : LogState) (held : List Held) (s : Search) (h : IsSearch log held
 
 -- ---- One look for a conflict
 
-falsified_conflict : (log : LogState) (held : List Held) (s : Search) (es : List Assigned) (told : Option ℕ) → IsSearch log held s → OpenOrFalsified log held es told
-    → OpenOrConflict log held es told
-falsified_conflict log held s es None h open_all = open_all
-falsified_conflict log held s es (Some id) h falsified = record { live = held_live log held h.are_held id falsified.0; falsified = falsified.1; kind = inl falsified.0 }
+falsified_conflict : (log : LogState) (held : List Held) (s : Search) (told : Option ℕ) → IsSearch log held s → PropagatedOrFalsified log held s told → PropagatedOrConflict log held s told
+falsified_conflict log held s None h all = all
+falsified_conflict log held s (Some id) h falsified = record { live = held_live log held h.are_held id falsified.0; falsified = falsified.1; kind = inl falsified.0 }
 
--- a held clause is falsified, or all are open
+-- a held clause is falsified, or all was propagated
 pub comes_falsified : (log : LogState) (held : List Held) (s s' : Search) (told : Option ℕ) → Follows log held s s' told → ComesTo log held s s' told
-comes_falsified log held s s' told f =
-    record {
-      search = f.search;
-      were_open = f.were_open;
-      goes_on = f.goes_on;
-      told_so = falsified_conflict log held s' s'.trail.entries told f.search f.told_so;
-    }
+comes_falsified log held s s' told f = record { may = f.may; goes_on = f.goes_on; told_so = falsified_conflict log held s' told f.may.search f.told_so }
 
 -- what is known of the trail where the theory was told more of it
 search_told : (log log' : LogState) → Grows log log' → (held : List Held) (s : Search) → IsSearch log held s → (b : Bounds) → IsTrailOn log' s.atoms b s.trail
@@ -172,11 +157,11 @@ search_told log log' g held s h b on =
     let grown = grown_search log log' g held s h in
     record {
       are_held = grown.are_held;
-      listed = grown.listed;
+      covered = grown.covered;
       only = grown.only;
       named = grown.named;
       within = grown.within;
-      indexed = grown.indexed;
+      watched = grown.watched;
       marks = grown.marks;
       unmarked = grown.unmarked;
       on = on;
@@ -184,28 +169,27 @@ search_told log log' g held s h b on =
     }
 
 module _ (log log' : LogState) (held : List Held) (s s' : Search) (f : Follows log held s s' None) (g : Grows log log') (b : Bounds) (on : IsTrailOn log' s'.atoms b s'.trail) where
-  clash_conflict : (o : Option ℕ) → IfSome o (IsClash log' (literals_on s'.trail.entries)) → OpenOrConflict log' held s'.trail.entries o
-  clash_conflict None c = grown_open log log' g held s' f.search s'.trail.entries f.told_so
+  clash_conflict : (o : Option ℕ) → IfSome o (IsClash log' (literals_on s'.trail.entries)) → PropagatedOrConflict log' held (record s' { bounds = b }) o
+  clash_conflict None c = f.told_so
   clash_conflict (Some id) c =
-      record { live = c.live; falsified = clash_falsified s'.trail.size s'.trail.entries f.search.on.order log' id c; kind = inr c.once }
+      record { live = c.live; falsified = clash_falsified s'.trail.size s'.trail.entries f.may.search.on.order log' id c; kind = inr c.once }
 
   comes_so : (o : Option ℕ) → IfSome o (IsClash log' (literals_on s'.trail.entries)) → ComesTo log' held s (record s' { bounds = b }) o
   comes_so o c =
       record {
-        search = search_told log log' g held s' f.search b on;
-        were_open = grown_were log log' g held s' f.search s'.trail.entries f.were_open;
+        may = record { search = search_told log log' g held s' f.may.search b on; first = first_grown log log' s' g f.may.search.watched f.may.first };
         goes_on = f.goes_on;
         told_so = clash_conflict o c;
       }
 
-  -- the theory is asked where all clauses are open
+  -- the theory is asked where all was propagated
   pub comes_told : {E : Type 0} → (r : Result (Option ℕ) E) → IfOk r (λ o. IfSome o (IsClash log' (literals_on s'.trail.entries)))
       → IfOk r (ComesTo log' held s (record s' { bounds = b }))
   comes_told r c =
       IfOk-weaker r (λ (o : Option ℕ). IfSome o (IsClash log' (literals_on s'.trail.entries))) (ComesTo log' held s (record s' { bounds = b })) comes_so c
 
 -- the trail went on, and the list tells it
-module _ (log : LogState) (s s' : Search) (rest : s' ≡ record s { trail = s'.trail }) (g : GoesOn s.trail.entries s'.trail.entries) (inside : s.bounds.told ≤ length s.trail.entries) where
+module _ (log : LogState) (s s' : Search) (rest : s' ≡ record s { trail = s'.trail; propagation = s'.propagation }) (g : GoesOn s.trail.entries s'.trail.entries) (inside : s.bounds.told ≤ length s.trail.entries) where
   same_atoms : s'.atoms ≡ s.atoms
   same_atoms = ap (λ (r : Search). r.atoms) rest
 
@@ -228,6 +212,14 @@ falsified_advances m log held s work h tells found =
     log_reaches m s s.trail.entries log log held work h.are_held (grows_none log) (λ ns levels known within order. order) (Ok found)
     (λ ns levels assumed q known only asked st. stands_so ns log s.atoms s.bounds s.trail.entries work tells (m.at ns) q st)
 
+-- nor where memory is wanted
+pub without_advances : {A : Type 0} → (m : TheoryState) (log : LogState) (held : List Held) (s : Search) (es : List Assigned) (work : WorkList Note) → IsSearch log held s → (result : Result A Stop)
+    → Err Memory ≡ result → Advances m m s es log log held held work work result
+without_advances {A} m log held s es work h result is =
+    advances_same is
+    (log_reaches m s es log log held work h.are_held (grows_none log) (λ ns levels known within order. order) (Err Memory)
+    (ends_memory A m m log s.atoms (told_lits s.bounds s.trail.entries) es work))
+
 -- lines of a theory tell of no clause that is learned
 learned_added : (log : LogState) (atoms : List ℕ) (held : List Held) (work work' : WorkList Note) → AddsLines IsOfTheory work work' → HoldsLearned log atoms held work
     → HoldsLearned log atoms held work'
@@ -236,7 +228,7 @@ learned_added log atoms held work work' adds learned ns =
     (sym (adds_keep work work' adds (λ (r : legal.Search). r.learned) ns (λ r line kind. learned_kept ns r line kind))) (learned ns)
 
 pub consult_advances : (m m' : TheoryState) (log log' : LogState) (held : List Held) (s s' : Search) (b : Bounds) (work work' : WorkList Note) (result : Result (Option ℕ) Stop) → IsSearch log held s
-    → IsSearch log held s' → s' ≡ record s { trail = s'.trail } → GoesOn s.trail.entries s'.trail.entries → Consults m m' log log' s'.atoms s'.bounds b s'.trail work work' result
+    → IsSearch log held s' → s' ≡ record s { trail = s'.trail; propagation = s'.propagation } → GoesOn s.trail.entries s'.trail.entries → Consults m m' log log' s'.atoms s'.bounds b s'.trail work work' result
     → Advances m m' s s.trail.entries log log' held held work work' result
 consult_advances m m' log log' held s s' b work work' result h h' rest g c =
     let atoms = ap (λ (r : Search). r.atoms) rest in
@@ -265,8 +257,7 @@ turns_on {start} {mid} {new} {log} {log'} {held} {work} {work₁} {work₂} h no
     let more = adds_units work₁ work₂ units in
     let before = carries.units in
     record {
-      search = c.search;
-      were_open = c.were_open;
+      may = c.may;
       told_so = c.told_so;
       noted = record {
         trail = tells;
@@ -282,17 +273,13 @@ turns_on {start} {mid} {new} {log} {log'} {held} {work} {work₁} {work₂} h no
     }
 
 -- a clause was learned, and the search looks for the next conflict
-pub learned_follows : {log : LogState} → {held : List Held} → {s mid : Search} → {work work₁ : WorkList Note} → {place : ℕ} → Learns log held s mid work work₁ place
-    → MayFollow log held mid place
-learned_follows l = record { search = l.search; were_open = l.were_open; waits = l.waits }
-
-pub learned_advances : {A : Type 0} → {m m₁ m₂ : TheoryState} → {s mid : Search} → {log log₁ log₂ : LogState} → {held held₁ held₂ : List Held} → {work work₁ work₂ : WorkList Note} → {place : ℕ}
-    → {result : Result A Stop} → Learns log₁ held₁ s mid work work₁ place → Advances m m₁ s s.trail.entries log log₁ held held₁ work work₁ (Ok place)
+pub learned_advances : {A B : Type 0} → {m m₁ m₂ : TheoryState} → {s mid : Search} → {log log₁ log₂ : LogState} → {held held₁ held₂ : List Held} → {work work₁ work₂ : WorkList Note} → {x : B}
+    → {result : Result A Stop} → Learns log₁ held₁ s mid work work₁ → Advances m m₁ s s.trail.entries log log₁ held held₁ work work₁ (Ok x)
     → Advances m₁ m₂ mid mid.trail.entries log₁ log₂ held₁ held₂ work₁ work₂ result → Advances m m₂ s s.trail.entries log log₂ held held₂ work work₂ result
 learned_advances l first step = reaches_then (reaches_step first l.noted.trail) l.carries.atoms l.carries.assumed_only step
 
-pub turns_learned : {log log' : LogState} → {held : List Held} → {s mid : Search} → (new : Search) → {work work₁ work₂ : WorkList Note} → {place : ℕ}
-    → Learns log held s mid work work₁ place → work₁.limit ≡ work.limit → Grows log log' → AddsLines IsOfTheory work₁ work₂ → new.atoms ≡ mid.atoms
+pub turns_learned : {log log' : LogState} → {held : List Held} → {s mid : Search} → (new : Search) → {work work₁ work₂ : WorkList Note}
+    → Learns log held s mid work work₁ → work₁.limit ≡ work.limit → Grows log log' → AddsLines IsOfTheory work₁ work₂ → new.atoms ≡ mid.atoms
     → {E : Type 0} → (r : Result (Option ℕ) E) → IfOk r (λ (told : Option ℕ). TellsTrail log' new.atoms new.bounds new.trail.entries work₂) → IfOk r (ComesTo log' held mid new)
     → IfOk r (TurnsOn log' held s new work work₂)
 turns_learned {log} {log'} {held} {s} {mid} new {work} {work₁} {work₂} l limit grows units same (Ok told) tells h =
@@ -300,7 +287,7 @@ turns_learned {log} {log'} {held} {s} {mid} new {work} {work₁} {work₂} l lim
     let unit = l.unit in
     let within = l.within in
     record {
-      turns = turns_on l.search l.noted l.carries grows units same tells told h;
+      turns = turns_on l.may.search l.noted l.carries grows units same tells told h;
       more = omega (arith, more, unit);
       free = omega (arith, unit, within, limit);
     }
@@ -311,7 +298,7 @@ turns_learned new l limit grows units same (Err e) tells h = tt
 carries_none : (s : Search) (work : WorkList Note) → Carries s s work work
 carries_none s work = record { atoms = refl; first = λ l h. h; assumed_only = λ assumed h. h; units = omega arith }
 
--- What a search knows between two turns: the clauses are open, and the theory meets the trail, or there is a conflict.
+-- What a search knows between two turns: all was propagated, and the theory meets the trail, or there is a conflict.
 pub record IsSettling (theory theory' : TheoryState) (start s : Search) (log log' : LogState) (held held' : List Held) (work work' : WorkList Note) (conflict : Option ℕ) : Type 0 where
   pub advances : Advances theory theory' start start.trail.entries log log' held held' work work' (Ok conflict)
   pub turns : Turns log' held' start s work work' conflict
@@ -334,15 +321,14 @@ module _ {m m' : TheoryState} {start old : Search} {log log' : LogState} {held h
     (t : IsSettling m m' start old log log' held held' work work' conflict) where
   -- there is a conflict
   pub conflict_of : {falsified : ℕ} → conflict ≡ Some falsified → IsConflict log' held' old.trail.entries falsified
-  conflict_of is = subst (OpenOrConflict log' held' old.trail.entries) is t.turns.told_so
+  conflict_of is = subst (PropagatedOrConflict log' held' old) is t.turns.told_so
 
   -- there is none
   pub settles_open : conflict ≡ None → Settles log' held' start old work work'
   settles_open none =
       record {
-        search = t.turns.search;
-        all_open = subst (OpenOrConflict log' held' old.trail.entries) none t.turns.told_so;
-        were_open = t.turns.were_open;
+        search = t.turns.may.search;
+        ready = record { first = t.turns.may.first; all = subst (PropagatedOrConflict log' held' old) none t.turns.told_so };
         noted = t.turns.noted;
         carries = t.turns.carries;
       }
@@ -357,7 +343,7 @@ module _ {m m' : TheoryState} {start old : Search} {log log' : LogState} {held h
 pub record IsBack (start cut : Search) (log : LogState) (held : List Held) (work work' : WorkList Note) (falsified level : ℕ) : Type 0 where
   pub search : IsSearch log held cut
   pub conflict : IsConflict log held cut.trail.entries falsified
-  pub were_open : WereOpen log held cut.trail.entries
+  pub first : AreFirst log cut
   pub depth_is : depth cut.trail.entries ≡ level
   pub last : 0 < depth cut.trail.entries → HasLast cut.trail.entries (literals_at log falsified)
   pub noted : WasNoted log held cut work'
@@ -378,17 +364,18 @@ module _ (log : LogState) (held : List Held) (start old cut : Search) (work work
 
 pub goes_back : {m m' : TheoryState} → {start old cut : Search} → {log log' : LogState} → {held held' : List Held} → {work work' : WorkList Note} → {conflict : Option ℕ} → {falsified level : ℕ}
     → IsSettling m m' start old log log' held held' work work' conflict → conflict ≡ Some falsified
-    → cut ≡ record old { trail = cut.trail; order = cut.order; bounds = cut.bounds } → cut.trail.size ≡ old.trail.size
-    → GoesBackTo (literals_at log' falsified) old.trail.entries cut.trail.entries level → cut.bounds ≡ record old.bounds { told = min old.bounds.told (length cut.trail.entries) }
+    → cut ≡ record old { trail = cut.trail; propagation = cut.propagation; order = cut.order; bounds = cut.bounds } → cut.trail.size ≡ old.trail.size
+    → GoesBackTo (literals_at log' falsified) old.trail.entries cut.trail.entries level → cut.propagation ≡ record old.propagation { head = min old.propagation.head (length cut.trail.entries) }
+    → cut.bounds ≡ record old.bounds { told = min old.bounds.told (length cut.trail.entries) }
     → IsBack start cut log' held' work work' falsified level
-goes_back {start = start} {old = old} {cut = cut} {log' = log'} {held' = held'} {work = work} {work' = work'} {falsified = falsified} {level = level} t is rest size b bounds =
+goes_back {start = start} {old = old} {cut = cut} {log' = log'} {held' = held'} {work = work} {work' = work'} {falsified = falsified} {level = level} t is rest size b looked bounds =
     let c = conflict_of t is in
-    let search = t.turns.search in
+    let search = t.turns.may.search in
     let same : cut.atoms ≡ old.atoms = ap (λ (r : Search). r.atoms) rest in
     record {
-      search = cut_search log' held' old cut search rest size level b.cut bounds;
+      search = cut_search log' held' old cut search rest size level b.cut looked bounds;
       conflict = cut_conflict log' held' old search falsified c cut.trail.entries level b;
-      were_open = cut_were log' held' old search falsified c cut.trail.entries level b t.turns.were_open;
+      first = first_cut log' old cut level b.cut (ap (λ (p : Propagation). p.lone) looked) t.turns.may.first;
       depth_is = cut_depth log' held' old search falsified c cut.trail.entries level b;
       last = cut_last log' held' old search falsified c cut.trail.entries level b;
       noted = record {
@@ -445,8 +432,7 @@ module _ {start cut : Search} {log' : LogState} {held' : List Held} {work work' 
       record {
         advances = reaches_then reaches b.carries.atoms b.carries.assumed_only step.advances;
         turns = record {
-          search = t.search;
-          were_open = t.were_open;
+          may = t.may;
           told_so = t.told_so;
           noted = t.noted;
           carries = carries_far start cut new work work' work₁ b.carries t.carries;

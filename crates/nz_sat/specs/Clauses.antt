@@ -1,13 +1,9 @@
--- Clauses under a trail, and an index of them by their literals.
-use Rattle.std.specs.Prelude.{◌≡◌, ◌≢◌, ℕ, ◌<◌, ◌≤◌, ◌⊎◌, List, [], length, All, Contains, Option, Some, None, slice_get, if◌then◌else◌, ⊤}
-use Rattle.std.specs.declared.vec.Vec.{Vec}
-use Rattle.std.specs.declared.alloc.Global.{Global}
+-- Clauses under a trail, and those of which literals are watched.
+use Rattle.std.specs.Prelude.{◌≡◌, ◌≢◌, ℕ, ◌<◌, ◌⊎◌, List, All, Contains, Option, Some, None, if◌then◌else◌, ⊤}
 use Rattle.nz_log.specs.declared.lits.Lit.{Lit}
-use Rattle.nz_log.specs.Lits.{negated_lit}
+use Rattle.nz_log.specs.Lits.{are_same_lit}
 use Rattle.nz_log.specs.Logs.{LogState, IsLive, literals_at}
-use Rattle.nz_sat.specs.declared.clauses.Index.{Index}
-use Rattle.nz_sat.specs.declared.propagate.Status.{Status}
-use Rattle.nz_sat.specs.declared.propagate.Status.TheVariants.{Open, Unit, Falsified}
+use Rattle.nz_sat.specs.declared.clauses.WatchedClause.{WatchedClause}
 use Rattle.nz_sat.specs.declared.trail.Assigned.{Assigned}
 use Rattle.nz_sat.specs.Trails.{EachBehind, GoesOn, IsFalseOn, IsFreeOn, IsTrail, IsTrueOn, TrailState}
 
@@ -22,28 +18,19 @@ pub data IsOpen (es : List Assigned) (c : List Lit) : Type 0 where
 abbrev pub IsFalsified : List Assigned → List Lit → Type 0
 IsFalsified es c = (l : Lit) → Contains c l → IsFalseOn es l
 
--- Each literal is false but this one, which is undecided.
-pub record IsUnit (es : List Assigned) (c : List Lit) (l : Lit) : Type 0 where
-  pub has : Contains c l
-  pub free : IsFreeOn es l
-  pub others : (m : Lit) → Contains c m → m ≢ l → IsFalseOn es m
+-- a literal of the clause is true
+pub record HasTrue (es : List Assigned) (c : List Lit) : Type 0 where
+  pub literal : Lit
+  pub has : Contains c literal
+  pub holds : IsTrueOn es literal
 
-abbrev pub HasStatus : List Assigned → List Lit → Status → Type 0
-HasStatus es c Open = IsOpen es c
-HasStatus es c (Unit l) = IsUnit es c l
-HasStatus es c Falsified = IsFalsified es c
+-- each literal is false but maybe this one
+abbrev pub AreFalseBut : List Assigned → Lit → List Lit → Type 0
+AreFalseBut es l c = (m : Lit) → Contains c m → m ≢ l → IsFalseOn es m
 
--- A literal of the clause is false since a place of the trail at or behind this one.
-pub record IsAhead (es : List Assigned) (head : ℕ) (c : List Lit) : Type 0 where
-  pub place : ℕ
-  pub entry : Assigned
-  pub from : head ≤ place
-  pub at : slice_get es place ≡ Some entry
-  pub has : Contains c (negated_lit entry.literal)
-
--- the clause is open, or is still to be looked at
-abbrev pub Waits : List Assigned → ℕ → List Lit → Type 0
-Waits es head c = IsOpen es c ⊎ IsAhead es head c
+-- a clause has no two different literals
+abbrev pub IsLone : List Lit → Type 0
+IsLone c = (l m : Lit) → Contains c l → Contains c m → l ≡ m
 
 -- ---- Reasons
 
@@ -51,7 +38,7 @@ Waits es head c = IsOpen es c ⊎ IsAhead es head c
 pub record IsReason (s : LogState) (before : List Assigned) (l : Lit) (c : ℕ) : Type 0 where
   pub live : IsLive s c
   pub has : Contains (literals_at s c) l
-  pub others : (m : Lit) → Contains (literals_at s c) m → m ≢ l → IsFalseOn before m
+  pub others : AreFalseBut before l (literals_at s c)
 
 abbrev pub IsReasonOf : LogState → List Assigned → Lit → Option ℕ → Type 0
 IsReasonOf s before l None = ⊤
@@ -73,47 +60,40 @@ HasReasonOf us e = IsReasonOneOf us e.reason
 abbrev pub IsAssumed : List Lit → Assigned → Type 0
 IsAssumed assumed e = e.reason ≡ None → e.level ≡ 0 → Contains assumed e.literal
 
--- ---- The index
-
--- the list of an atom
-abbrev pub ids_in : List (Vec ℕ Global) → ℕ → List ℕ
-ids_in lists t = elim (slice_get lists t) [ None ↦ [] | Some ids ↦ ids.items ]
-
--- the clauses that stand beside a literal
-abbrev pub ids_of : Index → Lit → List ℕ
-ids_of x l = if l.sign then ids_in x.positive.items l.atom else ids_in x.negative.items l.atom
-
--- the index has atoms below a number
-abbrev pub IsOfSize : ℕ → Index → Type 0
-IsOfSize n x = (length x.positive.items ≡ n) × (length x.negative.items ≡ n)
-
--- it has as many atoms
-abbrev pub IsSameSize : (old new : Index) → Type 0
-IsSameSize x y = (length y.positive.items ≡ length x.positive.items) × (length y.negative.items ≡ length x.negative.items)
-
--- it has the atom of a literal
-abbrev pub IsWithin : Lit → Index → Type 0
-IsWithin l x = (l.atom < length x.positive.items) × (l.atom < length x.negative.items)
-
--- a clause stands beside each of its literals
-abbrev pub IsListed : LogState → Index → ℕ → Type 0
-IsListed s x i = (l : Lit) → Contains (literals_at s i) l → Contains (ids_of x l) i
-
--- A clause is put beside each of its literals, and no other one is.
-pub record Adds (s : LogState) (id : ℕ) (old new : Index) : Type 0 where
-  pub size : IsSameSize old new
-  pub listed : IsListed s new id
-  pub kept : (l : Lit) (i : ℕ) → Contains (ids_of old l) i → Contains (ids_of new l) i
-  pub only : (l : Lit) (i : ℕ) → Contains (ids_of new l) i → Contains (ids_of old l) i ⊎ (id ≡ i)
+-- ---- Clauses that are watched
 
 -- A clause of the log with atoms below a number.
 pub record IsUsable (s : LogState) (size : ℕ) (i : ℕ) : Type 0 where
   pub live : IsLive s i
   pub within : (l : Lit) → Contains (literals_at s i) l → l.atom < size
 
--- each clause of the index is one
-abbrev pub AreUsable : LogState → ℕ → Index → Type 0
-AreUsable s size x = (l : Lit) (i : ℕ) → Contains (ids_of x l) i → IsUsable s size i
+-- one of the literals that are watched
+abbrev pub IsWatchedIn : WatchedClause → Lit → Type 0
+IsWatchedIn h l = (h.first ≡ l) ⊎ (h.second ≡ l)
+
+-- the watched literal beside this one
+abbrev pub other_in : WatchedClause → Lit → Lit
+other_in h l = if are_same_lit h.first l then h.second else h.first
+
+-- the clause with another literal watched in the place of one
+abbrev pub with_watch : WatchedClause → Lit → Lit → WatchedClause
+with_watch h old new = if are_same_lit h.first old then record h { first = new } else record h { second = new }
+
+-- A clause of the log with atoms below a number, of which two different literals are watched.
+pub record IsHeldIn (s : LogState) (size : ℕ) (h : WatchedClause) : Type 0 where
+  pub usable : IsUsable s size h.id
+  pub has_first : Contains (literals_at s h.id) h.first
+  pub has_second : Contains (literals_at s h.id) h.second
+  pub differ : h.first ≢ h.second
+
+-- A clause of the log with atoms below a number, of which no two literals can be watched.
+pub record IsLoneIn (s : LogState) (size : ℕ) (i : ℕ) : Type 0 where
+  pub usable : IsUsable s size i
+  pub lone : IsLone (literals_at s i)
+
+-- what is watched and false on a front of the trail leaves a true literal on the trail
+abbrev pub IsSettledBy : List Assigned → List Assigned → LogState → WatchedClause → Type 0
+IsSettledBy front es s h = (l : Lit) → IsWatchedIn h l → IsFalseOn front l → HasTrue es (literals_at s h.id)
 
 -- ---- Clauses that are visited
 

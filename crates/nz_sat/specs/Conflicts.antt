@@ -1,5 +1,5 @@
 -- What a conflict teaches.
-use Rattle.std.specs.Prelude.{◌≡◌, ◌≢◌, ℕ, ◌+◌, ◌<◌, ◌≤◌, ◌⊎◌, ◌==◌, ◌&&◌, Bool, true, false, All, List, length, Contains, count_by, slice_index_or, take}
+use Rattle.std.specs.Prelude.{◌≡◌, ◌≢◌, ℕ, ◌+◌, ◌<◌, ◌≤◌, ◌⊎◌, ◌==◌, ◌&&◌, Bool, true, false, All, List, length, Contains, Option, Some, None, count_by, slice_index_or, take}
 use Rattle.nz_spec.specs.clauses.Literal.{StandOnce}
 use Rattle.nz_spec.specs.terms.Table.{Node}
 use Rattle.nz_log.specs.declared.lits.Lit.{Lit}
@@ -101,10 +101,15 @@ pub record IsChain (s : LogState) (es : List Assigned) (falsified : ℕ) (marks 
   pub others : (m : Lit) → Contains (chained s (literals_at s falsified) c.links.items) m → m ≢ c.literal → level_on es m.atom < depth es
   pub marked : AreMarked (chained s (literals_at s falsified) c.links.items) marks
 
--- A level is the greatest of those of the literals but one.
-pub record IsGreatestBut (es : List Assigned) (but : Lit) (c : List Lit) (level : ℕ) : Type 0 where
-  pub most : (m : Lit) → Contains c m → m ≢ but → level_on es m.atom ≤ level
-  pub reached : 0 < level → (m : Lit) × Contains c m × (m ≢ but) × (level_on es m.atom ≡ level)
+-- one of the literals is of the greatest level of those beside this one, where there are others
+abbrev pub IsDeepestBut : List Assigned → Lit → List Lit → Option Lit → Type 0
+IsDeepestBut es but c None = (m : Lit) → Contains c m → m ≡ but
+IsDeepestBut es but c (Some l) = Contains c l × (l ≢ but) × ((m : Lit) → Contains c m → m ≢ but → level_on es m.atom ≤ level_on es l.atom)
+
+-- a literal beside this one is of this level, where there are others
+abbrev pub IsBeside : List Assigned → List Lit → Lit → ℕ → Option Lit → Type 0
+IsBeside es c but level None = (level ≡ 0) × ((m : Lit) → Contains c m → m ≡ but)
+IsBeside es c but level (Some l) = Contains c l × (l ≢ but) × (level_on es l.atom ≡ level)
 
 -- A level is the greatest of those of the literals, and 0 where there are none.
 pub record IsGreatest (es : List Assigned) (c : List Lit) (level : ℕ) : Type 0 where
@@ -116,7 +121,7 @@ pub record GoesBackTo (c : List Lit) (es es' : List Assigned) (level : ℕ) : Ty
   pub greatest : IsGreatest es c level
   pub cut : es' ≡ below level es
 
--- A clause in which each literal is false, of which one literal is of the last level; the greatest level of the others is told.
+-- A clause in which each literal is false, of which one literal is of the last level; the greatest level of the others is told, and one of them of it.
 pub record IsLearned (s : LogState) (es : List Assigned) (l : Learned) : Type 0 where
   pub live : IsLive s l.clause
   pub once : StandOnce (literals_at s l.clause)
@@ -125,7 +130,7 @@ pub record IsLearned (s : LogState) (es : List Assigned) (l : Learned) : Type 0 
   pub last : level_on es l.literal.atom ≡ depth es
   pub earlier : l.level < depth es
   pub others : (m : Lit) → Contains (literals_at s l.clause) m → m ≢ l.literal → level_on es m.atom ≤ l.level
-  pub reached : 0 < l.level → (m : Lit) × Contains (literals_at s l.clause) m × (m ≢ l.literal) × (level_on es m.atom ≡ l.level)
+  pub beside : IsBeside es (literals_at s l.clause) l.literal l.level l.beside
 
 -- each literal is the negation of an assumed one
 abbrev pub Refutes : List Lit → List Lit → Type 0

@@ -1,8 +1,10 @@
 pub mod Clauses
 pub mod Conflicts
+pub mod Lists
 pub mod Numbers
 pub mod Sats
 pub mod Searching
 pub mod Stored
 pub mod Theories
 pub mod Trails
+pub mod Watched

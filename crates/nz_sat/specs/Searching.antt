@@ -15,22 +15,23 @@ use Rattle.nz_sat.specs.declared.search.Search.{Search}
 use Rattle.nz_sat.specs.declared.trail.Assigned.{Assigned}
 use Rattle.nz_log.specs.Sound.{IsLog}
 use Rattle.nz_sat.specs.Trails.{GoesOn, IsTrueOn, assigned, below, decided, depth, implied, with_entry}
-use Rattle.nz_sat.specs.Clauses.{HasReasonOf, IsAssumed, IsFalsified, IsListed, IsOfSize, IsOpen, Waits, ids_of}
+use Rattle.nz_sat.specs.Clauses.{HasReasonOf, HasTrue, IsAssumed, IsFalsified, IsOpen}
 use Rattle.nz_log.specs.Growth.{Grows}
 use Rattle.nz_sat.specs.Conflicts.{AreUnmarked, IsFalsifiedUnder}
 use Rattle.nz_sat.specs.Numbers.{IsAtomAt, number_of, numbered}
 use Rattle.nz_sat.specs.Sats.{AreConsistent, AreHeld, AreOn, HoldsLearned, HoldsMore, ids}
 use Rattle.nz_sat.specs.Theories.{AddsLines, EndsLegally, IsMet, IsOfSearch, IsTrailOn, Keeps, TellsTrail, TheoryState, told_lits}
+use Rattle.nz_sat.specs.Watched.{AreWatched, HasClause, watch_state}
 
--- Each clause that is held is in the index, and no other; clauses are over its atoms, which have their places in each table; its trail is over
--- them, and the reasons on it are clauses that are held.
+-- Each clause that is held is one by which literals are made true, and no other; clauses are over its atoms, which have their places in each table;
+-- its trail is over them, and the reasons on it are clauses that are held. Two literals of each clause are watched, where it has two.
 pub record IsSearch (log : LogState) (held : List Held) (s : Search) : Type 0 where
   pub are_held : AreHeld log held
-  pub listed : All (IsListed log s.index) (ids held)
-  pub only : (l : Lit) (i : ℕ) → Contains (ids_of s.index l) i → Contains (ids held) i
+  pub covered : (i : ℕ) → Contains (ids held) i → HasClause s.propagation i
+  pub only : (i : ℕ) → HasClause s.propagation i → Contains (ids held) i
   pub named : All (λ (i : ℕ). All (λ (l : Lit). Contains s.atoms l.atom) (literals_at log i)) (ids held)
   pub within : All (λ (t : ℕ). t < s.trail.size) s.atoms
-  pub indexed : IsOfSize s.trail.size s.index
+  pub watched : AreWatched log (watch_state s.propagation s.trail)
   pub marks : length s.seen.items ≡ s.trail.size
   pub unmarked : AreUnmarked s.seen.items
   pub on : IsTrailOn log s.atoms s.bounds s.trail
@@ -40,13 +41,22 @@ pub record IsSearch (log : LogState) (held : List Held) (s : Search) : Type 0 wh
 abbrev pub AreOpen : LogState → List Held → List Assigned → Type 0
 AreOpen log held es = All (λ (i : ℕ). IsOpen es (literals_at log i)) (ids held)
 
--- each clause is open, or is still to be looked at
-abbrev pub AreWaiting : LogState → List Held → List Assigned → ℕ → Type 0
-AreWaiting log held es head = All (λ (i : ℕ). Waits es head (literals_at log i)) (ids held)
-
 -- each clause was open when a decision was taken
 abbrev pub WereOpen : LogState → List Held → List Assigned → Type 0
 WereOpen log held es = (k : ℕ) → k < depth es → AreOpen log held (below k es)
+
+-- each clause that has no two different literals has a literal that is true under no decision
+abbrev pub AreFirst : LogState → Search → Type 0
+AreFirst log s = All (λ (i : ℕ). HasTrue (below 0 s.trail.entries) (literals_at log i)) s.propagation.lone.items
+
+-- each entry of the trail was looked at
+abbrev pub IsLookedThrough : Search → Type 0
+IsLookedThrough s = s.propagation.head ≡ length s.trail.entries
+
+-- All was propagated: each clause is open.
+pub record IsReady (log : LogState) (s : Search) : Type 0 where
+  pub first : AreFirst log s
+  pub all : IsLookedThrough s
 
 -- The work list tells the trail, and what was learned: clauses that are held.
 pub record IsNoted (log : LogState) (held : List Held) (s : Search) (work : WorkList Note) : Type 0 where
@@ -65,18 +75,18 @@ pub record WasNoted (log : LogState) (held : List Held) (s : Search) (work : Wor
 
 -- ---- Before the first decision
 
--- Nothing is decided, and each clause is open where none is told falsified.
+-- Nothing is decided, and all was propagated where no clause is told falsified.
 pub record Starts (log : LogState) (held : List Held) (s : Search) (told : Option ℕ) : Type 0 where
   pub search : IsSearch log held s
   pub by_reasons : All (λ (e : Assigned). IsSome e.reason) s.trail.entries
   pub undecided : depth s.trail.entries ≡ 0
-  pub all_open : told ≡ None → AreOpen log held s.trail.entries
+  pub ready : told ≡ None → IsReady log s
   pub falsified : IfSome told (λ id. Contains (ids held) id × IsFalsified s.trail.entries (literals_at log id))
 
--- An assumed literal of an atom may be put on the trail of a search whose clauses are open, before the first decision.
+-- An assumed literal of an atom may be put on the trail of a search where all was propagated, before the first decision.
 pub record MayAssume (log : LogState) (held : List Held) (assumed : List Lit) (literal : Lit) (s : Search) : Type 0 where
   pub search : IsSearch log held s
-  pub all_open : AreOpen log held s.trail.entries
+  pub ready : IsReady log s
   pub assumed_only : All (IsAssumed assumed) s.trail.entries
   pub among : Contains assumed literal
   pub atom : Contains s.atoms literal.atom
@@ -89,7 +99,7 @@ pub record Assumes (log : LogState) (held : List Held) (assumed : List Lit) (lit
   pub undecided : depth s.trail.entries ≡ 0
   pub kept : (l : Lit) → IsTrueOn es l → IsTrueOn s.trail.entries l
   pub holds : told ≡ None → IsTrueOn s.trail.entries literal
-  pub all_open : told ≡ None → AreOpen log held s.trail.entries
+  pub ready : told ≡ None → IsReady log s
   pub falsified : IfSome told (λ id. IsLive log id × IsFalsifiedUnder assumed s.trail.entries (literals_at log id))
 
 -- The same where each assumed literal is true.
@@ -98,7 +108,7 @@ pub record AssumesAll (log : LogState) (held : List Held) (assumed : List Lit) (
   pub assumed_only : All (IsAssumed assumed) s.trail.entries
   pub undecided : depth s.trail.entries ≡ 0
   pub hold : told ≡ None → All (IsTrueOn s.trail.entries) assumed
-  pub all_open : told ≡ None → AreOpen log held s.trail.entries
+  pub ready : told ≡ None → IsReady log s
   pub falsified : IfSome told (λ id. IsLive log id × IsFalsifiedUnder assumed s.trail.entries (literals_at log id))
 
 -- ---- Steps
@@ -137,23 +147,21 @@ pub record Steps (theory theory' : TheoryState) (s : Search) (es : List Assigned
 abbrev pub KeepsFirst : (es es' : List Assigned) → Type 0
 KeepsFirst es es' = (l : Lit) → IsTrueOn (below 0 es) l → IsTrueOn (below 0 es') l
 
--- Clauses are open or wait for the entries from a place of the trail on, and were open when a decision was taken.
-pub record MayFollow (log : LogState) (held : List Held) (s : Search) (place : ℕ) : Type 0 where
+-- A search under way, after its start.
+pub record MayFollow (log : LogState) (held : List Held) (s : Search) : Type 0 where
   pub search : IsSearch log held s
-  pub were_open : WereOpen log held s.trail.entries
-  pub waits : AreWaiting log held s.trail.entries place
+  pub first : AreFirst log s
 
--- the clauses are open, or this one is falsified
-abbrev pub OpenOrFalsified : LogState → List Held → List Assigned → Option ℕ → Type 0
-OpenOrFalsified log held es None = AreOpen log held es
-OpenOrFalsified log held es (Some id) = Contains (ids held) id × IsFalsified es (literals_at log id)
+-- all was propagated, or this clause is falsified
+abbrev pub PropagatedOrFalsified : LogState → List Held → Search → Option ℕ → Type 0
+PropagatedOrFalsified log held s None = IsLookedThrough s
+PropagatedOrFalsified log held s (Some id) = Contains (ids held) id × IsFalsified s.trail.entries (literals_at log id)
 
 -- The trail goes on, up to a falsified clause, if one is told.
 pub record Follows (log : LogState) (held : List Held) (s s' : Search) (told : Option ℕ) : Type 0 where
-  pub search : IsSearch log held s'
-  pub were_open : WereOpen log held s'.trail.entries
+  pub may : MayFollow log held s'
   pub goes_on : GoesOn s.trail.entries s'.trail.entries
-  pub told_so : OpenOrFalsified log held s'.trail.entries told
+  pub told_so : PropagatedOrFalsified log held s' told
 
 -- A clause of the log in which each literal is false: it is held, or has each literal once.
 pub record IsConflict (log : LogState) (held : List Held) (es : List Assigned) (id : ℕ) : Type 0 where
@@ -161,17 +169,16 @@ pub record IsConflict (log : LogState) (held : List Held) (es : List Assigned) (
   pub falsified : IsFalsified es (literals_at log id)
   pub kind : Contains (ids held) id ⊎ StandOnce (literals_at log id)
 
--- the clauses are open, or this one is a conflict
-abbrev pub OpenOrConflict : LogState → List Held → List Assigned → Option ℕ → Type 0
-OpenOrConflict log held es None = AreOpen log held es
-OpenOrConflict log held es (Some id) = IsConflict log held es id
+-- all was propagated, or this clause is a conflict
+abbrev pub PropagatedOrConflict : LogState → List Held → Search → Option ℕ → Type 0
+PropagatedOrConflict log held s None = IsLookedThrough s
+PropagatedOrConflict log held s (Some id) = IsConflict log held s.trail.entries id
 
 -- The trail goes on, up to a conflict, if one is told.
 pub record ComesTo (log : LogState) (held : List Held) (s s' : Search) (told : Option ℕ) : Type 0 where
-  pub search : IsSearch log held s'
-  pub were_open : WereOpen log held s'.trail.entries
+  pub may : MayFollow log held s'
   pub goes_on : GoesOn s.trail.entries s'.trail.entries
-  pub told_so : OpenOrConflict log held s'.trail.entries told
+  pub told_so : PropagatedOrConflict log held s' told
 
 -- What a search that goes on keeps of its trail: what is true under no decision, and that no other entry is assumed. Its atoms stay, and no unit
 -- is given back.
@@ -189,22 +196,18 @@ learned_line atoms log l = UnitLine (LearnedEntry l.level (map (numbered atoms) 
 abbrev pub after_learned : List Assigned → Learned → List Assigned
 after_learned es l = below l.level es ++ implied (below l.level es) l.literal l.clause ∷ []
 
--- A clause was learned and noted, and what it makes true stands at a place of the trail.
-pub record Learns (log : LogState) (held : List Held) (s s' : Search) (work work' : WorkList Note) (place : ℕ) : Type 0 where
-  pub search : IsSearch log held s'
-  pub were_open : WereOpen log held s'.trail.entries
-  pub inside : place ≤ length s'.trail.entries
-  pub waits : AreWaiting log held s'.trail.entries place
+-- A clause was learned and noted, and what it makes true stands on the trail.
+pub record Learns (log : LogState) (held : List Held) (s s' : Search) (work work' : WorkList Note) : Type 0 where
+  pub may : MayFollow log held s'
   pub noted : IsNoted log held s' work'
   pub carries : Carries s s' work work'
   pub unit : unit_count work'.lines ≡ suc (unit_count work.lines)
   pub within : unit_count work'.lines ≤ work'.limit
 
--- Each clause is open, or there is a conflict, and each was open when a decision was taken, with the work noted.
+-- All was propagated, or there is a conflict, with the work noted.
 pub record Turns (log : LogState) (held : List Held) (s s' : Search) (work work' : WorkList Note) (told : Option ℕ) : Type 0 where
-  pub search : IsSearch log held s'
-  pub were_open : WereOpen log held s'.trail.entries
-  pub told_so : OpenOrConflict log held s'.trail.entries told
+  pub may : MayFollow log held s'
+  pub told_so : PropagatedOrConflict log held s' told
   pub noted : IsNoted log held s' work'
   pub carries : Carries s s' work work'
 
@@ -214,11 +217,10 @@ pub record TurnsOn (log : LogState) (held : List Held) (s s' : Search) (work wor
   pub more : unit_count work.lines < unit_count work'.lines
   pub free : unit_count work.lines < work.limit
 
--- Each clause is open, and was when a decision was taken, with the work noted.
+-- All was propagated, with the work noted.
 pub record Settles (log : LogState) (held : List Held) (s s' : Search) (work work' : WorkList Note) : Type 0 where
   pub search : IsSearch log held s'
-  pub all_open : AreOpen log held s'.trail.entries
-  pub were_open : WereOpen log held s'.trail.entries
+  pub ready : IsReady log s'
   pub noted : IsNoted log held s' work'
   pub carries : Carries s s' work work'
 
@@ -228,11 +230,10 @@ pub record SettlesOn (log : LogState) (held : List Held) (s s' : Search) (work w
   pub more : unit_count work.lines < unit_count work'.lines
   pub free : unit_count work.lines < work.limit
 
--- Each clause is open, and was when a decision was taken, each assumed literal is true, and no other entry is assumed.
+-- All was propagated, each assumed literal is true, and no other entry is assumed.
 pub record Runs (log : LogState) (held : List Held) (assumed : List Lit) (start s : Search) (work : WorkList Note) : Type 0 where
   pub search : IsSearch log held s
-  pub all_open : AreOpen log held s.trail.entries
-  pub were_open : WereOpen log held s.trail.entries
+  pub ready : IsReady log s
   pub noted : IsNoted log held s work
   pub same : s.atoms ≡ start.atoms
   pub assumed_only : All (IsAssumed assumed) s.trail.entries

@@ -1,10 +1,10 @@
 //! Conflict analysis: the clause that is learned from a conflict, and the one that refutes the assumed literals.
-ghost use Rattle.std.specs.Prelude.{◌≡◌, ◌≢◌, ℕ, ◌<◌, ◌≤◌, true, false, All, Contains, length, IfOk, MatchOption, OnOk};
+ghost use Rattle.std.specs.Prelude.{◌≡◌, ◌≢◌, ℕ, ◌<◌, ◌≤◌, true, false, All, Contains, length, IfOk, MatchOption, OnOk, option_map};
 ghost use Rattle.nz_log.specs.declared.lits.Lit.{Lit};
 ghost use Rattle.nz_log.specs.Logs.{IsLive, chained, literals_at};
 ghost use Rattle.nz_sat.specs.Clauses.{IsFalsified, IsImplied};
 ghost use Rattle.nz_log.specs.Growth.{Grows};
-ghost use Rattle.nz_sat.specs.Conflicts.{AreLinks, AreUnmarked, HasLast, HasTwoLast, IsChain, IsGreatest, IsGreatestBut, IsLearnable, IsLearned, IsLoneLast, MarksCounted, RefutesFrom, StaysSound, is_marked};
+ghost use Rattle.nz_sat.specs.Conflicts.{AreLinks, AreUnmarked, HasLast, HasTwoLast, IsBeside, IsChain, IsDeepestBut, IsGreatest, IsLearnable, IsLearned, IsLoneLast, MarksCounted, RefutesFrom, StaysSound, is_marked};
 ghost use Rattle.nz_sat.specs.Trails.{EachBehind, IsTrail, depth, level_on};
 
 use crate::order::Order;
@@ -22,6 +22,18 @@ pub struct Learned {
     pub literal: Lit,
     /// The greatest level of the others.
     pub level: usize,
+    /// Another literal, of that level.
+    pub beside: Option<Lit>,
+}
+
+impl Learned {
+    /// The two literals that are watched from now on, where there are two.
+    pub fn watched(self) -> Option<(Lit, Lit)>
+        ensures watched { result ≡ option_map (λ other. (self.literal, other)) self.beside }
+    {
+        let other = self.beside?;
+        Some((self.literal, other))
+    }
 }
 
 /// Links of a chain, and the literal of the last level that is left.
@@ -109,18 +121,41 @@ fn chain_back(
     unreachable!()
 }
 
-/// The greatest level of these literals but one.
-fn level_but(trail: &Trail, literals: &[Lit], but: Lit) -> usize
-    ensures greatest { IsGreatestBut trail.now.entries but literals.now result }
+/// One of these literals that is of the greatest level of those beside this one.
+fn deepest_but(trail: &Trail, literals: &[Lit], but: Lit) -> Option<Lit>
+    ensures deepest { IsDeepestBut trail.now.entries but literals.now result }
 {
     tells_lits();
+    let mut deepest: Option<Lit> = None;
     let mut level = 0;
     for literal in literals {
-        if !literal.is(but) {
-            level = level.max(trail.level_of(literal.atom));
+        let own = trail.level_of(literal.atom);
+        if !literal.is(but) && (deepest.is_none() || level < own) {
+            deepest = Some(*literal);
+            level = own;
         }
     }
-    level
+    deepest
+}
+
+/// What a clause is where it is learned for this literal.
+fn asserting(trail: &Trail, literals: &[Lit], clause: ClauseId, literal: Lit) -> Learned
+    ensures clause { result.clause ≡ clause }
+    ensures literal { result.literal ≡ literal }
+    ensures others { (m : Lit) → Contains literals.now m → m ≢ literal → level_on trail.now.entries m.atom ≤ result.level }
+    ensures beside { IsBeside trail.now.entries literals.now literal result.level result.beside }
+{
+    let beside = deepest_but(trail, literals, literal);
+    let level = match beside {
+        Some(other) => trail.level_of(other.atom),
+        None => 0,
+    };
+    Learned {
+        clause,
+        literal,
+        level,
+        beside,
+    }
 }
 
 /// The greatest level of these literals, 0 where there are none.
@@ -184,12 +219,7 @@ fn learn_from(
     let clause = log.chain(falsified, &links)?;
     let literals = log.clause(clause);
     unmark(seen, literals);
-    let level = level_but(trail, literals, literal);
-    Ok(Learned {
-        clause,
-        literal,
-        level,
-    })
+    Ok(asserting(trail, literals, clause, literal))
 }
 
 /// What is learned from a clause in which each literal is false, one of them of the last level: where just one is, the clause itself.
@@ -217,11 +247,7 @@ pub fn learned_clause(
 {
     let literals = log.clause(falsified);
     match lone_last(trail, literals) {
-        Some(literal) => Ok(Learned {
-            clause: falsified,
-            literal,
-            level: level_but(trail, literals, literal),
-        }),
+        Some(literal) => Ok(asserting(trail, literals, falsified, literal)),
         None => learn_from(alloc, log, trail, order, seen, falsified),
     }
 }

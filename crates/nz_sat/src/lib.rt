@@ -9,10 +9,12 @@ mod consult;
 mod heap;
 mod order;
 mod propagate;
+mod propagation;
 mod sat;
 mod search;
 mod trail;
 mod turns;
+mod watches;
 
 pub use clauses::Held;
 pub use sat::Sat;

@@ -10,23 +10,24 @@ ghost use Rattle.nz_log.specs.declared.lits.Lit.{Lit};
 ghost use Rattle.nz_search.specs.declared.stop.Stop.TheVariants as stop;
 ghost use Rattle.nz_log.specs.Logs.{IsLive, literals_at};
 ghost use Rattle.nz_sat.specs.declared.clauses.Held.{Held};
-ghost use Rattle.nz_sat.specs.Clauses.{Adds, AreUsable, IsImplied, IsWithin};
+ghost use Rattle.nz_sat.specs.Clauses.{IsImplied};
 ghost use Rattle.nz_search.specs.Places.{OnWide};
 ghost use Rattle.nz_log.specs.Growth.{Grows};
 ghost use Rattle.nz_sat.specs.Conflicts.{GoesBackTo, HasLast, RefutesFrom, StaysSound};
 ghost use Rattle.nz_sat.specs.Numbers.{numbered};
 ghost use Rattle.nz_log.specs.Leveled.{AreToldAtoms};
 ghost use Rattle.nz_sat.specs.Sats.{AreConsistent, AreHeld, AreOn, HoldsMore, held_of};
-ghost use Rattle.nz_sat.specs.Searching.{Advances, Assumes, AssumesAll, ComesTo, Decides, Follows, IsConflict, IsSearch, Learns, MayAssume, MayFollow, Starts, WasNoted, WereOpen, after_learned, learned_line};
+ghost use Rattle.nz_sat.specs.Searching.{Advances, AreFirst, Assumes, AssumesAll, ComesTo, Decides, Follows, IsConflict, IsSearch, Learns, MayAssume, MayFollow, Starts, WasNoted, after_learned, learned_line};
 ghost use Rattle.nz_sat.specs.Theories.{AddsLines, IsMet, IsOfTheory, Keeps, TellsTrail, state_of, told_lits, told_on};
 ghost use Rattle.nz_sat.specs.Trails.{EachBehind, GoesOn, IsFrontOf, IsTrail, assigned, below, depth};
+ghost use Rattle.nz_sat.specs.Watched.{AreTwoOf, AreWatched, watch_state};
 
 use crate::analyze::{Learned, greatest_level, learned_clause, refutation};
 use crate::atoms::Atoms;
-use crate::clauses::{Held, Index};
+use crate::clauses::Held;
 use crate::consult::{Bounds, consult};
 use crate::order::Order;
-use crate::propagate::{propagate, visit_held};
+use crate::propagation::Propagation;
 use crate::trail::Trail;
 use nz_base::{Entry, Literals, Memory, Work};
 use nz_log::laws::{clauses_are_true, tells_lits};
@@ -41,7 +42,8 @@ use std::alloc::Global;
 pub struct Search {
     pub atoms: Atoms,
     pub trail: Trail,
-    index: Index,
+    /// The clauses that are held, by the literals that are watched in them.
+    pub propagation: Propagation,
     order: Order,
     // By the numbers of atoms, the marks of the conflict analysis: none between two conflicts.
     seen: Vec<bool>,
@@ -62,14 +64,14 @@ impl Search {
         let size = atoms.size();
         let bounds = Bounds::among(alloc, log, atoms.ids(), size)?;
         let order = Order::new(alloc, &atoms)?;
-        let mut index = Index::new(alloc, size)?;
+        let mut propagation = Propagation::new(alloc, size)?;
         for clause in held {
-            index.add(log, clause.id)?;
+            propagation.hold(log, clause.id, two_of(log.clause(clause.id)))?;
         }
         Ok(Search {
             atoms,
             trail: Trail::new(alloc, size)?,
-            index,
+            propagation,
             order,
             seen: vec![in alloc; false; size]?,
             bounds,
@@ -77,36 +79,35 @@ impl Search {
     }
 
     /// Puts what the clauses alone make true on the trail. Answers a falsified clause.
-    fn start(&mut self, log: &Log, held: &[Held]) -> Option<ClauseId>
-        requires search { IsSearch log.now held.now self.old }
+    fn start(&mut self, log: &Log) -> Result<Option<ClauseId>, Memory>
+        requires watched { AreWatched log.now (watch_state self.old.propagation self.old.trail) }
         requires none { self.old.trail.entries ≡ [] }
-        ensures rest { self.new ≡ record self.old { trail = self.new.trail } }
-        ensures comes { Starts log.now held.now self.new result }
+        ensures rest { self.new ≡ record self.old { trail = self.new.trail; propagation = self.new.propagation } }
+        ensures comes { (held : List Held) → IsSearch log.now held self.old → IfOk result (Starts log.now held self.new) }
     {
-        let falsified = visit_held(log, &mut self.trail, held);
+        let falsified = self.propagation.assert_lone(log, &mut self.trail);
         if falsified.is_some() {
-            return falsified;
+            return Ok(falsified);
         }
-        propagate(log, &self.index, &mut self.trail, 0)
+        self.propagation.propagate(log, &mut self.trail)
     }
 
     /// Puts an assumed literal on the trail, and what the clauses make true with it. Answers a clause in which each literal is false
     /// or the negation of the assumed one.
-    fn assume(&mut self, log: &Log, literal: Lit) -> Option<ClauseId>
-        requires usable { AreUsable log.now self.old.trail.size self.old.index }
+    fn assume(&mut self, log: &Log, literal: Lit) -> Result<Option<ClauseId>, Memory>
+        requires watched { AreWatched log.now (watch_state self.old.propagation self.old.trail) }
         requires within { literal.atom < self.old.trail.size }
         requires undecided { depth self.old.trail.entries ≡ 0 }
-        ensures rest { self.new ≡ record self.old { trail = self.new.trail } }
-        ensures comes { (held : List Held) (assumed : List Lit) → MayAssume log.now held assumed literal self.old → Assumes log.now held assumed literal self.old.trail.entries self.new result }
+        ensures rest { self.new ≡ record self.old { trail = self.new.trail; propagation = self.new.propagation } }
+        ensures comes { (held : List Held) (assumed : List Lit) → MayAssume log.now held assumed literal self.old → IfOk result (Assumes log.now held assumed literal self.old.trail.entries self.new) }
     {
         tells_lits();
         match self.trail.assigned(literal.atom) {
-            Some(entry) if entry.literal.is(literal) => None,
-            Some(entry) => entry.reason,
+            Some(entry) if entry.literal.is(literal) => Ok(None),
+            Some(entry) => Ok(entry.reason),
             None => {
-                let from = self.trail.len();
                 self.trail.assume(literal);
-                propagate(log, &self.index, &mut self.trail, from)
+                self.propagation.propagate(log, &mut self.trail)
             }
         }
     }
@@ -116,27 +117,26 @@ impl Search {
     pub(crate) fn assume_all(
         &mut self,
         log: &Log,
-        held: &[Held],
         assumed: &[Lit],
-    ) -> Option<ClauseId>
-        requires search { IsSearch log.now held.now self.old }
+    ) -> Result<Option<ClauseId>, Memory>
+        requires search { (held : List Held) × IsSearch log.now held self.old }
         requires none { self.old.trail.entries ≡ [] }
         requires named { All (λ l. Contains self.old.atoms l.atom) assumed.now }
         requires consistent { AreConsistent assumed.now }
-        ensures rest { self.new ≡ record self.old { trail = self.new.trail } }
-        ensures comes { AssumesAll log.now held.now assumed.now self.new result }
+        ensures rest { self.new ≡ record self.old { trail = self.new.trail; propagation = self.new.propagation } }
+        ensures comes { (held : List Held) → IsSearch log.now held self.old → IfOk result (AssumesAll log.now held assumed.now self.new) }
     {
-        let falsified = self.start(log, held);
+        let falsified = self.start(log)?;
         if falsified.is_some() {
-            return falsified;
+            return Ok(falsified);
         }
         for literal in assumed {
-            let falsified = self.assume(log, *literal);
+            let falsified = self.assume(log, *literal)?;
             if falsified.is_some() {
-                return falsified;
+                return Ok(falsified);
             }
         }
-        None
+        Ok(None)
     }
 
     /// The clause of the log that refutes the assumed literals, from a falsified one under no decision.
@@ -168,10 +168,11 @@ impl Search {
 
     /// Takes the literals above a level off the trail. Answers how many of them the theory was told.
     fn jump(&mut self, level: usize) -> usize
-        ensures rest { self.new ≡ record self.old { trail = self.new.trail; order = self.new.order; bounds = self.new.bounds } }
+        ensures rest { self.new ≡ record self.old { trail = self.new.trail; propagation = self.new.propagation; order = self.new.order; bounds = self.new.bounds } }
         ensures size { self.new.trail.size ≡ self.old.trail.size }
         ensures below { self.new.trail.entries ≡ below level self.old.trail.entries }
         ensures front { IsFrontOf self.new.trail.entries self.old.trail.entries }
+        ensures looked { self.new.propagation ≡ record self.old.propagation { head = min self.old.propagation.head (length self.new.trail.entries) } }
         ensures bounds { self.new.bounds ≡ record self.old.bounds { told = min self.old.bounds.told (length self.new.trail.entries) } }
         ensures untold { length (told_on self.old.bounds self.old.trail.entries) ≡ length (told_on self.new.bounds self.new.trail.entries) + result }
     {
@@ -181,16 +182,18 @@ impl Search {
             self.order.keep(literal);
         }
         self.bounds.cut(self.trail.len());
+        self.propagation.cut(self.trail.len());
         untold
     }
 
     /// Takes the literals above a level off the trail, and back from the theory.
     fn cut<T: Theory>(&mut self, theory: &mut T, level: usize)
         requires told { T.has_told theory.old (told_lits self.old.bounds self.old.trail.entries) }
-        ensures rest { self.new ≡ record self.old { trail = self.new.trail; order = self.new.order; bounds = self.new.bounds } }
+        ensures rest { self.new ≡ record self.old { trail = self.new.trail; propagation = self.new.propagation; order = self.new.order; bounds = self.new.bounds } }
         ensures size { self.new.trail.size ≡ self.old.trail.size }
         ensures below { self.new.trail.entries ≡ below level self.old.trail.entries }
         ensures front { IsFrontOf self.new.trail.entries self.old.trail.entries }
+        ensures looked { self.new.propagation ≡ record self.old.propagation { head = min self.old.propagation.head (length self.new.trail.entries) } }
         ensures bounds { self.new.bounds ≡ record self.old.bounds { told = min self.old.bounds.told (length self.new.trail.entries) } }
         ensures told { T.has_told theory.new (told_lits self.new.bounds self.new.trail.entries) }
         ensures keeps { Keeps (state_of T.is_over T.has_told T.is_feasible T.is_of T.is_at theory.old) (state_of T.is_over T.has_told T.is_feasible T.is_of T.is_at theory.new) }
@@ -212,9 +215,10 @@ impl Search {
     ) -> usize
         requires live { IsLive log.now clause }
         requires told { T.has_told theory.old (told_lits self.old.bounds self.old.trail.entries) }
-        ensures rest { self.new ≡ record self.old { trail = self.new.trail; order = self.new.order; bounds = self.new.bounds } }
+        ensures rest { self.new ≡ record self.old { trail = self.new.trail; propagation = self.new.propagation; order = self.new.order; bounds = self.new.bounds } }
         ensures size { self.new.trail.size ≡ self.old.trail.size }
         ensures back { GoesBackTo (literals_at log.now clause) self.old.trail.entries self.new.trail.entries result }
+        ensures looked { self.new.propagation ≡ record self.old.propagation { head = min self.old.propagation.head (length self.new.trail.entries) } }
         ensures bounds { self.new.bounds ≡ record self.old.bounds { told = min self.old.bounds.told (length self.new.trail.entries) } }
         ensures left { result ≡ 0 → theory.new ≡ theory.old }
         ensures told { 0 < result → T.has_told theory.new (told_lits self.new.bounds self.new.trail.entries) }
@@ -231,42 +235,39 @@ impl Search {
         level
     }
 
-    /// Makes true what the clauses make true by the literals from a place of the trail on, up to the first falsified clause.
-    fn follow(&mut self, log: &Log, from: usize) -> Option<ClauseId>
-        requires usable { AreUsable log.now self.old.trail.size self.old.index }
-        requires from { from ≤ length self.old.trail.entries }
-        ensures rest { self.new ≡ record self.old { trail = self.new.trail } }
+    /// Makes true what the clauses make true, up to the first falsified clause.
+    fn follow(&mut self, log: &Log) -> Result<Option<ClauseId>, Memory>
+        requires watched { AreWatched log.now (watch_state self.old.propagation self.old.trail) }
+        ensures rest { self.new ≡ record self.old { trail = self.new.trail; propagation = self.new.propagation } }
         ensures goes_on { GoesOn self.old.trail.entries self.new.trail.entries }
-        ensures comes { (held : List Held) → MayFollow log.now held self.old from → Follows log.now held self.old self.new result }
+        ensures comes { (held : List Held) → MayFollow log.now held self.old → IfOk result (Follows log.now held self.old self.new) }
     {
-        propagate(log, &self.index, &mut self.trail, from)
+        self.propagation.propagate(log, &mut self.trail)
     }
 
-    /// Makes true what the clauses make true by the literals from a place of the trail on, and has the theory check that. Answers a clause in
+    /// Makes true what the clauses make true, and has the theory check that. Answers a clause in
     /// which each literal is false.
     pub(crate) fn conflict<T: Theory>(
         &mut self,
         log: &mut Log,
         theory: &mut T,
         work: &mut Work<Note>,
-        from: usize,
     ) -> Result<Option<ClauseId>, Stop>
-        requires follow { (held : List Held) × MayFollow log.old held self.old from }
-        requires from { from ≤ length self.old.trail.entries }
+        requires follow { (held : List Held) × MayFollow log.old held self.old }
         requires of { T.is_of theory.old log.old.atoms self.old.atoms }
         requires told { T.has_told theory.old (told_lits self.old.bounds self.old.trail.entries) }
         requires noted { TellsTrail log.old self.old.atoms self.old.bounds self.old.trail.entries work.old }
-        ensures rest { self.new ≡ record self.old { trail = self.new.trail; bounds = self.new.bounds } }
-        ensures advances { (held : List Held) → MayFollow log.old held self.old from → Advances (state_of T.is_over T.has_told T.is_feasible T.is_of T.is_at theory.old) (state_of T.is_over T.has_told T.is_feasible T.is_of T.is_at theory.new)
+        ensures rest { self.new ≡ record self.old { trail = self.new.trail; propagation = self.new.propagation; bounds = self.new.bounds } }
+        ensures advances { (held : List Held) → MayFollow log.old held self.old → Advances (state_of T.is_over T.has_told T.is_feasible T.is_of T.is_at theory.old) (state_of T.is_over T.has_told T.is_feasible T.is_of T.is_at theory.new)
             self.old self.old.trail.entries log.old log.new held held work.old work.new result }
-        ensures comes { (held : List Held) → MayFollow log.old held self.old from → IfOk result (ComesTo log.new held self.old self.new) }
+        ensures comes { (held : List Held) → MayFollow log.old held self.old → IfOk result (ComesTo log.new held self.old self.new) }
         ensures adds { AddsLines IsOfTheory work.old work.new }
         ensures told { OnOk result (T.has_told theory.new (told_lits self.new.bounds self.new.trail.entries)) }
         ensures noted { OnOk result (TellsTrail log.new self.new.atoms self.new.bounds self.new.trail.entries work.new) }
         ensures met { IfOk result (λ r. r ≡ None → IsMet (state_of T.is_over T.has_told T.is_feasible T.is_of T.is_at theory.new) self.new.bounds self.new.trail.entries) }
         ensures spent { IfErr result (λ e. e ≡ stop.Spent → IsSpent work.new) }
     {
-        let falsified = self.follow(log, from);
+        let falsified = self.follow(log)?;
         if falsified.is_some() {
             return Ok(falsified);
         }
@@ -310,36 +311,16 @@ impl Search {
         )
     }
 
-    /// Adds a clause of the log to those that are held, which have room for it.
-    fn hold(&mut self, log: &Log, held: &mut Vec<Held>, id: ClauseId) -> Result<(), Memory>
-        requires live { IsLive log.now id }
-        requires held { AreHeld log.now held.old.items }
-        requires within { All (λ l. IsWithin l self.old.index) (literals_at log.now id) }
-        requires room { vec_len held.old < vec_capacity held.old }
-        ensures rest { self.new ≡ record self.old { index = self.new.index } }
-        ensures more { HoldsMore log.now held.old.items held.new.items }
-        ensures held { held.new.items ≡ held.old.items ++ held_of log.now id ∷ [] }
-        ensures named { (atoms : List ℕ) → All (λ l. Contains atoms l.atom) (literals_at log.now id) → AreOn log.now atoms held.old.items → AreOn log.now atoms held.new.items }
-        ensures added { OnOk result (Adds log.now id self.old.index self.new.index) }
-    {
-        held.push(Held {
-            id,
-            level: log.level(id),
-        })
-        .unwrap();
-        self.index.add(log, id)
-    }
-
-    /// Goes back to where a learned clause asserts its literal, and puts that on the trail. Answers its place.
-    fn go_back<T: Theory>(&mut self, theory: &mut T, learned: Learned) -> usize
+    /// Goes back to where a learned clause asserts its literal, and puts that on the trail.
+    fn go_back<T: Theory>(&mut self, theory: &mut T, learned: Learned)
         requires free { assigned (below learned.level self.old.trail.entries) learned.literal.atom ≡ None }
         requires within { learned.literal.atom < self.old.trail.size }
         requires told { T.has_told theory.old (told_lits self.old.bounds self.old.trail.entries) }
-        ensures rest { self.new ≡ record self.old { trail = self.new.trail; order = self.new.order; bounds = self.new.bounds } }
+        ensures rest { self.new ≡ record self.old { trail = self.new.trail; propagation = self.new.propagation; order = self.new.order; bounds = self.new.bounds } }
         ensures size { self.new.trail.size ≡ self.old.trail.size }
         ensures order { IsTrail self.new.trail }
-        ensures place { result ≡ length (below learned.level self.old.trail.entries) }
         ensures entries { self.new.trail.entries ≡ after_learned self.old.trail.entries learned }
+        ensures looked { self.new.propagation ≡ record self.old.propagation { head = min self.old.propagation.head (length (below learned.level self.old.trail.entries)) } }
         ensures bounds { self.new.bounds ≡ record self.old.bounds { told = min self.old.bounds.told (length (below learned.level self.old.trail.entries)) } }
         ensures told { T.has_told theory.new (told_lits self.new.bounds self.new.trail.entries) }
         ensures keeps { Keeps (state_of T.is_over T.has_told T.is_feasible T.is_of T.is_at theory.old) (state_of T.is_over T.has_told T.is_feasible T.is_of T.is_at theory.new) }
@@ -347,13 +328,11 @@ impl Search {
             → T.is_at theory.new ns fs (take (length (told_lits self.new.bounds self.new.trail.entries)) ls) x }
     {
         self.cut(theory, learned.level);
-        let place = self.trail.len();
         self.trail.imply(learned.literal, learned.clause);
-        place
     }
 
-    /// Learns from a clause in which each literal is false, one of them of the last level: notes the clause learned, adds it, and goes back to
-    /// where it makes a literal true. Answers the place of that literal.
+    /// Learns from a clause in which each literal is false, one of them of the last level: notes the clause learned, goes back to
+    /// where it makes a literal true, and holds it.
     pub(crate) fn learn<T: Theory>(
         &mut self,
         log: &mut Log,
@@ -361,16 +340,16 @@ impl Search {
         theory: &mut T,
         work: &mut Work<Note>,
         falsified: ClauseId,
-    ) -> Result<usize, Stop>
+    ) -> Result<(), Stop>
         requires search { IsSearch log.old held.old.items self.old }
-        requires all_open { WereOpen log.old held.old.items self.old.trail.entries }
+        requires first { AreFirst log.old self.old }
         requires conflict { IsConflict log.old held.old.items self.old.trail.entries falsified }
         requires last { HasLast self.old.trail.entries (literals_at log.old falsified) }
         requires decided { 0 < depth self.old.trail.entries }
         requires noted { WasNoted log.old held.old.items self.old work.old }
         requires told { T.has_told theory.old (told_lits self.old.bounds self.old.trail.entries) }
         ensures advances { Advances (state_of T.is_over T.has_told T.is_feasible T.is_of T.is_at theory.old) (state_of T.is_over T.has_told T.is_feasible T.is_of T.is_at theory.new) self.old self.old.trail.entries log.old log.new held.old.items held.new.items work.old work.new result }
-        ensures learned { IfOk result (λ from. Learns log.new held.new.items self.old self.new work.old work.new from) }
+        ensures learned { OnOk result (Learns log.new held.new.items self.old self.new work.old work.new) }
         ensures told { OnOk result (T.has_told theory.new (told_lits self.new.bounds self.new.trail.entries)) }
         ensures spent { IfErr result (λ e. e ≡ stop.Spent → IsSpent work.new) }
     {
@@ -388,8 +367,11 @@ impl Search {
             falsified,
         )?;
         self.note_learned(log, held, work, learned)?;
-        self.hold(log, held, learned.clause)?;
-        Ok(self.go_back(theory, learned))
+        hold(log, held, learned.clause);
+        self.go_back(theory, learned);
+        self.propagation
+            .hold(log, learned.clause, learned.watched())?;
+        Ok(())
     }
 
     /// The undecided atom that took most part in conflicts.
@@ -401,14 +383,13 @@ impl Search {
         self.order.next(&self.atoms, &self.trail)
     }
 
-    /// Decides an atom, with the sign that it had last. Answers the place of its literal on the trail.
-    pub(crate) fn decide(&mut self, work: &mut Work<Note>, atom: AtomId) -> Result<usize, Stop>
+    /// Decides an atom, with the sign that it had last.
+    pub(crate) fn decide(&mut self, work: &mut Work<Note>, atom: AtomId) -> Result<(), Stop>
         requires free { assigned self.old.trail.entries atom ≡ None }
         requires named { Contains self.old.atoms atom }
         requires within { atom < self.old.trail.size }
         ensures rest { self.new ≡ record self.old { trail = self.new.trail } }
         ensures decides { OnOk result (Decides self.old self.new atom work.old work.new) }
-        ensures place { IfOk result (λ place. place ≡ length self.old.trail.entries) }
         ensures free { OnOk result (unit_count work.old.lines < work.old.limit) }
         ensures err { OnErr result (work.new ≡ work.old) }
         ensures spent { IfErr result (λ e. e ≡ stop.Spent → IsSpent work.new) }
@@ -419,10 +400,39 @@ impl Search {
         };
         let sign = self.order.sign(atom);
         note(work, Entry::Decision { atom: number, sign })?;
-        let place = self.trail.len();
         self.trail.decide(Lit { atom, sign });
-        Ok(place)
+        Ok(())
     }
+}
+
+/// Adds a clause of the log to those that are held, which have room for it.
+fn hold(log: &Log, held: &mut Vec<Held>, id: ClauseId)
+    requires live { IsLive log.now id }
+    requires held { AreHeld log.now held.old.items }
+    requires room { vec_len held.old < vec_capacity held.old }
+    ensures more { HoldsMore log.now held.old.items held.new.items }
+    ensures held { held.new.items ≡ held.old.items ++ held_of log.now id ∷ [] }
+    ensures named { (atoms : List ℕ) → All (λ l. Contains atoms l.atom) (literals_at log.now id) → AreOn log.now atoms held.old.items → AreOn log.now atoms held.new.items }
+{
+    held.push(Held {
+        id,
+        level: log.level(id),
+    })
+    .unwrap();
+}
+
+/// Two different ones of these literals, the first two, where there are any.
+fn two_of(literals: &[Lit]) -> Option<(Lit, Lit)>
+    ensures two { AreTwoOf literals.now result }
+{
+    tells_lits();
+    let first = literals.first()?;
+    for literal in literals {
+        if !literal.is(*first) {
+            return Some((*first, *literal));
+        }
+    }
+    None
 }
 
 /// Notes a step that counts.

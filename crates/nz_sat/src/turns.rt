@@ -5,7 +5,7 @@ ghost use Rattle.nz_log.specs.Logs.{IsLive, literals_at};
 ghost use Rattle.nz_sat.specs.Clauses.{IsAssumed};
 ghost use Rattle.nz_sat.specs.Conflicts.{HasLast, Refutes};
 ghost use Rattle.nz_sat.specs.Sats.{AreConsistent};
-ghost use Rattle.nz_sat.specs.Searching.{AreOpen, AreWaiting, IsConflict, IsNoted, IsSearch, Runs, Satisfies, Settles, SettlesOn, Steps, TurnsOn, WasNoted, WereOpen, assumed_entries};
+ghost use Rattle.nz_sat.specs.Searching.{AreFirst, IsConflict, IsNoted, IsReady, IsSearch, Runs, Satisfies, Settles, SettlesOn, Steps, TurnsOn, WasNoted, assumed_entries};
 ghost use Rattle.nz_sat.specs.Theories.{state_of, told_lits};
 ghost use Rattle.nz_sat.specs.Trails.{assigned, depth};
 
@@ -28,7 +28,7 @@ impl Search {
         falsified: ClauseId,
     ) -> Result<Option<ClauseId>, Stop>
         requires search { IsSearch log.old held.old.items self.old }
-        requires all_open { WereOpen log.old held.old.items self.old.trail.entries }
+        requires first { AreFirst log.old self.old }
         requires conflict { IsConflict log.old held.old.items self.old.trail.entries falsified }
         requires last { HasLast self.old.trail.entries (literals_at log.old falsified) }
         requires decided { 0 < depth self.old.trail.entries }
@@ -40,24 +40,20 @@ impl Search {
         ensures told { OnOk result (T.has_told theory.new (told_lits self.new.bounds self.new.trail.entries)) }
         ensures turns { IfOk result (TurnsOn log.new held.new.items self.old self.new work.old work.new) }
     {
-        let from = self.learn(log, held, theory, work, falsified)?;
-        self.conflict(log, theory, work, from)
+        self.learn(log, held, theory, work, falsified)?;
+        self.conflict(log, theory, work)
     }
 
-    /// Makes true what the clauses make true by the literals from a place of the trail on, has the theory check that, and learns from each
-    /// conflict. Answers the clause that refutes the assumed literals, if one does.
+    /// Makes true what the clauses make true, has the theory check that, and learns from each conflict. Answers the clause that refutes the assumed literals, if one does.
     fn settle<T: Theory>(
         &mut self,
         log: &mut Log,
         held: &mut Vec<Held>,
         theory: &mut T,
         work: &mut Work<Note>,
-        from: usize,
     ) -> Result<Option<ClauseId>, Stop>
         requires search { IsSearch log.old held.old.items self.old }
-        requires all_open { WereOpen log.old held.old.items self.old.trail.entries }
-        requires from { from ≤ length self.old.trail.entries }
-        requires waits { AreWaiting log.old held.old.items self.old.trail.entries from }
+        requires first { AreFirst log.old self.old }
         requires noted { IsNoted log.old held.old.items self.old work.old }
         requires of { T.is_of theory.old log.old.atoms self.old.atoms }
         requires told { T.has_told theory.old (told_lits self.old.bounds self.old.trail.entries) }
@@ -66,7 +62,7 @@ impl Search {
         ensures settled { IfOk result (λ r. r ≡ None → Settles log.new held.new.items self.old self.new work.old work.new) }
         ensures refuted { IfOk result (λ r. IfSome r (λ id. IsLive log.new id × ((assumed : List Lit) → All (IsAssumed assumed) self.old.trail.entries → Refutes assumed (literals_at log.new id)))) }
     {
-        let mut conflict = self.conflict(log, theory, work, from)?;
+        let mut conflict = self.conflict(log, theory, work)?;
         while let Some(falsified) = conflict {
             if self.back_to(log, theory, falsified) == 0 {
                 return Ok(Some(self.refute(*held.allocator(), log, falsified)?));
@@ -86,8 +82,7 @@ impl Search {
         atom: AtomId,
     ) -> Result<Option<ClauseId>, Stop>
         requires search { IsSearch log.old held.old.items self.old }
-        requires all_open { AreOpen log.old held.old.items self.old.trail.entries }
-        requires were_open { WereOpen log.old held.old.items self.old.trail.entries }
+        requires ready { IsReady log.old self.old }
         requires noted { IsNoted log.old held.old.items self.old work.old }
         requires of { T.is_of theory.old log.old.atoms self.old.atoms }
         requires told { T.has_told theory.old (told_lits self.old.bounds self.old.trail.entries) }
@@ -100,8 +95,8 @@ impl Search {
         ensures refuted { IfOk result (λ r. IfSome r (λ id. IsLive log.new id × ((assumed : List Lit) → All (IsAssumed assumed) self.old.trail.entries → Refutes assumed (literals_at log.new id)))) }
     {
         legal_work_goes_on();
-        let from = self.decide(work, atom)?;
-        self.settle(log, held, theory, work, from)
+        self.decide(work, atom)?;
+        self.settle(log, held, theory, work)
     }
 
     /// Puts the assumed literals on the trail, and learns from the conflicts of that. Answers the clause that refutes them, if one does.
@@ -125,11 +120,10 @@ impl Search {
         ensures runs { IfOk result (λ r. r ≡ None → Runs log.new held.new.items assumed.now self.old self.new work.new) }
         ensures refuted { IfOk result (λ r. IfSome r (λ id. IsLive log.new id × Refutes assumed.now (literals_at log.new id))) }
     {
-        if let Some(falsified) = self.assume_all(log, held, assumed) {
+        if let Some(falsified) = self.assume_all(log, assumed)? {
             return Ok(Some(self.refute(*held.allocator(), log, falsified)?));
         }
-        let from = self.trail.len();
-        self.settle(log, held, theory, work, from)
+        self.settle(log, held, theory, work)
     }
 
     /// Searches for truths of the atoms under which each clause has a true literal, and each assumed one is true. Answers the clause

@@ -75,6 +75,47 @@ fn test_assumed_literals_are_refuted(rt: HostRuntime) -> Result<(), Fail> {
     run(rt.alloc(), IN_TURN)
 }
 
+// A clause of six literals, one of them twice: whichever others are assumed false, the last one follows, without a unit.
+const SIX: &Case = &Case {
+    atoms: 6,
+    limit: 0,
+    acts: &[
+        Act::Clause(&[1, 2, 3, 1, 4, 5, 6]),
+        Act::Holds(&[-1, -2, -3, -4, -5]),
+        Act::Truth(6, Some(true)),
+        Act::Holds(&[-6, -5, -4, -3, -2]),
+        Act::Truth(1, Some(true)),
+        Act::Holds(&[-3, -6, -1, -5, -4]),
+        Act::Truth(2, Some(true)),
+        Act::Refuted(&[-1, -2, -3, -4, -5, -6], &[1, 2, 3, 4, 5, 6]),
+    ],
+};
+
+#[test]
+fn test_the_last_literal_of_a_clause_follows(rt: HostRuntime) -> Result<(), Fail> {
+    run(rt.alloc(), SIX)
+}
+
+// Clauses that have but one literal, told twice or more, and what follows from them.
+const ALONE: &Case = &Case {
+    atoms: 3,
+    limit: 0,
+    acts: &[
+        Act::Clause(&[1, 1]),
+        Act::Clause(&[-2, -2, -2]),
+        Act::Clause(&[-1, 2, 3]),
+        Act::Holds(&[]),
+        Act::Truth(3, Some(true)),
+        Act::Clause(&[-3, -1]),
+        Act::Refuted(&[], &[]),
+    ],
+};
+
+#[test]
+fn test_clauses_of_one_literal(rt: HostRuntime) -> Result<(), Fail> {
+    run(rt.alloc(), ALONE)
+}
+
 // That just one of the first two atoms is true where the third is.
 const ODD: &Case = &Case {
     atoms: 3,

@@ -4,8 +4,7 @@ use Rattle.nz_log.specs.declared.lits.Lit.{Lit}
 use Rattle.nz_log.specs.declared.origins.Link.{Link}
 use Rattle.nz_log.specs.Atoms.{IsLitIn}
 use Rattle.nz_log.specs.Logs.{Puts, chain_entry}
-use Rattle.nz_sat.specs.Conflicts.{IsGreatestBut}
-use Rattle.nz_sat.proofs.LearnedClauses.{all_from, links_within, literals_are, literals_within, taught}
+use Rattle.nz_sat.proofs.LearnedClauses.{IsAsserting, all_from, links_within, literals_are, literals_within, taught}
 use Rattle.nz_sat.proofs.analyze.learn_from.Goals as goal
 
 pub unmark-requires : goal.unmark-requires
@@ -40,5 +39,7 @@ returns-clause-learned c =
     let chain = c.in_ok-links.field-0 in
     let puts : Puts old c.in_ok-clause.clause (chain_entry old c.args.falsified chain.links.items) new =
     subst (λ (ks : List Link). Puts old c.in_ok-clause.clause (chain_entry old c.args.falsified ks) new) c.deref.ensures.value c.in_ok-clause.ensures.made in
-    let greatest = subst (λ (l : List Lit). IsGreatestBut es chain.literal l c.level_but-level.result) c.clause-literals.ensures.literals c.level_but-level.ensures.greatest in
-    taught old new es c.args.falsified marks chain c.in_ok-links.ensures.chain c.in_ok-clause.clause puts c.tells_lits.ensures.tells c.level_but-level.result c.requires.decided greatest
+    let told = c.asserting.ensures in
+    taught old new es c.args.falsified marks chain c.in_ok-links.ensures.chain c.in_ok-clause.clause puts c.tells_lits.ensures.tells c.requires.decided c.asserting.result
+    (subst (λ (d : List Lit). IsAsserting es d c.in_ok-clause.clause chain.literal c.asserting.result) c.clause-literals.ensures.literals
+    (record { clause = told.clause; literal = told.literal; others = told.others; beside = told.beside }))

@@ -9,116 +9,125 @@ use Rattle.nz_sat.specs.declared.clauses.Held.{Held}
 use Rattle.nz_sat.specs.Clauses.{IsAssumed}
 use Rattle.nz_sat.specs.Sats.{AreConsistent}
 use Rattle.nz_sat.specs.declared.search.Search.{Search}
-use Rattle.nz_sat.specs.Searching.{AreOpen, IsSearch, MayAssume}
+use Rattle.nz_sat.specs.Searching.{Assumes, IsReady, IsSearch, MayAssume}
 use Rattle.nz_sat.specs.Trails.{IsTrueOn}
-use Rattle.nz_sat.proofs.TrailGrowth.{held_live, none_told, reasons_assumed, search_usable}
+use Rattle.nz_sat.proofs.TrailGrowth.{held_live, none_told, reasons_assumed}
 use Rattle.nz_sat.proofs.search.Search.assume_all.Goals as goal
 
 abbrev blank : Lit
 blank = record { atom = 0; sign = false }
 
+pub start-requires : goal.start-requires
+start-requires c = record { watched = c.requires.search.1.watched; none = c.requires.none }
+
 pub returns-then-is_some-clause-comes : goal.returns-then-is_some-clause-comes
-returns-then-is_some-clause-comes c =
-    let log = c.args.log.now in
-    let held = c.args.held.now in
-    let st = c.start-falsified.ensures.comes in
-    let some : is_some c.start-falsified.result ≡ true = search rules in
+returns-then-is_some-clause-comes c held h =
+    let st = c.in_ok-falsified.ensures.comes held h in
+    let told = c.in_ok-falsified.falsified in
+    let some : is_some told ≡ true = search rules in
     record {
       search = st.search;
-      assumed_only = reasons_assumed c.start-falsified.new.self.trail.entries c.args.assumed.now st.by_reasons;
+      assumed_only = reasons_assumed c.start.new.self.trail.entries c.args.assumed.now st.by_reasons;
       undecided = st.undecided;
-      hold = λ none. absurd (none_told c.start-falsified.result some none);
-      all_open = st.all_open;
-      falsified = IfSome_then c.start-falsified.result st.falsified (λ id q. (held_live log held st.search.are_held id q.0, λ m has. inl (q.1 m has)));
+      hold = λ none. absurd (none_told told some none);
+      ready = st.ready;
+      falsified = IfSome_then told st.falsified (λ id q. (held_live c.args.log.now held st.search.are_held id q.0, λ m has. inl (q.1 m has)));
     }
 
 pub loop-literal-init : goal.loop-literal-init
 loop-literal-init c =
-    let st = c.start-falsified.ensures.comes in
-    let none : c.start-falsified.result ≡ None = search rules in
+    let st = c.in_ok-falsified.ensures.comes in
+    let one = st c.requires.search.0 c.requires.search.1 in
+    let none : c.in_ok-falsified.falsified ≡ None = search rules in
     record {
-      rest = c.start-falsified.ensures.rest;
-      search = st.search;
-      assumed_only = reasons_assumed c.start-falsified.new.self.trail.entries c.args.assumed.now st.by_reasons;
-      undecided = st.undecided;
+      rest = c.start.ensures.rest;
+      search = λ held h. (st held h).search;
+      assumed_only = reasons_assumed c.start.new.self.trail.entries c.args.assumed.now one.by_reasons;
+      undecided = one.undecided;
       hold = λ k d below. absurd (omega arith);
-      all_open = st.all_open none;
+      ready = one.ready none;
     }
 
--- the next literal may be assumed
-may_assume : (log : LogState) (held : List Held) (assumed : List Lit) (s start : Search) (i : ℕ) → i < length assumed → s ≡ record start { trail = s.trail }
-    → IsSearch log held s → AreOpen log held s.trail.entries → All (IsAssumed assumed) s.trail.entries → All (λ (m : Lit). Contains start.atoms m.atom) assumed
-    → AreConsistent assumed → MayAssume log held assumed (get_or assumed i blank) s
-may_assume log held assumed s start i inside rest search all_open assumed_only named consistent =
+-- the next literal is on an atom, and may be assumed
+atom_named : (s start : Search) (l : Lit) → s ≡ record start { trail = s.trail; propagation = s.propagation } → Contains start.atoms l.atom → Contains s.atoms l.atom
+atom_named s start l rest has = subst (λ (us : List ℕ). Contains us l.atom) (sym (ap (λ (r : Search). r.atoms) rest)) has
+
+may_assume : (log : LogState) (held : List Held) (assumed : List Lit) (s start : Search) (i : ℕ) → i < length assumed → s ≡ record start { trail = s.trail; propagation = s.propagation }
+    → IsSearch log held s → IsReady log s → All (IsAssumed assumed) s.trail.entries → All (λ (m : Lit). Contains start.atoms m.atom) assumed → AreConsistent assumed
+    → MayAssume log held assumed (get_or assumed i blank) s
+may_assume log held assumed s start i inside rest search ready assumed_only named consistent =
     record {
       search = search;
-      all_open = all_open;
+      ready = ready;
       assumed_only = assumed_only;
       among = Contains-get_or assumed i blank inside;
-      atom = subst (λ (us : List ℕ). Contains us (get_or assumed i blank).atom) (sym (ap (λ (r : Search). r.atoms) rest)) (named i blank inside);
+      atom = atom_named s start (get_or assumed i blank) rest (named i blank inside);
       consistent = consistent;
     }
 
--- the atoms are those of the start
-atom_named : (c : goal.After-assume-arg-in-loop-literal-1) → Contains c.loop-literal.self.atoms (get_or c.args.assumed.now c.loop-literal.literal-index blank).atom
-atom_named c =
-    let inside : c.loop-literal.literal-index < length c.args.assumed.now = omega arith in
-    subst (λ (us : List ℕ). Contains us (get_or c.args.assumed.now c.loop-literal.literal-index blank).atom) (sym (ap (λ (s : Search). s.atoms) c.loop-literal.invariant.rest))
-    (c.requires.named c.loop-literal.literal-index blank inside)
+pub assume-requires-clause-watched : goal.assume-requires-clause-watched
+assume-requires-clause-watched c = (c.loop-literal.invariant.search c.requires.search.0 c.requires.search.1).watched
 
-pub assume-falsified-requires : goal.assume-falsified-requires
-assume-falsified-requires c =
+pub assume-requires-clause-within : goal.assume-requires-clause-within
+assume-requires-clause-within c =
     let s = c.loop-literal.self in
     let before = c.loop-literal.invariant in
+    let l = get_or c.args.assumed.now c.loop-literal.literal-index blank in
+    let search = before.search c.requires.search.0 c.requires.search.1 in
+    All-contains (λ (t : ℕ). t < s.trail.size) s.atoms l.atom search.within (atom_named s c.args.self.now l before.rest (c.requires.named c.loop-literal.literal-index blank (omega arith)))
+
+pub returns-then-is_some-2-clause-comes : goal.returns-then-is_some-2-clause-comes
+returns-then-is_some-2-clause-comes c held h =
+    let before = c.loop-literal.invariant in
+    let assumed = c.args.assumed.now in
+    let told = c.in_ok-falsified-2.falsified in
+    let may = may_assume c.args.log.now held assumed c.loop-literal.self c.args.self.now c.loop-literal.literal-index (omega arith) before.rest (before.search held h) before.ready before.assumed_only c.requires.named c.requires.consistent in
+    let comes = c.in_ok-falsified-2.ensures.comes held assumed may in
+    let some : is_some told ≡ true = search rules in
     record {
-      usable = search_usable c.args.log.now c.args.held.now s before.search;
-      within = All-contains (λ (t : ℕ). t < s.trail.size) s.atoms (get_or c.args.assumed.now c.loop-literal.literal-index blank).atom before.search.within (atom_named c);
-      undecided = before.undecided;
+      search = comes.search;
+      assumed_only = comes.assumed_only;
+      undecided = comes.undecided;
+      hold = λ none. absurd (none_told told some none);
+      ready = comes.ready;
+      falsified = comes.falsified;
     }
 
 pub loop-literal-preserved : goal.loop-literal-preserved
 loop-literal-preserved c =
+    let log = c.args.log.now in
     let assumed = c.args.assumed.now in
     let i = c.loop-literal.literal-index in
-    let new = c.assume-falsified.new.self in
+    let new = c.assume.new.self in
     let before = c.loop-literal.invariant in
     let inside : i < length assumed = omega arith in
-    let comes = c.assume-falsified.ensures.comes c.args.held.now assumed (may_assume c.args.log.now c.args.held.now c.args.assumed.now c.loop-literal.self c.args.self.now c.loop-literal.literal-index (omega arith) c.loop-literal.invariant.rest c.loop-literal.invariant.search c.loop-literal.invariant.all_open c.loop-literal.invariant.assumed_only c.requires.named c.requires.consistent) in
-    let none : c.assume-falsified.result ≡ None = search rules in
+    let told = c.in_ok-falsified-2.falsified in
+    let none : told ≡ None = search rules in
+    let comes : (held : List Held) → IsSearch log held c.args.self.now → Assumes log held assumed (get_or assumed i blank) c.loop-literal.self.trail.entries new told =
+    λ held h. c.in_ok-falsified-2.ensures.comes held assumed
+    (may_assume log held assumed c.loop-literal.self c.args.self.now i inside before.rest (before.search held h) before.ready before.assumed_only c.requires.named c.requires.consistent) in
+    let one = comes c.requires.search.0 c.requires.search.1 in
     record {
-      rest = c.assume-falsified.ensures.rest ∙ ap (λ (s : Search). record s { trail = new.trail }) before.rest;
-      search = comes.search;
-      assumed_only = comes.assumed_only;
-      undecided = comes.undecided;
+      rest = c.assume.ensures.rest ∙ ap (λ (s : Search). record s { trail = new.trail; propagation = new.propagation }) before.rest;
+      search = λ held h. (comes held h).search;
+      assumed_only = one.assumed_only;
+      undecided = one.undecided;
       hold = λ k d below.
           below_more (λ (n : ℕ). (f : Lit) → IsTrueOn new.trail.entries (get_or assumed n f)) i
-          (λ n less f. comes.kept (get_or assumed n f) (before.hold n f less))
-          (λ f. subst (IsTrueOn new.trail.entries) (get_or_default assumed i blank f inside) (comes.holds none))
+          (λ n less f. one.kept (get_or assumed n f) (before.hold n f less))
+          (λ f. subst (IsTrueOn new.trail.entries) (get_or_default assumed i blank f inside) (one.holds none))
           k below d;
-      all_open = comes.all_open none;
-    }
-
-pub returns-then-is_some-2-clause-comes : goal.returns-then-is_some-2-clause-comes
-returns-then-is_some-2-clause-comes c =
-    let comes = c.assume-falsified.ensures.comes c.args.held.now c.args.assumed.now (may_assume c.args.log.now c.args.held.now c.args.assumed.now c.loop-literal.self c.args.self.now c.loop-literal.literal-index (omega arith) c.loop-literal.invariant.rest c.loop-literal.invariant.search c.loop-literal.invariant.all_open c.loop-literal.invariant.assumed_only c.requires.named c.requires.consistent) in
-    let some : is_some c.assume-falsified.result ≡ true = search rules in
-    record {
-      search = comes.search;
-      assumed_only = comes.assumed_only;
-      undecided = comes.undecided;
-      hold = λ none. absurd (none_told c.assume-falsified.result some none);
-      all_open = comes.all_open;
-      falsified = comes.falsified;
+      ready = one.ready none;
     }
 
 pub returns-clause-comes : goal.returns-clause-comes
-returns-clause-comes c =
+returns-clause-comes c held h =
     let before = c.loop-literal.invariant in
     record {
-      search = before.search;
+      search = before.search held h;
       assumed_only = before.assumed_only;
       undecided = before.undecided;
       hold = λ told k d inside. before.hold k d (omega arith);
-      all_open = λ told. before.all_open;
+      ready = λ told. before.ready;
       falsified = tt;
     }

@@ -1,57 +1,84 @@
--- One clause more is in the index.
-use Rattle.std.proofs.Common.{◌≡◌, ℕ, ◌<◌, List, length, false, get_or, inl, inr, ap, sym, subst, ◌∙◌, arith, below_more, rules, All, Contains, replicate}
+-- One clause more is held.
+use Rattle.std.proofs.Common.{◌≡◌, ℕ, ◌*◌, ◌≤◌, ◌<◌, List, length, false, get_or, inl, inr, ap, sym, refl, subst, ◌∙◌, arith, below_more, rules, All, Contains, replicate}
 use Rattle.std.proofs.lemmas.List.{get_or_default, length-replicate}
 use Rattle.std.proofs.lemmas.List.Elements.{All-contains, All-map, All-nil}
 use Rattle.nz_log.specs.declared.lits.Lit.{Lit}
 use Rattle.nz_log.specs.Leveled.{AreToldAtoms}
-use Rattle.nz_log.specs.Logs.{literals_at}
+use Rattle.nz_log.specs.Logs.{LogState, literals_at}
 use Rattle.nz_sat.specs.declared.clauses.Held.{Held}
 use Rattle.nz_sat.specs.declared.trail.Assigned.{Assigned}
-use Rattle.nz_sat.specs.Clauses.{HasReasonOf, IsImplied, IsListed, IsOfSize}
+use Rattle.nz_sat.specs.Clauses.{HasReasonOf, IsImplied, IsUsable}
 use Rattle.nz_sat.specs.Conflicts.{AreUnmarked, is_marked}
 use Rattle.nz_sat.specs.Trails.{EachBehind, IsTrail, TrailState, empty_trail}
 use Rattle.nz_sat.specs.Theories.{AreLast, is_bound_at}
+use Rattle.nz_sat.specs.Watched.{AreTwoOf, AreWatched, HasClause, MayHold, watch_state}
 use Rattle.nz_sat.proofs.TrailGrowth.{held_has, none_marked}
 use Rattle.nz_sat.proofs.AtomTrails.{nothing_last}
-use Rattle.nz_sat.specs.Sats.{ids}
+use Rattle.nz_sat.proofs.Beginnings.{codes_within, may_hold}
+use Rattle.nz_sat.specs.Sats.{AreHeld, ids}
 use Rattle.nz_sat.proofs.search.Search.new.Goals as goal
 
 abbrev blank : Held
 blank = record { id = 0; level = 0 }
 
-pub loop-clause-preserved : goal.loop-clause-preserved
-loop-clause-preserved c =
-    let held = c.args.held.now in
-    let log = c.args.log.now in
-    let i = c.loop-clause.clause-index in
-    let new = c.add.new.self in
-    let before = c.loop-clause.invariant in
-    let added = c.in_ok-add.ensures.added in
-    let inside : i < length held = omega arith in
+pub loop-clause-init : goal.loop-clause-init
+loop-clause-init c =
+    let p = c.in_ok-propagation.ensures in
     record {
-      size = (added.size.0 ∙ before.size.0, added.size.1 ∙ before.size.1);
-      only = λ m j has.
-          elim (added.only m j has) [ inl old ↦ before.only m j old | inr same ↦ subst (Contains (ids held)) same (held_has held i blank inside) ];
-      listed = λ k d below.
-          below_more (λ (n : ℕ). (f : Held) → IsListed log new (get_or held n f).id) i
-          (λ n less f l has. added.kept l (get_or held n f).id (before.listed n f less l has))
-          (λ f. subst (λ (h : Held). IsListed log new h.id) (get_or_default held i blank f inside) added.listed)
-          k below d;
+      room = p.room;
+      head = p.head;
+      only = λ i has. absurd (p.none i has);
+      covered = λ k d below. absurd (omega (arith, below));
+      watched = p.watched c.args.log.now (empty_trail c.size-size.result) refl;
     }
 
-pub add-requires-clause-within : goal.add-requires-clause-within
-add-requires-clause-within c k d there =
+-- the next clause is over the atoms
+usable : (log : LogState) (held : List Held) (atoms us : List ℕ) (size i : ℕ) → AreHeld log held → All (λ (h : Held). All (λ (l : Lit). Contains atoms l.atom) (literals_at log h.id)) held
+    → us ≡ atoms → All (λ (t : ℕ). t < size) us → i < length held → IsUsable log size (get_or held i blank).id
+usable log held atoms us size i live named same small inside =
+    record {
+      live = (live i blank inside).0;
+      within = λ l there.
+          let atom = All-contains (λ (m : Lit). Contains atoms m.atom) (literals_at log (get_or held i blank).id) l (named i blank inside) there in
+          All-contains (λ (t : ℕ). t < size) us l.atom small (subst (λ (vs : List ℕ). Contains vs l.atom) (sym same) atom);
+    }
+
+pub hold-requires-clause-within : goal.hold-requires-clause-within
+hold-requires-clause-within c =
+    let log = c.args.log.now in
     let held = c.args.held.now in
     let i = c.loop-clause.clause-index in
+    let id = (get_or held i blank).id in
+    let size = c.size-size.result in
+    let good = usable log held c.args.atoms.now c.in_ok-atoms.atoms size i c.requires.held c.requires.named c.in_ok-atoms.ensures.atoms c.size-size.ensures.within (omega arith) in
+    codes_within log size (length c.loop-clause.propagation.watches.lists.items) id c.two_of.result good c.loop-clause.invariant.room
+    (subst (λ (ls : List Lit). AreTwoOf ls c.two_of.result) c.clause.ensures.literals c.two_of.ensures.two)
+
+pub loop-clause-preserved : goal.loop-clause-preserved
+loop-clause-preserved c =
+    let log = c.args.log.now in
+    let held = c.args.held.now in
+    let i = c.loop-clause.clause-index in
+    let id = (get_or held i blank).id in
+    let size = c.size-size.result in
+    let old = c.loop-clause.propagation in
+    let new = c.hold.new.self in
     let before = c.loop-clause.invariant in
+    let holds = c.hold.ensures in
     let inside : i < length held = omega arith in
-    let l = get_or (literals_at c.args.log.now (get_or held i blank).id) k d in
-    let named = c.requires.named i blank inside k d there in
-    let atom : Contains c.in_ok-atoms.atoms l.atom = subst (λ (us : List ℕ). Contains us l.atom) (sym c.in_ok-atoms.ensures.atoms) named in
-    let small : l.atom < c.size-size.result = All-contains (λ (t : ℕ). t < c.size-size.result) c.in_ok-atoms.atoms l.atom c.size-size.ensures.within atom in
-    let first = before.size.0 in
-    let second = before.size.1 in
-    (omega arith, omega arith)
+    let good = usable log held c.args.atoms.now c.in_ok-atoms.atoms size i c.requires.held c.requires.named c.in_ok-atoms.ensures.atoms c.size-size.ensures.within inside in
+    let may = may_hold log size id c.two_of.result good (subst (λ (ls : List Lit). AreTwoOf ls c.two_of.result) c.clause.ensures.literals c.two_of.ensures.two) in
+    record {
+      room = subst (λ (n : ℕ). 2 * size ≤ n) (sym holds.room) before.room;
+      head = holds.head ∙ before.head;
+      only = λ j has. elim (holds.only j has) [ inl was ↦ before.only j was | inr same ↦ subst (Contains (ids held)) same (held_has held i blank inside) ];
+      covered = λ k d below.
+          below_more (λ (n : ℕ). (f : Held) → HasClause new (get_or held n f).id) i
+          (λ n less f. holds.kept (get_or held n f).id (before.covered n f less))
+          (λ f. subst (λ (h : Held). HasClause new h.id) (get_or_default held i blank f inside) c.in_ok-hold.ensures.has)
+          k below d;
+      watched = c.in_ok-hold.ensures.watched (empty_trail size) before.watched (subst (λ (n : ℕ). MayHold log (empty_trail size) n id c.two_of.result) (sym before.head) may);
+    }
 
 pub returns-clause-search : goal.returns-clause-search
 returns-clause-search c =
@@ -64,16 +91,17 @@ returns-clause-search c =
     let empty : t ≡ empty_trail size = c.in_ok-new.ensures.empty in
     let noted = c.atoms.view_is ∙ c.in_ok-atoms.ensures.atoms in
     let N : List ℕ → ℕ → Type 0 = λ vs i. All (λ (l : Lit). Contains vs l.atom) (literals_at log i) in
+    let H : ℕ → Type 0 = λ i. HasClause c.loop-clause.propagation i in
     let ids_are = c.ids.ensures.ids in
     let small : All (λ (u : ℕ). u < size) us = subst (λ (vs : List ℕ). All (λ (u : ℕ). u < size) vs) (sym c.atoms.view_is) c.size-size.ensures.within in
     let marks : c.in_ok-vec.field-0.items ≡ replicate size false = search rules in
     record {
       are_held = c.requires.held;
-      listed = All-map (IsListed log c.loop-clause.index) (λ (h : Held). h.id) held (λ k d inside. before.listed k d (omega arith));
+      covered = λ i has. All-contains H (ids held) i (All-map H (λ (h : Held). h.id) held (λ k d inside. before.covered k d (omega arith))) has;
       only = before.only;
       named = All-map (N us) (λ (h : Held). h.id) held (λ k d inside. subst (λ (vs : List ℕ). N vs (get_or held k d).id) (sym noted) (c.requires.named k d inside));
       within = subst (λ (u : TrailState). All (λ (v : ℕ). v < u.size) us) (sym empty) small;
-      indexed = subst (λ (u : TrailState). IsOfSize u.size c.loop-clause.index) (sym empty) before.size;
+      watched = subst (λ (u : TrailState). AreWatched log (watch_state c.loop-clause.propagation u)) (sym empty) before.watched;
       marks = ap length marks ∙ length-replicate size false ∙ sym (ap (λ (u : TrailState). u.size) empty);
       unmarked = subst AreUnmarked (sym marks) (none_marked size);
       on = record {

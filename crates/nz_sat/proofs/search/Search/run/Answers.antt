@@ -9,6 +9,7 @@ use Rattle.nz_sat.specs.Theories.{IsMet, state_of, told_lits}
 use Rattle.nz_sat.proofs.SearchSteps.{advances_same, steps_same}
 use Rattle.nz_sat.proofs.SearchLines.{adds_limit}
 use Rattle.nz_sat.proofs.SearchRuns.{run_advances, run_steps, runs_on, runs_ordered}
+use Rattle.nz_sat.proofs.WatchedTrails.{all_open}
 use Rattle.nz_sat.proofs.search.Search.run.Goals as goal
 
 pub loop-atom-init : goal.loop-atom-init
@@ -23,11 +24,8 @@ loop-atom-init g c =
 pub turn-requires-clause-search : goal.turn-requires-clause-search
 turn-requires-clause-search g c = (runs_ordered c.loop-atom.invariant.runs c.next.ensures.rest).search
 
-pub turn-requires-clause-all_open : goal.turn-requires-clause-all_open
-turn-requires-clause-all_open g c = (runs_ordered c.loop-atom.invariant.runs c.next.ensures.rest).all_open
-
-pub turn-requires-clause-were_open : goal.turn-requires-clause-were_open
-turn-requires-clause-were_open g c = (runs_ordered c.loop-atom.invariant.runs c.next.ensures.rest).were_open
+pub turn-requires-clause-ready : goal.turn-requires-clause-ready
+turn-requires-clause-ready g c = (runs_ordered c.loop-atom.invariant.runs c.next.ensures.rest).ready
 
 pub turn-requires-clause-noted : goal.turn-requires-clause-noted
 turn-requires-clause-noted g c = (runs_ordered c.loop-atom.invariant.runs c.next.ensures.rest).noted
@@ -93,4 +91,4 @@ pub returns-clause-satisfied : goal.returns-clause-satisfied
 returns-clause-satisfied g c =
     let h = runs_ordered c.loop-atom.invariant.runs c.next.ensures.rest in
     let none : c.next.result ≡ None = search rules in
-    λ told. record { search = h.search; all_open = h.all_open; same = h.same; hold = h.hold; all_decided = c.next.ensures.none none; noted = h.noted }
+    λ told. record { search = h.search; all_open = all_open c.loop-atom.log c.loop-atom.held.items c.next.new.self h.search h.ready; same = h.same; hold = h.hold; all_decided = c.next.ensures.none none; noted = h.noted }

@@ -14,28 +14,28 @@ use Rattle.nz_sat.proofs.search.Search.settle.Goals as goal
 
 pub returns-in_err-conflict-clause-steps : goal.returns-in_err-conflict-clause-steps
 returns-in_err-conflict-clause-steps g c =
-    let may : MayFollow c.args.log.now c.args.held.now.items c.args.self.now c.args.from = record { search = c.requires.search; were_open = c.requires.all_open; waits = c.requires.waits } in
+    let may : MayFollow c.args.log.now c.args.held.now.items c.args.self.now = record { search = c.requires.search; first = c.requires.first } in
     let same : Err c.in_err-conflict.field-0.0 ≡ c.from_residual.result = search rules in
     record { advances = advances_same same (c.in_err-conflict.ensures.advances c.args.held.now.items may); met = search rules; spent = search rules }
 
 pub loop-conflict-init : goal.loop-conflict-init
 loop-conflict-init g c =
     let held = c.args.held.now.items in
-    let may : MayFollow c.args.log.now held c.args.self.now c.args.from = record { search = c.requires.search; were_open = c.requires.all_open; waits = c.requires.waits } in
+    let may : MayFollow c.args.log.now held c.args.self.now = record { search = c.requires.search; first = c.requires.first } in
     settles_first c.requires.search c.requires.noted (c.in_ok-conflict.ensures.advances held may) c.conflict.ensures.adds (ap (λ (r : Search). r.atoms) c.conflict.ensures.rest)
     c.in_ok-conflict.ensures.noted (c.in_ok-conflict.ensures.comes held may) c.in_ok-conflict.ensures.told c.in_ok-conflict.ensures.met
 
 pub refute-requires-clause-implied : goal.refute-requires-clause-implied
-refute-requires-clause-implied g c = (goes_back c.loop-conflict.invariant c.in-Some.is c.back_to.ensures.rest c.back_to.ensures.size c.back_to.ensures.back c.back_to.ensures.bounds).search.on.implied
+refute-requires-clause-implied g c = (goes_back c.loop-conflict.invariant c.in-Some.is c.back_to.ensures.rest c.back_to.ensures.size c.back_to.ensures.back c.back_to.ensures.looked c.back_to.ensures.bounds).search.on.implied
 
 pub refute-requires-clause-undecided : goal.refute-requires-clause-undecided
-refute-requires-clause-undecided g c = (goes_back c.loop-conflict.invariant c.in-Some.is c.back_to.ensures.rest c.back_to.ensures.size c.back_to.ensures.back c.back_to.ensures.bounds).depth_is ∙ c.if-back_to-eq0.true
+refute-requires-clause-undecided g c = (goes_back c.loop-conflict.invariant c.in-Some.is c.back_to.ensures.rest c.back_to.ensures.size c.back_to.ensures.back c.back_to.ensures.looked c.back_to.ensures.bounds).depth_is ∙ c.if-back_to-eq0.true
 
 pub returns-in_err-refute-clause-steps : goal.returns-in_err-refute-clause-steps
 returns-in_err-refute-clause-steps g c =
     let none = c.if-back_to-eq0.true in
     let t = c.loop-conflict.invariant in
-    let b = goes_back c.loop-conflict.invariant c.in-Some.is c.back_to.ensures.rest c.back_to.ensures.size c.back_to.ensures.back c.back_to.ensures.bounds in
+    let b = goes_back c.loop-conflict.invariant c.in-Some.is c.back_to.ensures.rest c.back_to.ensures.size c.back_to.ensures.back c.back_to.ensures.looked c.back_to.ensures.bounds in
     let start = c.args.self.now in
     let theory : g.row.T.Denot → TheoryState = state_of g.T.Theory.is_over g.T.Theory.has_told g.T.Theory.is_feasible g.T.Theory.is_of g.T.Theory.is_at in
     let same : Err stop.Memory ≡ c.from_residual-in_err-refute.result = search rules in
@@ -56,7 +56,7 @@ pub returns-then-back_to-eq0-clause-steps : goal.returns-then-back_to-eq0-clause
 returns-then-back_to-eq0-clause-steps g c =
     let none = c.if-back_to-eq0.true in
     let t = c.loop-conflict.invariant in
-    let b = goes_back c.loop-conflict.invariant c.in-Some.is c.back_to.ensures.rest c.back_to.ensures.size c.back_to.ensures.back c.back_to.ensures.bounds in
+    let b = goes_back c.loop-conflict.invariant c.in-Some.is c.back_to.ensures.rest c.back_to.ensures.size c.back_to.ensures.back c.back_to.ensures.looked c.back_to.ensures.bounds in
     let start = c.args.self.now in
     let theory : g.row.T.Denot → TheoryState = state_of g.T.Theory.is_over g.T.Theory.has_told g.T.Theory.is_feasible g.T.Theory.is_of g.T.Theory.is_at in
     record {
@@ -70,26 +70,26 @@ returns-then-back_to-eq0-clause-steps g c =
 
 pub returns-then-back_to-eq0-clause-refuted : goal.returns-then-back_to-eq0-clause-refuted
 returns-then-back_to-eq0-clause-refuted g c =
-    let b = goes_back c.loop-conflict.invariant c.in-Some.is c.back_to.ensures.rest c.back_to.ensures.size c.back_to.ensures.back c.back_to.ensures.bounds in (
+    let b = goes_back c.loop-conflict.invariant c.in-Some.is c.back_to.ensures.rest c.back_to.ensures.size c.back_to.ensures.back c.back_to.ensures.looked c.back_to.ensures.bounds in (
       c.in_ok-refute.ensures.live,
       λ assumed only. c.in_ok-refute.ensures.refutes assumed (b.carries.assumed_only assumed only) (back_falsified b assumed),
     )
 
 pub learn_on-requires-clause-search : goal.learn_on-requires-clause-search
-learn_on-requires-clause-search g c = (goes_back c.loop-conflict.invariant c.in-Some.is c.back_to.ensures.rest c.back_to.ensures.size c.back_to.ensures.back c.back_to.ensures.bounds).search
+learn_on-requires-clause-search g c = (goes_back c.loop-conflict.invariant c.in-Some.is c.back_to.ensures.rest c.back_to.ensures.size c.back_to.ensures.back c.back_to.ensures.looked c.back_to.ensures.bounds).search
 
-pub learn_on-requires-clause-all_open : goal.learn_on-requires-clause-all_open
-learn_on-requires-clause-all_open g c = (goes_back c.loop-conflict.invariant c.in-Some.is c.back_to.ensures.rest c.back_to.ensures.size c.back_to.ensures.back c.back_to.ensures.bounds).were_open
+pub learn_on-requires-clause-first : goal.learn_on-requires-clause-first
+learn_on-requires-clause-first g c = (goes_back c.loop-conflict.invariant c.in-Some.is c.back_to.ensures.rest c.back_to.ensures.size c.back_to.ensures.back c.back_to.ensures.looked c.back_to.ensures.bounds).first
 
 pub learn_on-requires-clause-conflict : goal.learn_on-requires-clause-conflict
-learn_on-requires-clause-conflict g c = (goes_back c.loop-conflict.invariant c.in-Some.is c.back_to.ensures.rest c.back_to.ensures.size c.back_to.ensures.back c.back_to.ensures.bounds).conflict
+learn_on-requires-clause-conflict g c = (goes_back c.loop-conflict.invariant c.in-Some.is c.back_to.ensures.rest c.back_to.ensures.size c.back_to.ensures.back c.back_to.ensures.looked c.back_to.ensures.bounds).conflict
 
 pub learn_on-requires-clause-noted : goal.learn_on-requires-clause-noted
-learn_on-requires-clause-noted g c = (goes_back c.loop-conflict.invariant c.in-Some.is c.back_to.ensures.rest c.back_to.ensures.size c.back_to.ensures.back c.back_to.ensures.bounds).noted
+learn_on-requires-clause-noted g c = (goes_back c.loop-conflict.invariant c.in-Some.is c.back_to.ensures.rest c.back_to.ensures.size c.back_to.ensures.back c.back_to.ensures.looked c.back_to.ensures.bounds).noted
 
 pub learn_on-requires-clause-last : goal.learn_on-requires-clause-last
 learn_on-requires-clause-last g c =
-    let b = goes_back c.loop-conflict.invariant c.in-Some.is c.back_to.ensures.rest c.back_to.ensures.size c.back_to.ensures.back c.back_to.ensures.bounds in
+    let b = goes_back c.loop-conflict.invariant c.in-Some.is c.back_to.ensures.rest c.back_to.ensures.size c.back_to.ensures.back c.back_to.ensures.looked c.back_to.ensures.bounds in
     let some = c.if-back_to-eq0.false in
     let high : 0 < c.back_to.result = omega (arith, some) in
     let deep = b.depth_is in
@@ -97,7 +97,7 @@ learn_on-requires-clause-last g c =
 
 pub learn_on-requires-clause-decided : goal.learn_on-requires-clause-decided
 learn_on-requires-clause-decided g c =
-    let b = goes_back c.loop-conflict.invariant c.in-Some.is c.back_to.ensures.rest c.back_to.ensures.size c.back_to.ensures.back c.back_to.ensures.bounds in
+    let b = goes_back c.loop-conflict.invariant c.in-Some.is c.back_to.ensures.rest c.back_to.ensures.size c.back_to.ensures.back c.back_to.ensures.looked c.back_to.ensures.bounds in
     let some = c.if-back_to-eq0.false in
     let high : 0 < c.back_to.result = omega (arith, some) in
     let deep = b.depth_is in
@@ -106,11 +106,11 @@ learn_on-requires-clause-decided g c =
 pub returns-in_err-conflict-2-clause-steps : goal.returns-in_err-conflict-2-clause-steps
 returns-in_err-conflict-2-clause-steps g c =
     let t = c.loop-conflict.invariant in
-    let b = goes_back c.loop-conflict.invariant c.in-Some.is c.back_to.ensures.rest c.back_to.ensures.size c.back_to.ensures.back c.back_to.ensures.bounds in
+    let b = goes_back c.loop-conflict.invariant c.in-Some.is c.back_to.ensures.rest c.back_to.ensures.size c.back_to.ensures.back c.back_to.ensures.looked c.back_to.ensures.bounds in
     let some = c.if-back_to-eq0.false in
     let high : 0 < c.back_to.result = omega (arith, some) in
     let old = c.loop-conflict.self in
-    let front = subst (λ (xs : List Assigned). IsFrontOf xs old.trail.entries) (sym c.back_to.ensures.back.cut) (below_front old.trail.size old.trail.entries t.turns.search.on.order c.back_to.result) in
+    let front = subst (λ (xs : List Assigned). IsFrontOf xs old.trail.entries) (sym c.back_to.ensures.back.cut) (below_front old.trail.size old.trail.entries t.turns.may.search.on.order c.back_to.result) in
     let reaches = reaches_cut (settling_reaches t) c.back_to.ensures.keeps front c.back_to.ensures.bounds (c.back_to.ensures.at high) in
     let same : Err c.in_err-conflict-2.field-0.0 ≡ c.from_residual-in_err-conflict-2.result = search rules in
     steps_same same (steps_on b reaches c.in_err-conflict-2.ensures.steps)
@@ -118,11 +118,11 @@ returns-in_err-conflict-2-clause-steps g c =
 pub loop-conflict-preserved : goal.loop-conflict-preserved
 loop-conflict-preserved g c =
     let t = c.loop-conflict.invariant in
-    let b = goes_back c.loop-conflict.invariant c.in-Some.is c.back_to.ensures.rest c.back_to.ensures.size c.back_to.ensures.back c.back_to.ensures.bounds in
+    let b = goes_back c.loop-conflict.invariant c.in-Some.is c.back_to.ensures.rest c.back_to.ensures.size c.back_to.ensures.back c.back_to.ensures.looked c.back_to.ensures.bounds in
     let some = c.if-back_to-eq0.false in
     let high : 0 < c.back_to.result = omega (arith, some) in
     let old = c.loop-conflict.self in
-    let front = subst (λ (xs : List Assigned). IsFrontOf xs old.trail.entries) (sym c.back_to.ensures.back.cut) (below_front old.trail.size old.trail.entries t.turns.search.on.order c.back_to.result) in
+    let front = subst (λ (xs : List Assigned). IsFrontOf xs old.trail.entries) (sym c.back_to.ensures.back.cut) (below_front old.trail.size old.trail.entries t.turns.may.search.on.order c.back_to.result) in
     let reaches = reaches_cut (settling_reaches t) c.back_to.ensures.keeps front c.back_to.ensures.bounds (c.back_to.ensures.at high) in
     settles_on b reaches c.in_ok-conflict-2.ensures.steps c.in_ok-conflict-2.ensures.told c.in_ok-conflict-2.ensures.turns
 

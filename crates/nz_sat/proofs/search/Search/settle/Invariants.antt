@@ -4,7 +4,7 @@ use Rattle.nz_sat.specs.Theories.{state_of}
 use Rattle.nz_sat.proofs.TheoryAnswers.{IsSettling}
 use Rattle.nz_sat.proofs.search.Search.settle.Given as goal
 
--- the clauses are open and the theory meets the trail, or there is a conflict that is to be learned from
+-- all was propagated and the theory meets the trail, or there is a conflict that is to be learned from
 abbrev pub invariant-loop-conflict : goal.invariant-loop-conflict
 invariant-loop-conflict g l =
     IsSettling (state_of g.T.Theory.is_over g.T.Theory.has_told g.T.Theory.is_feasible g.T.Theory.is_of g.T.Theory.is_at l.fn.theory)

@@ -1,0 +1,164 @@
+-- Watched clauses where a search went back to where a learned clause asserts its literal, and that clause beside them.
+use Rattle.std.proofs.Common.{◌≡◌, ℕ, ◌*◌, ◌+◌, ◌<◌, ◌≤◌, ◌⊎◌, if◌then◌else◌, false, inl, inr, List, [], ◌∷◌, ◌++◌, length, min, Option, Some, None, refl, sym, ap, subst, ◌∙◌, arith}
+use Rattle.std.specs.Prelude.{All, Contains, IfSome, nat_le, option_map}
+use Rattle.std.proofs.lemmas.List.{append-nil}
+use Rattle.std.proofs.lemmas.List.Elements.{All-push, All-weaker}
+use Rattle.std.proofs.lemmas.List.Sums.{sum_by_push}
+use Rattle.nz_log.specs.declared.lits.Lit.{Lit}
+use Rattle.nz_log.specs.Logs.{LogState, literals_at}
+use Rattle.nz_sat.specs.declared.analyze.Learned.{Learned}
+use Rattle.nz_sat.specs.declared.propagation.Propagation.{Propagation}
+use Rattle.nz_sat.specs.declared.trail.Assigned.{Assigned}
+use Rattle.nz_sat.specs.Clauses.{HasTrue, IsUsable}
+use Rattle.nz_sat.specs.Conflicts.{IsBeside, IsLearned}
+use Rattle.nz_sat.specs.Lists.{code_of}
+use Rattle.nz_sat.specs.Searching.{after_learned}
+use Rattle.nz_sat.specs.Trails.{EachBehind, IsFalseOn, IsFreeOn, IsNext, IsTrail, IsTrueOn, TrailState, below, depth, implied, is_decision, level_on}
+use Rattle.nz_sat.specs.Watched.{AreWatched, HasClause, MayHold, watch_state}
+use Rattle.nz_sat.proofs.Clausal.{truth_missing}
+use Rattle.nz_sat.proofs.Levels.{above_level, below_depth, below_free, below_join, below_twice}
+use Rattle.nz_sat.proofs.LiteralNumbers.{code_within}
+use Rattle.nz_sat.proofs.TrailEntries.{assigned_one}
+use Rattle.nz_sat.proofs.VisitedClauses.{goes_one}
+use Rattle.nz_sat.proofs.WatchedTrails.{below_whole, cut_watched, goes_watched, true_more}
+
+-- a literal and another one, where there is one
+abbrev pub pair_of : Lit → Option Lit → Option (Lit × Lit)
+pair_of l o = option_map (λ (other : Lit). (l, other)) o
+
+-- the two literals of a learned clause that are watched, where there are two
+abbrev pub watched_pair : Learned → Option (Lit × Lit)
+watched_pair l = pair_of l.literal l.beside
+
+-- What comes of the clauses where one more is held, with these two literals watched.
+pub record Holds (log : LogState) (id : ℕ) (pair : Option (Lit × Lit)) (p q : Propagation) : Type 0 where
+  pub watched : (t : TrailState) → AreWatched log (watch_state p t) → MayHold log t p.head id pair → AreWatched log (watch_state q t)
+  pub has : HasClause q id
+  pub kept : (i : ℕ) → HasClause p i → HasClause q i
+  pub only : (i : ℕ) → HasClause q i → HasClause p i ⊎ (id ≡ i)
+  pub lone : pair ≡ None → q.lone.items ≡ p.lone.items ++ id ∷ []
+  pub no_more_lone : IfSome pair (λ (x : Lit × Lit). q.lone ≡ p.lone)
+
+-- those that have no two literals stay, but for the new one
+lone_items : (log : LogState) (id : ℕ) (pair : Option (Lit × Lit)) (p q : Propagation) → Holds log id pair p q → IfSome pair (λ (x : Lit × Lit). q.lone.items ≡ p.lone.items)
+lone_items log id None p q h = tt
+lone_items log id (Some x) p q h = ap (λ v. v.items) h.no_more_lone
+
+module _ (log : LogState) (t : TrailState) (order : IsTrail t) (l : Learned) (learned : IsLearned log t.entries l) where
+  abbrev es : List Assigned
+  es = t.entries
+
+  abbrev front : List Assigned
+  front = below l.level es
+
+  abbrev mine : Assigned
+  mine = implied front l.literal l.clause
+
+  abbrev lits : List Lit
+  lits = literals_at log l.clause
+
+  abbrev after : TrailState
+  after = record { entries = after_learned es l; size = t.size }
+
+  -- ---- The trail after it
+
+  pub front_deep : depth front ≡ l.level
+  front_deep = let earlier = learned.earlier in below_depth t.size es order l.level (omega arith)
+
+  pub literal_free : (k : ℕ) → k < depth es → IsFreeOn (below k es) l.literal
+  literal_free k less = let last = learned.last in below_free t.size es order k l.literal (learned.falsified l.literal learned.has) (omega (arith, last, less))
+
+  pub after_deep : depth (after_learned es l) ≡ l.level
+  after_deep =
+      let one : depth (front ++ mine ∷ []) ≡ depth front + 0 = sum_by_push (λ (x : Assigned). if is_decision x then 1 else 0) front mine in
+      omega (arith, one, front_deep)
+
+  now_true : IsTrueOn (after_learned es l) l.literal
+  now_true =
+      truth_missing front (mine ∷ []) l.literal.atom (literal_free l.level learned.earlier)
+      ∙ ap (option_map (λ (x : Assigned). x.literal.sign)) (assigned_one mine l.literal.atom refl)
+
+  below_after : (k : ℕ) → k < l.level → below k (after_learned es l) ≡ below k es
+  below_after k less =
+      let high : nat_le (depth front) k ≡ false = above_level k (depth front) (omega (arith, front_deep, less)) in
+      below_join k front (mine ∷ []) ∙ ap (λ b. below k front ++ (if b then mine ∷ [] else [])) high ∙ append-nil (below k front)
+      ∙ below_twice k l.level (omega (arith, less)) es
+
+  pub first_longer : below 0 (after_learned es l) ≡ below 0 es ++ below 0 (mine ∷ [])
+  first_longer = below_join 0 front (mine ∷ []) ∙ ap (λ (xs : List Assigned). xs ++ below 0 (mine ∷ [])) (below_twice 0 l.level (omega arith) es)
+
+  has_true : HasTrue (after_learned es l) lits
+  has_true = record { literal = l.literal; has = learned.has; holds = now_true }
+
+  -- ---- The clauses that are watched
+
+  pub after_watched : (p q : Propagation) → q ≡ record p { head = min p.head (length front) } → AreWatched log (watch_state p t) → AreWatched log (watch_state q after)
+  after_watched p q is w =
+      let cut : TrailState = record { entries = front; size = t.size } in
+      goes_watched log q cut after (goes_one front mine refl refl) refl (cut_watched log p q t cut l.level order refl refl is w)
+
+  module _ (within : (m : Lit) → Contains lits m → m.atom < t.size) where
+    usable : IsUsable log t.size l.clause
+    usable = record { live = learned.live; within = within }
+
+    -- the two literals that are watched are undecided at each level before that
+    free_before : (k : ℕ) → k < l.level → (m : Lit) → Contains lits m → level_on es m.atom ≡ l.level → IsFreeOn (below k es) m
+    free_before k less m has level = below_free t.size es order k m (learned.falsified m has) (omega (arith, less, level))
+
+    holds_pair : (head : ℕ) (o : Option Lit) → IsBeside es lits l.literal l.level o → MayHold log after head l.clause (pair_of l.literal o)
+    holds_pair head None h = record { usable = usable; lone = λ a b has_a has_b. h.1 a has_a ∙ sym (h.1 b has_b) }
+    holds_pair head (Some m) h =
+        record {
+          held = record { usable = usable; has_first = learned.has; has_second = h.0; differ = λ same. h.1 (sym same) };
+          settled = λ x watched falls. has_true;
+          were_settled = λ k less x watched falls.
+              let low : k < l.level = omega (arith, less, after_deep) in
+              let earlier = learned.earlier in
+              let falls' : IsFalseOn (below k es) x = subst (λ (xs : List Assigned). IsFalseOn xs x) (below_after k low) falls in
+              let free : IsFreeOn (below k es) x =
+              elim watched [
+                | inl first ↦ subst (IsFreeOn (below k es)) first (literal_free k (omega (arith, low, earlier)))
+                | inr second ↦ subst (IsFreeOn (below k es)) second (free_before k low m h.0 h.2)
+              ] in
+              cc;
+        }
+
+    pub may_hold : (head : ℕ) → MayHold log after head l.clause (watched_pair l)
+    may_hold head = holds_pair head l.beside learned.beside
+
+    pair_within : (n : ℕ) → 2 * t.size ≤ n → (o : Option Lit) → IsBeside es lits l.literal l.level o
+        → IfSome (pair_of l.literal o) (λ (pair : Lit × Lit). (code_of pair.0 < n) × (code_of pair.1 < n))
+    pair_within n room None h = tt
+    pair_within n room (Some m) h =
+        let first = code_within l.literal t.size (within l.literal learned.has) in
+        let second = code_within m t.size (within m h.0) in
+        (omega (arith, first, room), omega (arith, second, room))
+
+    pub watched_within : (n : ℕ) → 2 * t.size ≤ n → IfSome (watched_pair l) (λ (pair : Lit × Lit). (code_of pair.0 < n) × (code_of pair.1 < n))
+    watched_within n room = pair_within n room l.beside learned.beside
+
+  -- ---- What is true under no decision
+
+  abbrev IsTrueFirst : List Assigned → ℕ → Type 0
+  IsTrueFirst xs i = HasTrue (below 0 xs) (literals_at log i)
+
+  first_kept : (us : List ℕ) → All (IsTrueFirst es) us → All (IsTrueFirst (after_learned es l)) us
+  first_kept us first =
+      All-weaker (IsTrueFirst es) (IsTrueFirst (after_learned es l))
+      (λ i x. subst (λ (xs : List Assigned). HasTrue xs (literals_at log i)) (sym first_longer) (true_more (below 0 es) (below 0 (mine ∷ [])) (literals_at log i) x))
+      us first
+
+  first_pair : EachBehind (IsNext t.size) (after_learned es l) → (us us' : List ℕ) (o : Option Lit) → IsBeside es lits l.literal l.level o
+      → (pair_of l.literal o ≡ None → us' ≡ us ++ l.clause ∷ []) → IfSome (pair_of l.literal o) (λ (pair : Lit × Lit). us' ≡ us)
+      → All (IsTrueFirst es) us → All (IsTrueFirst (after_learned es l)) us'
+  first_pair ordered us us' None h more same first =
+      let whole : below 0 (after_learned es l) ≡ after_learned es l = below_whole t.size (after_learned es l) ordered 0 (omega (arith, after_deep, h.0)) in
+      subst (All (IsTrueFirst (after_learned es l))) (sym (more refl))
+      (All-push (IsTrueFirst (after_learned es l)) us l.clause (first_kept us first) (subst (λ (xs : List Assigned). HasTrue xs lits) (sym whole) has_true))
+  first_pair ordered us us' (Some m) h more same first = subst (All (IsTrueFirst (after_learned es l))) (sym same) (first_kept us first)
+
+  -- also of the clause itself, where it has no two literals
+  pub after_true : EachBehind (IsNext t.size) (after_learned es l) → (p q : Propagation) → Holds log l.clause (watched_pair l) p q → All (IsTrueFirst es) p.lone.items
+      → All (IsTrueFirst (after_learned es l)) q.lone.items
+  after_true ordered p q h first =
+      first_pair ordered p.lone.items q.lone.items l.beside learned.beside h.lone (lone_items log l.clause (watched_pair l) p q h) first

@@ -1,0 +1,161 @@
+//! What clauses make true: the clauses by the literals that are watched in them, and how far a trail was looked at.
+ghost use Rattle.std.specs.Prelude.{◌≡◌, ◌≢◌, ℕ, ◌*◌, ◌<◌, ◌≤◌, ◌⊎◌, true, false, [], ◌∷◌, ◌++◌, All, Contains, IfOk, IfSome, None, OnErr, OnOk, Some, length, min};
+ghost use Rattle.nz_log.specs.declared.lits.Lit.{Lit};
+ghost use Rattle.nz_log.specs.Logs.{IsLive, LogState, literals_at};
+ghost use Rattle.nz_sat.specs.Clauses.{HasTrue, IsFalsified, IsLoneIn, Visits};
+ghost use Rattle.nz_sat.specs.Lists.{code_of};
+ghost use Rattle.nz_sat.specs.Trails.{TrailState};
+ghost use Rattle.nz_sat.specs.Watched.{AreWatched, HasClause, MayHold, watch_state};
+
+use crate::clauses::WatchedClause;
+use crate::trail::Trail;
+use crate::watches::{Watch, Watches};
+use nz_base::Memory;
+use nz_log::{ClauseId, Lit, Log};
+use std::alloc::Global;
+
+/// The clauses of a search, each with two watched literals, or with none where it has no two different ones.
+#[derive(Debug, Drop)]
+pub struct Propagation {
+    pub(crate) watches: Watches,
+    // By keys.
+    pub(crate) clauses: Vec<WatchedClause>,
+    // Those that have no two different literals.
+    pub(crate) lone: Vec<ClauseId>,
+    /// How many entries of the trail were looked at.
+    pub head: usize,
+}
+
+impl Propagation {
+    /// No clauses, for atoms below a number.
+    pub fn new(alloc: Global, size: usize) -> Result<Propagation, Memory>
+        ensures room { IfOk result (λ p. 2 * size ≤ length p.watches.lists.items) }
+        ensures none { IfOk result (λ p. (i : ℕ) → HasClause p i → ⊥) }
+        ensures head { IfOk result (λ p. p.head ≡ 0) }
+        ensures watched { IfOk result (λ p. (s : LogState) (t : TrailState) → t.size ≡ size → AreWatched s (watch_state p t)) }
+    {
+        let Some(literals) = size.checked_mul(2) else {
+            return Err(Memory);
+        };
+        let mut watches = Watches::new(alloc);
+        watches.fit(literals)?;
+        Ok(Propagation {
+            watches,
+            clauses: Vec::new(alloc),
+            lone: Vec::new(alloc),
+            head: 0,
+        })
+    }
+
+    /// Holds a clause, of which these two literals are watched, or none where it has no two different ones.
+    ///
+    /// # Errors
+    ///
+    /// `Memory`.
+    pub fn hold(&mut self, log: &Log, id: ClauseId, pair: Option<(Lit, Lit)>) -> Result<(), Memory>
+        requires live { IsLive log.now id }
+        requires within { IfSome pair (λ p. (code_of p.0 < length self.old.watches.lists.items) × (code_of p.1 < length self.old.watches.lists.items)) }
+        requires differ { IfSome pair (λ p. p.0 ≢ p.1) }
+        ensures watched { OnOk result ((t : TrailState) → AreWatched log.now (watch_state self.old t) → MayHold log.now t self.old.head id pair → AreWatched log.now (watch_state self.new t)) }
+        ensures has { OnOk result (HasClause self.new id) }
+        ensures kept { (i : ℕ) → HasClause self.old i → HasClause self.new i }
+        ensures only { (i : ℕ) → HasClause self.new i → HasClause self.old i ⊎ (id ≡ i) }
+        ensures room { length self.new.watches.lists.items ≡ length self.old.watches.lists.items }
+        ensures head { self.new.head ≡ self.old.head }
+        // Where none are watched.
+        ensures lone { OnOk result (pair ≡ None → self.new.lone.items ≡ self.old.lone.items ++ id ∷ []) }
+        ensures no_more_lone { IfSome pair (λ p. self.new.lone ≡ self.old.lone) }
+    {
+        match pair {
+            Some((first, second)) => self.watch(log, id, first, second),
+            None => {
+                self.lone.push(id)?;
+                Ok(())
+            }
+        }
+    }
+
+    /// Holds a clause, of which these two literals are watched.
+    ///
+    /// # Errors
+    ///
+    /// `Memory`. Then the same clauses are held as before.
+    fn watch(&mut self, log: &Log, id: ClauseId, first: Lit, second: Lit) -> Result<(), Memory>
+        requires live { IsLive log.now id }
+        requires first { code_of first < length self.old.watches.lists.items }
+        requires second { code_of second < length self.old.watches.lists.items }
+        requires differ { first ≢ second }
+        ensures watched { OnOk result ((t : TrailState) → AreWatched log.now (watch_state self.old t) → MayHold log.now t self.old.head id (Some (first, second)) → AreWatched log.now (watch_state self.new t)) }
+        ensures clauses { OnOk result (self.new.clauses.items ≡ self.old.clauses.items ++ (record { id = id; first = first; second = second }) ∷ []) }
+        ensures unchanged { OnErr result (self.new.clauses.items ≡ self.old.clauses.items) }
+        ensures room { length self.new.watches.lists.items ≡ length self.old.watches.lists.items }
+        ensures lone { self.new.lone ≡ self.old.lone }
+        ensures head { self.new.head ≡ self.old.head }
+    {
+        self.clauses.reserve(1)?;
+        self.watches.reserve(first)?;
+        self.watches.reserve(second)?;
+        let is_short = log.clause(id).len() == 2;
+        let key = self.clauses.len();
+        self.clauses
+            .push(WatchedClause { id, first, second })
+            .unwrap();
+        self.watches.put(first, watch(key, second, is_short));
+        self.watches.put(second, watch(key, first, is_short));
+        Ok(())
+    }
+
+    /// Makes the literals true of the clauses that have but one. Answers such a clause whose literal is false, or one that has no literal.
+    pub fn assert_lone(&self, log: &Log, trail: &mut Trail) -> Option<ClauseId>
+        requires lone { All (IsLoneIn log.now trail.old.size) self.now.lone.items }
+        ensures visits { Visits log.now (λ us. All (Contains us) self.now.lone.items) trail.old trail.new }
+        ensures hold { result ≡ None → All (λ i. HasTrue trail.new.entries (literals_at log.now i)) self.now.lone.items }
+        ensures falsified { IfSome result (λ id. Contains self.now.lone.items id × IsFalsified trail.new.entries (literals_at log.now id)) }
+    {
+        for id in &self.lone {
+            if !assert_one(log, trail, *id) {
+                return Some(*id);
+            }
+        }
+        None
+    }
+
+    /// Forgets what was looked at behind the first places of the trail, so many of them.
+    pub fn cut(&mut self, places: usize)
+        ensures cut { self.new ≡ record self.old { head = min self.old.head places } }
+    {
+        if places < self.head {
+            self.head = places;
+        }
+    }
+}
+
+/// Makes the literal of a clause true that has but one. Answers whether it is true then.
+fn assert_one(log: &Log, trail: &mut Trail, id: ClauseId) -> bool
+    requires lone { IsLoneIn log.now trail.old.size id }
+    ensures visits { Visits log.now (λ us. Contains us id) trail.old trail.new }
+    ensures holds { result ≡ true → HasTrue trail.new.entries (literals_at log.now id) }
+    ensures falsified { result ≡ false → IsFalsified trail.new.entries (literals_at log.now id) }
+{
+    let Some(literal) = log.clause(id).first() else {
+        return false;
+    };
+    match trail.value(*literal) {
+        Some(truth) => truth,
+        None => {
+            trail.imply(*literal, id);
+            true
+        }
+    }
+}
+
+/// A watch of the clause of this key.
+pub(crate) fn watch(key: usize, blocker: Lit, is_short: bool) -> Watch
+    ensures watch { result ≡ record { key = key; blocker = blocker; is_short = is_short } }
+{
+    Watch {
+        key,
+        blocker,
+        is_short,
+    }
+}

@@ -1,0 +1,127 @@
+//! For each literal the clauses in which it is watched.
+ghost use Rattle.std.specs.Prelude.{◌≡◌, ◌≢◌, ℕ, ◌^◌, ◌<◌, ◌≤◌, [], ◌∷◌, ◌++◌, length, OnOk, slice_get, Some};
+ghost use Rattle.nz_sat.specs.Lists.{Blocks, HasRoom, TakesOut, code_of, list_at, list_of};
+
+use nz_base::Memory;
+use nz_log::Lit;
+use std::alloc::Global;
+
+/// A clause in which a literal is watched.
+#[derive(Clone, Copy, Debug, PartialEq, Eq)]
+pub struct Watch {
+    /// The key of the clause.
+    pub key: usize,
+    /// Another literal of the clause: where it is true, nothing is to do.
+    pub blocker: Lit,
+    /// Whether these two are all its literals.
+    pub is_short: bool,
+}
+
+/// The watches by the numbers of literals.
+#[derive(Debug, Drop)]
+pub struct Watches {
+    lists: Vec<Vec<Watch>>,
+}
+
+impl Watches {
+    /// None, for no literals. Takes no memory.
+    pub fn new(alloc: Global) -> Watches
+        ensures none { result.lists.items ≡ [] }
+    {
+        Watches {
+            lists: Vec::new(alloc),
+        }
+    }
+
+    /// Makes room for the literals below a number.
+    ///
+    /// # Errors
+    ///
+    /// `Memory`. Then there may be room for some more.
+    pub fn fit(&mut self, literals: usize) -> Result<(), Memory>
+        ensures fits { OnOk result (literals ≤ length self.new.lists.items) }
+        ensures more { length self.old.lists.items ≤ length self.new.lists.items }
+        ensures same { (t : ℕ) → list_at self.new.lists.items t ≡ list_at self.old.lists.items t }
+    {
+        let alloc = *self.lists.allocator();
+        while self.lists.len() < literals {
+            self.lists.push(Vec::new(alloc))?;
+        }
+        Ok(())
+    }
+
+    /// How many clauses watch a literal.
+    pub fn count(&self, literal: Lit) -> usize
+        requires within { code_of literal < length self.now.lists.items }
+        ensures count { result ≡ length (list_of self.now literal) }
+    {
+        self.lists[code(literal)].len()
+    }
+
+    /// The watch of a place in the list of a literal.
+    pub fn at(&self, literal: Lit, i: usize) -> Watch
+        requires within { code_of literal < length self.now.lists.items }
+        requires inside { i < length (list_of self.now literal) }
+        ensures watch { slice_get (list_of self.now literal) i ≡ Some result }
+    {
+        self.lists[code(literal)][i]
+    }
+
+    /// Makes room for one more in the list of a literal.
+    ///
+    /// # Errors
+    ///
+    /// `Memory`.
+    pub fn reserve(&mut self, literal: Lit) -> Result<(), Memory>
+        requires within { code_of literal < length self.old.lists.items }
+        ensures size { length self.new.lists.items ≡ length self.old.lists.items }
+        ensures same { (t : ℕ) → list_at self.new.lists.items t ≡ list_at self.old.lists.items t }
+        ensures room { OnOk result (HasRoom self.new.lists.items (code_of literal)) }
+        ensures others { (t : ℕ) → HasRoom self.old.lists.items t → HasRoom self.new.lists.items t }
+    {
+        self.lists[code(literal)].reserve(1)?;
+        Ok(())
+    }
+
+    /// Puts a watch into the list of a literal, which has room.
+    pub fn put(&mut self, literal: Lit, watch: Watch)
+        requires within { code_of literal < length self.old.lists.items }
+        requires room { HasRoom self.old.lists.items (code_of literal) }
+        ensures size { length self.new.lists.items ≡ length self.old.lists.items }
+        ensures put { list_of self.new literal ≡ list_of self.old literal ++ watch ∷ [] }
+        ensures others { (t : ℕ) → t ≢ code_of literal → list_at self.new.lists.items t ≡ list_at self.old.lists.items t }
+        ensures others_room { (t : ℕ) → t ≢ code_of literal → HasRoom self.old.lists.items t → HasRoom self.new.lists.items t }
+    {
+        self.lists[code(literal)].push(watch).unwrap();
+    }
+
+    /// Takes the watch of a place out of the list of a literal. The last one takes its place.
+    pub fn remove(&mut self, literal: Lit, i: usize)
+        requires within { code_of literal < length self.old.lists.items }
+        requires inside { i < length (list_of self.old literal) }
+        ensures size { length self.new.lists.items ≡ length self.old.lists.items }
+        ensures removed { TakesOut i (list_of self.old literal) (list_of self.new literal) }
+        ensures others { (t : ℕ) → t ≢ code_of literal → list_at self.new.lists.items t ≡ list_at self.old.lists.items t }
+    {
+        self.lists[code(literal)].swap_remove(i);
+    }
+
+    /// Puts another blocking literal beside the clause of a place in the list of a literal.
+    pub fn block(&mut self, literal: Lit, i: usize, blocker: Lit)
+        requires within { code_of literal < length self.old.lists.items }
+        requires inside { i < length (list_of self.old literal) }
+        ensures size { length self.new.lists.items ≡ length self.old.lists.items }
+        ensures blocked { Blocks i blocker (list_of self.old literal) (list_of self.new literal) }
+        ensures others { (t : ℕ) → t ≢ code_of literal → list_at self.new.lists.items t ≡ list_at self.old.lists.items t }
+    {
+        self.lists[code(literal)][i].blocker = blocker;
+    }
+}
+
+/// The number of a literal: those of an atom and of its negation are neighbours.
+fn code(literal: Lit) -> usize
+    requires small { code_of literal < 2 ^ 64 }
+    ensures code { result ≡ code_of literal }
+{
+    2 * literal.atom + if literal.sign { 1 } else { 0 }
+}
