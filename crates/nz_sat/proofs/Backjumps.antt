@@ -32,7 +32,7 @@ use Rattle.nz_sat.specs.Clauses.{HasReasonOf, HasTrue, IsAssumed, IsImplied, IsR
 use Rattle.nz_sat.specs.Conflicts.{AreUnmarked, is_marked}
 use Rattle.nz_sat.specs.Numbers.{numbered}
 use Rattle.nz_sat.specs.Sats.{AreHeld, HoldsLearned, held_of, ids}
-use Rattle.nz_sat.specs.Lists.{code_of}
+use Rattle.nz_log.specs.Codes.{code_of}
 use Rattle.nz_sat.specs.Searching.{AreFirst, Carries, IsSearch, KeepsFirst, Learns, after_learned, learned_line}
 use Rattle.nz_sat.specs.Theories.{AreLast, EndsLegally, IsTrailOn, TellsTrail, TheoryState, bounds_on, is_bound_at, told_literal, told_lits, told_on}
 use Rattle.nz_sat.specs.Trails.{EachBehind, IsFrontOf, IsNext, IsTrail, IsTrueOn, TrailState, assigned, below, depth, implied, is_decision, literals_on}

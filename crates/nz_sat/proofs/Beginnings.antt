@@ -11,7 +11,7 @@ use Rattle.nz_sat.specs.declared.propagation.Propagation.{Propagation}
 use Rattle.nz_sat.specs.declared.search.Search.{Search}
 use Rattle.nz_sat.specs.declared.trail.Assigned.{Assigned}
 use Rattle.nz_sat.specs.Clauses.{HasTrue, IsFalsified, IsUsable, Visits}
-use Rattle.nz_sat.specs.Lists.{code_of}
+use Rattle.nz_log.specs.Codes.{code_of}
 use Rattle.nz_sat.specs.Sats.{ids}
 use Rattle.nz_sat.specs.Searching.{Assumes, IsSearch, MayAssume, Starts}
 use Rattle.nz_sat.specs.Trails.{TrailState, assigned, below, depth, empty_trail, is_decision, with_entry}

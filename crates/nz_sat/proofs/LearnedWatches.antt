@@ -11,7 +11,7 @@ use Rattle.nz_sat.specs.declared.propagation.Propagation.{Propagation}
 use Rattle.nz_sat.specs.declared.trail.Assigned.{Assigned}
 use Rattle.nz_sat.specs.Clauses.{HasTrue, IsUsable}
 use Rattle.nz_sat.specs.Conflicts.{IsBeside, IsLearned}
-use Rattle.nz_sat.specs.Lists.{code_of}
+use Rattle.nz_log.specs.Codes.{code_of}
 use Rattle.nz_sat.specs.Searching.{after_learned}
 use Rattle.nz_sat.specs.Trails.{EachBehind, IsFalseOn, IsFreeOn, IsNext, IsTrail, IsTrueOn, TrailState, below, depth, implied, is_decision, level_on}
 use Rattle.nz_sat.specs.Watched.{AreWatched, HasClause, MayHold, watch_state}

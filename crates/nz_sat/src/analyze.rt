@@ -57,10 +57,11 @@ fn mark(
 {
     let mut count = 0;
     for literal in literals {
-        if trail.value(*literal) == Some(false) && !seen[literal.atom] {
-            seen[literal.atom] = true;
-            order.raise(literal.atom);
-            if trail.level_of(literal.atom) == level {
+        let atom = literal.atom();
+        if trail.value(*literal) == Some(false) && !seen[atom] {
+            seen[atom] = true;
+            order.raise(atom);
+            if trail.level_of(atom) == level {
                 count += 1;
             }
         }
@@ -75,7 +76,7 @@ fn unmark(seen: &mut [bool], literals: &[Lit])
     ensures unmarked { All (λ l. is_marked seen.new l.atom ≡ false) literals.now }
 {
     for literal in literals {
-        seen[literal.atom] = false;
+        seen[literal.atom()] = false;
     }
 }
 
@@ -105,11 +106,12 @@ fn chain_back(
     let mut left = mark(trail, order, seen, log.clause(falsified), level);
     for i in (0..count).rev() {
         let entry = trail.entry(i);
-        if seen[entry.literal.atom] {
+        let atom = entry.literal.atom();
+        if seen[atom] {
             let literal = entry.literal.not();
             match entry.reason {
                 Some(clause) if left > 1 => {
-                    seen[entry.literal.atom] = false;
+                    seen[atom] = false;
                     left -= 1;
                     left += mark(trail, order, seen, log.clause(clause), level);
                     links.push(Link { clause, literal })?;
@@ -129,7 +131,7 @@ fn deepest_but(trail: &Trail, literals: &[Lit], but: Lit) -> Option<Lit>
     let mut deepest: Option<Lit> = None;
     let mut level = 0;
     for literal in literals {
-        let own = trail.level_of(literal.atom);
+        let own = trail.level_of(literal.atom());
         if !literal.is(but) && (deepest.is_none() || level < own) {
             deepest = Some(*literal);
             level = own;
@@ -147,7 +149,7 @@ fn asserting(trail: &Trail, literals: &[Lit], clause: ClauseId, literal: Lit) ->
 {
     let beside = deepest_but(trail, literals, literal);
     let level = match beside {
-        Some(other) => trail.level_of(other.atom),
+        Some(other) => trail.level_of(other.atom()),
         None => 0,
     };
     Learned {
@@ -164,7 +166,7 @@ pub fn greatest_level(trail: &Trail, literals: &[Lit]) -> usize
 {
     let mut level = 0;
     for literal in literals {
-        level = level.max(trail.level_of(literal.atom));
+        level = level.max(trail.level_of(literal.atom()));
     }
     level
 }
@@ -178,7 +180,7 @@ fn lone_last(trail: &Trail, literals: &[Lit]) -> Option<Lit>
     let last = trail.level();
     let mut lone: Option<Lit> = None;
     for literal in literals {
-        if trail.level_of(literal.atom) == last {
+        if trail.level_of(literal.atom()) == last {
             match lone {
                 Some(other) => {
                     if !other.is(*literal) {
@@ -274,7 +276,8 @@ fn chain_to_assumed(
     mark(trail, order, seen, log.clause(falsified), 0);
     for i in (0..count).rev() {
         let entry = trail.entry(i);
-        if seen[entry.literal.atom] {
+        let atom = entry.literal.atom();
+        if seen[atom] {
             if let Some(clause) = entry.reason {
                 mark(trail, order, seen, log.clause(clause), 0);
                 links.push(Link {

@@ -3,7 +3,7 @@ ghost use Rattle.std.specs.Prelude.{◌≡◌, ◌≢◌, ℕ, ◌*◌, ◌<◌,
 ghost use Rattle.nz_log.specs.declared.lits.Lit.{Lit};
 ghost use Rattle.nz_log.specs.Logs.{IsLive, LogState, literals_at};
 ghost use Rattle.nz_sat.specs.Clauses.{HasTrue, IsFalsified, IsLoneIn, Visits};
-ghost use Rattle.nz_sat.specs.Lists.{code_of};
+ghost use Rattle.nz_log.specs.Codes.{code_of};
 ghost use Rattle.nz_sat.specs.Trails.{TrailState};
 ghost use Rattle.nz_sat.specs.Watched.{AreWatched, HasClause, MayHold, watch_state};
 

@@ -1,5 +1,5 @@
 //! The search: decisions, what follows from them, and what each conflict teaches.
-ghost use Rattle.std.specs.Prelude.{◌≡◌, ℕ, ◌<◌, ◌≤◌, ◌+◌, ◌++◌, ◌∷◌, [], All, Contains, List, None, length, map, min, take, vec_capacity, vec_len, IfErr, IfOk, IfSome, IsSome, OnErr, OnOk};
+ghost use Rattle.std.specs.Prelude.{◌≡◌, ℕ, ◌^◌, ◌<◌, ◌≤◌, ◌+◌, ◌++◌, ◌∷◌, [], All, Contains, List, None, length, map, min, take, vec_capacity, vec_len, IfErr, IfOk, IfSome, IsSome, OnErr, OnOk};
 ghost use Rattle.nz_spec.specs.simplex.Bland.{Point};
 ghost use Rattle.nz_spec.specs.terms.Form as form;
 ghost use Rattle.nz_spec.specs.clauses.Literal as spec;
@@ -102,7 +102,7 @@ impl Search {
         ensures comes { (held : List Held) (assumed : List Lit) → MayAssume log.now held assumed literal self.old → IfOk result (Assumes log.now held assumed literal self.old.trail.entries self.new) }
     {
         tells_lits();
-        match self.trail.assigned(literal.atom) {
+        match self.trail.assigned(literal.atom()) {
             Some(entry) if entry.literal.is(literal) => Ok(None),
             Some(entry) => Ok(entry.reason),
             None => {
@@ -178,7 +178,7 @@ impl Search {
     {
         let mut untold = 0;
         while let Some(literal) = self.trail.pop_above(level) {
-            untold += self.bounds.told_at(self.trail.len(), literal.atom);
+            untold += self.bounds.told_at(self.trail.len(), literal.atom());
             self.order.keep(literal);
         }
         self.bounds.cut(self.trail.len());
@@ -388,6 +388,7 @@ impl Search {
         requires free { assigned self.old.trail.entries atom ≡ None }
         requires named { Contains self.old.atoms atom }
         requires within { atom < self.old.trail.size }
+        requires small { atom < 2 ^ 31 }
         ensures rest { self.new ≡ record self.old { trail = self.new.trail } }
         ensures decides { OnOk result (Decides self.old self.new atom work.old work.new) }
         ensures free { OnOk result (unit_count work.old.lines < work.old.limit) }
@@ -400,7 +401,7 @@ impl Search {
         };
         let sign = self.order.sign(atom);
         note(work, Entry::Decision { atom: number, sign })?;
-        self.trail.decide(Lit { atom, sign });
+        self.trail.decide(Lit::new(atom, sign));
         Ok(())
     }
 }
@@ -457,8 +458,8 @@ fn by_numbers(alloc: Global, atoms: &Atoms, literals: &[Lit]) -> Result<Literals
 {
     let mut pairs = Vec::with_capacity(alloc, literals.len())?;
     for literal in literals {
-        match atoms.number(literal.atom) {
-            Some(number) => pairs.push((number, literal.sign))?,
+        match atoms.number(literal.atom()) {
+            Some(number) => pairs.push((number, literal.sign()))?,
             None => unreachable!(),
         }
     }

@@ -80,8 +80,8 @@ impl Trail {
     pub fn value(&self, literal: Lit) -> Option<bool>
         ensures value { HasValue self.now.entries literal result }
     {
-        match self.assigned(literal.atom) {
-            Some(entry) => Some(entry.literal.sign == literal.sign),
+        match self.assigned(literal.atom()) {
+            Some(entry) => Some(entry.literal.sign() == literal.sign()),
             None => None,
         }
     }
@@ -115,7 +115,7 @@ impl Trail {
         ensures put { self.new ≡ with_entry self.old entry }
         ensures order { IsTrail self.new }
     {
-        self.by_atom[entry.literal.atom] = Some(entry);
+        self.by_atom[entry.literal.atom()] = Some(entry);
         self.entries.push(entry).unwrap();
     }
 
@@ -175,7 +175,7 @@ impl Trail {
             return None;
         }
         self.entries.pop();
-        self.by_atom[last.literal.atom] = None;
+        self.by_atom[last.literal.atom()] = None;
         Some(last.literal)
     }
 
@@ -192,7 +192,7 @@ fn sign_of(entry: &Option<Assigned>) -> Option<bool>
     ensures sign { result ≡ option_map (λ e. e.literal.sign) entry.now }
 {
     match entry {
-        Some(assigned) => Some(assigned.literal.sign),
+        Some(assigned) => Some(assigned.literal.sign()),
         None => None,
     }
 }

@@ -10,7 +10,7 @@ use Rattle.nz_sat.specs.declared.clauses.Held.{Held}
 use Rattle.nz_sat.specs.declared.propagation.Propagation.{Propagation}
 use Rattle.nz_sat.specs.declared.search.Search.{Search}
 use Rattle.nz_sat.specs.Conflicts.{AreUnmarked}
-use Rattle.nz_sat.specs.Lists.{code_of}
+use Rattle.nz_log.specs.Codes.{code_of}
 use Rattle.nz_sat.specs.Sats.{AreHeld, AreOn, HoldsMore, held_of}
 use Rattle.nz_sat.specs.Searching.{Advances, Learns}
 use Rattle.nz_sat.specs.Theories.{state_of, told_lits}

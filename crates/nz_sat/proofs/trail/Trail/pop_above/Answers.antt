@@ -28,7 +28,8 @@ invariant_of-self c =
     let e = c.in_ok-last.field-0.now in
     let t = e.literal.atom in
     let old = c.self.invariant in
-    let new = slice_set by_atom t None in
+    let n = c.atom.result in
+    let at : n ≡ t = c.atom.ensures.atom in
     let items : c.self.inside.entries.items ≡ es ++ e ∷ [] = search rules in
     let order : EachBehind (IsNext (length by_atom)) (es ++ e ∷ []) = subst (λ (xs : List Assigned). EachBehind (IsNext (length by_atom)) xs) items old.order in
     let last : IsNext (length by_atom) es e = each_last (IsNext (length by_atom)) es e order in
@@ -36,13 +37,13 @@ invariant_of-self c =
     let fresh : assigned es t ≡ None = last.fresh in
     let table : (u : ℕ) → slice_index_or by_atom u None ≡ assigned (es ++ e ∷ []) u =
     subst (λ (xs : List Assigned). (u : ℕ) → slice_index_or by_atom u None ≡ assigned xs u) items old.table in
-    let long = length-set by_atom t None in
-    let none : vacancy (get_or by_atom t None) ≡ 0 = ap vacancy (table t ∙ assigned_missing es (e ∷ []) t fresh ∙ assigned_one e t refl) in
-    let more = sum_by-set vacancy by_atom t None None within in
+    let long = length-set by_atom n None in
+    let none : vacancy (get_or by_atom n None) ≡ 0 = ap vacancy (table n ∙ ap (assigned (es ++ e ∷ [])) at ∙ assigned_missing es (e ∷ []) t fresh ∙ assigned_one e t refl) in
+    let more = sum_by-set vacancy by_atom n None None (subst (λ (a : ℕ). a < length by_atom) (sym at) within) in
     let count : length c.self.inside.entries.items ≡ length es + 1 = ap length items ∙ length_push es e in
     record {
       order = subst (λ (n : ℕ). EachBehind (IsNext n) es) (sym long) (each_front (IsNext (length by_atom)) es (e ∷ []) order);
-      table = table_pop es e by_atom within fresh table;
+      table = subst (λ (a : ℕ). (u : ℕ) → slice_index_or (slice_set by_atom a None) u None ≡ assigned es u) (sym at) (table_pop es e by_atom within fresh table);
       vacant = omega (arith, old.vacant);
       room = omega (arith, old.room, c.pop.ensures.capacity);
     }

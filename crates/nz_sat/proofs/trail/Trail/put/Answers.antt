@@ -14,22 +14,24 @@ invariant_of-self c =
     let by_atom = c.self.inside.by_atom.items in
     let e = c.args.entry in
     let t = e.literal.atom in
+    let n = c.atom.result in
+    let at : n ≡ t = c.atom.ensures.atom in
     let old = c.self.invariant in
-    let new = slice_set by_atom t (Some e) in
+    let new = slice_set by_atom n (Some e) in
     let items : c.push.new.self.items ≡ es ++ e ∷ [] = search rules in
     let within : t < length by_atom = subst (λ (s : TrailState). t < s.size) (sym c.self.view_is) c.requires.within in
     let fresh : assigned es t ≡ None = ap (λ (s : TrailState). assigned s.entries t) c.self.view_is ∙ c.requires.free in
     let level : e.level ≡ depth (es ++ e ∷ []) = c.requires.level ∙ ap (λ (s : TrailState). depth (s.entries ++ e ∷ [])) (sym c.self.view_is) in
-    let long = length-set by_atom t (Some e) in
-    let one : vacancy (get_or by_atom t None) ≡ 1 = ap vacancy (old.table t ∙ fresh) in
-    let less = sum_by-set vacancy by_atom t (Some e) None within in
+    let long = length-set by_atom n (Some e) in
+    let one : vacancy (get_or by_atom n None) ≡ 1 = ap vacancy (old.table n ∙ ap (assigned es) at ∙ fresh) in
+    let less = sum_by-set vacancy by_atom n (Some e) None (subst (λ (a : ℕ). a < length by_atom) (sym at) within) in
     let count : length c.push.new.self.items ≡ length es + 1 = ap length items ∙ length_push es e in
     record {
       order = subst (λ (xs : List Assigned). EachBehind (IsNext (length new)) xs) (sym items)
           (subst (λ (n : ℕ). EachBehind (IsNext n) (es ++ e ∷ [])) (sym long)
           (order_put (length by_atom) es e old.order fresh within level));
       table = subst (λ (xs : List Assigned). (u : ℕ) → slice_index_or new u None ≡ assigned xs u) (sym items)
-          (table_put es e by_atom within fresh old.table);
+          (subst (λ (a : ℕ). (u : ℕ) → slice_index_or (slice_set by_atom a (Some e)) u None ≡ assigned (es ++ e ∷ []) u) (sym at) (table_put es e by_atom within fresh old.table));
       vacant = omega (arith, old.vacant);
       room = omega (arith, old.room, c.push.ensures.capacity);
     }
@@ -40,11 +42,12 @@ returns-clause-order c =
     let by_atom = c.self.inside.by_atom.items in
     let e = c.args.entry in
     let t = e.literal.atom in
-    let new = slice_set by_atom t (Some e) in
+    let n = c.atom.result in
+    let new = slice_set by_atom n (Some e) in
     let items : c.push.new.self.items ≡ es ++ e ∷ [] = search rules in
     let within : t < length by_atom = subst (λ (s : TrailState). t < s.size) (sym c.self.view_is) c.requires.within in
     let fresh : assigned es t ≡ None = ap (λ (s : TrailState). assigned s.entries t) c.self.view_is ∙ c.requires.free in
     let level : e.level ≡ depth (es ++ e ∷ []) = c.requires.level ∙ ap (λ (s : TrailState). depth (s.entries ++ e ∷ [])) (sym c.self.view_is) in
     subst (λ (xs : List Assigned). EachBehind (IsNext (length new)) xs) (sym items)
-    (subst (λ (n : ℕ). EachBehind (IsNext n) (es ++ e ∷ [])) (sym (length-set by_atom t (Some e)))
+    (subst (λ (n : ℕ). EachBehind (IsNext n) (es ++ e ∷ [])) (sym (length-set by_atom n (Some e)))
     (order_put (length by_atom) es e c.self.invariant.order fresh within level))
