@@ -43,7 +43,7 @@ fn list_clause(
 {
     let literals = log.clause(clause);
     for literal in literals {
-        list_atom(bounds, log, literal.atom, level)?;
+        list_atom(bounds, log, literal.atom(), level)?;
     }
     Ok(())
 }

@@ -1,7 +1,7 @@
 //! Bounds told by tables, and whether atoms are those.
 use nz_frac::Frac;
 use nz_lin::{Bound, Part};
-use nz_log::{AtomId, Lit, Literal, Log};
+use nz_log::{Atom, AtomId, Log};
 use nz_term::TermId;
 
 /// That a sum is at most a limit: the coefficients of its units, and the limit.
@@ -29,9 +29,12 @@ fn is_row(bound: &Bound, row: &Row) -> bool {
 
 /// Whether an atom is the row's bound.
 fn is_on(log: &Log, atom: AtomId, row: &Row) -> bool {
-    match log.literal(Lit { atom, sign: true }) {
-        Literal::AtMost(bound, _) => is_row(bound, row),
-        Literal::Term(_) => false,
+    if log.atom_count() <= atom {
+        return false;
+    }
+    match log.atom(atom) {
+        Atom::AtMost(bound) => is_row(bound, row),
+        Atom::Term(_) => false,
     }
 }
 

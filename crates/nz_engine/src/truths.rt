@@ -69,12 +69,12 @@ fn forced(truths: &[Option<bool>], clause: &[Lit]) -> Option<Lit> {
 
 /// Whether a literal is known to be false.
 fn is_false(truths: &[Option<bool>], literal: Lit) -> bool {
-    truths.get(literal.atom).copied() == Some(Some(!literal.sign))
+    truths.get(literal.atom()).copied() == Some(Some(!literal.sign()))
 }
 
 /// Puts that a literal is true, unless the truth of its atom is known.
 fn put(truths: &mut [Option<bool>], literal: Lit) {
-    if let Some(truth) = truths.get_mut(literal.atom) {
-        *truth = truth.or(Some(literal.sign));
+    if let Some(truth) = truths.get_mut(literal.atom()) {
+        *truth = truth.or(Some(literal.sign()));
     }
 }

@@ -1,9 +1,9 @@
 -- Atoms by number, as one is looked up or put last.
-use Rattle.std.proofs.Common.{◌≡◌, ℕ, zero, suc, ◌||◌, Bool, true, false, List, [], ◌∷◌, ◌++◌, get_or, Option, Some, None, refl, sym, ap, subst, ◌∙◌, true≢false, eqb-true, eq-eqb, if◌then◌else◌}
-use Rattle.std.specs.Prelude.{slice_get, is_some, position}
+use Rattle.std.proofs.Common.{◌≡◌, ℕ, zero, suc, ◌^◌, ◌<◌, ◌≤◌, arith, ◌||◌, Bool, true, false, List, [], ◌∷◌, ◌++◌, length, length-append, get_or, Option, Some, None, refl, sym, ap, subst, ◌∙◌, true≢false, eqb-true, eq-eqb, if◌then◌else◌}
+use Rattle.std.specs.Prelude.{slice_get, is_some, position, IfSome}
 use Rattle.std.specs.List.{AllByRecursion, IsDistinct, list_any}
 use Rattle.std.proofs.lemmas.List.Quantifiers.{position-Some}
-use Rattle.std.proofs.lemmas.Option.{slice_get-get_or}
+use Rattle.std.proofs.lemmas.Option.{slice_get-get_or, slice_get_within}
 use Rattle.indexmap.specs.IndexSet.{insert_key}
 use Rattle.nz_lists.proofs.Elements.{AllByRecursion-append}
 use Rattle.nz_lists.proofs.Places.{slice_get_kept}
@@ -44,18 +44,32 @@ normal_last : (b : Bool) (old : List Atom) (a : Atom) → IsNormal a → AllByRe
 normal_last true old a n h = h
 normal_last false old a n h = AllByRecursion-append IsNormal old (a ∷ []) h (n, tt)
 
+few_last : (b : Bool) (old : List Atom) (a : Atom) → length old < 2 ^ 31 → length (if b then old else old ++ a ∷ []) ≤ 2 ^ 31
+few_last true old a few = omega (arith, few)
+few_last false old a few = omega (arith, few, length-append old (a ∷ []))
+
 pub put_stays : (old new : List Atom) (a : Atom) → new ≡ insert_key are_same_atom old a → Stay old new
 put_stays old new a e = subst (Stay old) (sym e) (with_last (list_any (are_same_atom a) old) old a)
 
-pub put_atoms : (old new : List Atom) (a : Atom) → new ≡ insert_key are_same_atom old a → IsDistinct are_same_atom new → IsNormal a → AreAtoms old → AreAtoms new
-put_atoms old new a e distinct n h =
+pub put_atoms : (old new : List Atom) (a : Atom) → new ≡ insert_key are_same_atom old a → IsDistinct are_same_atom new → IsNormal a → length old < 2 ^ 31 → AreAtoms old
+    → AreAtoms new
+put_atoms old new a e distinct n few h =
     record {
       once = once new distinct;
       normal = subst (AllByRecursion IsNormal) (sym e) (normal_last (list_any (are_same_atom a) old) old a n h.normal);
+      few = subst (λ (list : List Atom). length list ≤ 2 ^ 31) (sym e) (few_last (list_any (are_same_atom a) old) old a few);
     }
 
 pub put_there : (new : List Atom) (a : Atom) (id : ℕ) → (k : Atom) × (slice_get new id ≡ Some k) × (are_same_atom a k ≡ true) → slice_get new id ≡ Some a
 put_there new a id found = found.1 ∙ ap Some (sym (same_atom a found.0 found.2))
+
+-- the number of an atom is small
+pub small_number : (atoms : List Atom) (id : ℕ) (a : Atom) → AreAtoms atoms → slice_get atoms id ≡ Some a → id < 2 ^ 31
+small_number atoms id a are at = let within : id < length atoms = slice_get_within atoms id a at in omega (arith, within, are.few)
+
+pub small_found : (atoms : List Atom) (t : ℕ) (o : Option ℕ) → AreAtoms atoms → IsFoundTerm atoms t o → IfSome o (λ (i : ℕ). i < 2 ^ 31)
+small_found atoms t None are found = tt
+small_found atoms t (Some i) are found = small_number atoms i (Term t) are found.1
 
 -- ---- Terms
 

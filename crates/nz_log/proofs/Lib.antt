@@ -17,6 +17,7 @@ pub mod LastMarked
 pub mod Leveled
 pub mod LinkPreservation
 pub mod LiteralAgreement
+pub mod LiteralCodes
 pub mod LiteralPreservation
 pub mod LiteralSets
 pub mod LogPreservation

@@ -1,5 +1,5 @@
 -- How a log stays in order when the table grows, or the atoms, or the assertions.
-use Rattle.std.proofs.Common.{◌≡◌, ℕ, zero, suc, List, [], ◌∷◌, ◌++◌, take, Some, sym, ap, subst, ◌∙◌}
+use Rattle.std.proofs.Common.{◌≡◌, ℕ, zero, suc, List, [], ◌∷◌, ◌++◌, take, Some, sym, ap, subst, ◌∙◌, arith}
 use Rattle.std.specs.Prelude.{slice_get, option_map}
 use Rattle.std.specs.List.{AllByRecursion}
 use Rattle.std.proofs.lemmas.List.{append-nil}
@@ -93,7 +93,7 @@ number_more (l ∷ m ∷ ls) u (suc n) k t e =
 pub logs_stay : TermStays → LogsStay
 logs_stay stays =
     record {
-      start = λ ns levels. record { atoms = record { once = λ i j a at beside. cc; normal = tt }; clauses = λ i e at. cc };
+      start = λ ns levels. record { atoms = record { once = λ i j a at beside. cc; normal = tt; few = omega arith }; clauses = λ i e at. cc };
       table = λ ns more levels s order. log_wider stays ns more levels s order;
       joined = λ ns levels old new joins atoms order. joined_in_order old new joins.entries joins.atoms atoms ns levels order;
       asserted = log_more;

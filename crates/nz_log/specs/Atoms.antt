@@ -1,5 +1,5 @@
 -- Atoms by number, and what literals on them say over a table of terms.
-use Rattle.std.specs.Prelude.{◌≡◌, ◌⊎◌, ℕ, suc, ◌<◌, ◌==◌, Bool, true, false, List, [], ◌∷◌, length, map, Option, Some, None, slice_get, if◌then◌else◌, Contains, ⊤}
+use Rattle.std.specs.Prelude.{◌≡◌, ◌⊎◌, ℕ, suc, ◌^◌, ◌<◌, ◌≤◌, ◌==◌, Bool, true, false, List, [], ◌∷◌, length, map, Option, Some, None, slice_get, if◌then◌else◌, Contains, ⊤}
 use Rattle.std.specs.List.{AllByRecursion}
 use Rattle.nz_spec.specs.terms.Table.{Node, IsTable, term_in}
 use Rattle.nz_spec.specs.clauses.Literal.{Literal, term_literal, negation_of, Clause, are_same_literal, StandOnce}
@@ -18,10 +18,11 @@ abbrev pub IsNormal : Atom → Type 0
 IsNormal (Term t) = ⊤
 IsNormal (AtMost b) = b.strict ≡ false
 
--- Each atom has one number.
+-- Each atom has one number, and a literal on it one of 32 bits.
 pub record AreAtoms (atoms : List Atom) : Type 0 where
   pub once : StandOnce atoms
   pub normal : AllByRecursion IsNormal atoms
+  pub few : length atoms ≤ 2 ^ 31
 
 -- each atom keeps its number
 abbrev pub Stay : (old new : List Atom) → Type 0

@@ -1,5 +1,6 @@
 pub mod Atoms
 pub mod Axioms
+pub mod Codes
 pub mod Growth
 pub mod Keys
 pub mod Leveled

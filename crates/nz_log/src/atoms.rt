@@ -1,5 +1,5 @@
 //! The table of atoms: what literals say is so, or isn't, each once.
-ghost use Rattle.std.specs.Prelude.{◌≡◌, ◌<◌, [], flat_map, fold, length, option_copied, slice_get, Some, IfOk, OnErr};
+ghost use Rattle.std.specs.Prelude.{◌≡◌, ◌^◌, ◌<◌, ◌≤◌, [], flat_map, fold, length, option_copied, slice_get, Some, IfOk, IfSome, OnErr};
 ghost use Rattle.std.specs.Cmp.{decided, partial_equiv_from_equiv};
 ghost use Rattle.std.specs.Hash.{same_Alike};
 ghost use Rattle.nz_spec.specs.clauses.Literal.{are_same_sign};
@@ -11,7 +11,7 @@ ghost use Rattle.nz_log.specs.Atoms.{AreAtoms, IsFoundTerm, IsNormal, JoinOnly, 
 ghost use Rattle.nz_log.specs.Keys.{are_same_atom, are_same_bound, are_same_part, are_same_units, fed_atom, fed_bound, fed_part};
 ghost use Rattle.nz_log.specs.Same.{atom_decides};
 
-use crate::lits::AtomId;
+use crate::lits::{AtomId, MOST_ATOMS};
 use indexmap::IndexSet;
 use nz_base::Memory;
 use nz_frac::Frac;
@@ -183,15 +183,19 @@ impl Atoms {
         }
     }
 
-    /// The number of an atom, which is put last where it isn't there.
+    /// The number of an atom, which is put last where it isn't there. A table that is full takes none.
     pub(crate) fn put(&mut self, atom: Atom) -> Result<AtomId, Memory>
         requires normal { IsNormal atom }
         ensures there { IfOk result (λ id. slice_get self.new id ≡ Some atom) }
+        ensures small { IfOk result (λ id. id < 2 ^ 31) }
         ensures stay { Stay self.old self.new }
         ensures only { IfOk result (λ id. JoinOnly self.old self.new (λ i. i ≡ id)) }
         ensures atoms { AreAtoms self.new }
         ensures unchanged { OnErr result (self.new ≡ self.old) }
     {
+        if self.atoms.len() >= MOST_ATOMS {
+            return Err(Memory);
+        }
         let (id, _) = self.atoms.insert_full(atom)?;
         Ok(id)
     }
@@ -199,6 +203,7 @@ impl Atoms {
     /// The number of the atom that a term is true, where it is there.
     pub(crate) fn find_term(&self, term: TermId) -> Option<AtomId>
         ensures found { IsFoundTerm self.now term result }
+        ensures small { IfSome result (λ id. id < 2 ^ 31) }
     {
         self.atoms.get_index_of(&Atom::Term(term))
     }
@@ -206,6 +211,7 @@ impl Atoms {
     /// How many atoms there are. Their numbers are those below it.
     pub(crate) fn len(&self) -> usize
         ensures len { result ≡ length self.now }
+        ensures small { result ≤ 2 ^ 31 }
         ensures atoms { AreAtoms self.now }
     {
         self.atoms.len()

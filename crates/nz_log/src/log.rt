@@ -1,5 +1,5 @@
 //! The log of clauses.
-ghost use Rattle.std.specs.Prelude.{◌≡◌, ℕ, ◌<◌, List, length, false, option_copied, Some, OnOk, OnErr, IfOk, IsOkAnd, slice_get};
+ghost use Rattle.std.specs.Prelude.{◌≡◌, ℕ, ◌^◌, ◌<◌, ◌≤◌, List, length, false, option_copied, Some, OnOk, OnErr, IfOk, IfSome, IsOkAnd, slice_get};
 ghost use Rattle.nz_spec.specs.terms.Table.{Node};
 ghost use Rattle.nz_lin.specs.Bounds.{HasUnits, literal_over};
 ghost use Rattle.nz_log.specs.declared.atoms.Atom.TheVariants.{AtMost};
@@ -76,6 +76,7 @@ impl Log {
     /// `Memory`. Then the log is as before.
     pub fn term_atom(&mut self, term: TermId) -> Result<AtomId, Memory>
         ensures number { IfOk result (λ id. id ≡ term_place self.new.atoms term) }
+        ensures small { IfOk result (λ id. id < 2 ^ 31) }
         ensures there { OnOk result (HasTerm self.new.atoms term) }
         ensures joins { JoinsAtoms self.old self.new }
         ensures only { IfOk result (λ id. JoinOnly self.old.atoms self.new.atoms (λ i. i ≡ id)) }
@@ -103,16 +104,17 @@ impl Log {
         if bound.is_strict() {
             let other = bound.not(self.alloc())?;
             let atom = self.bound_atom(other)?;
-            Ok(Lit { atom, sign: false })
+            Ok(Lit::new(atom, false))
         } else {
             let atom = self.bound_atom(bound)?;
-            Ok(Lit { atom, sign: true })
+            Ok(Lit::new(atom, true))
         }
     }
 
     /// The number of the atom that a sum is at most a limit, which joins the others where it isn't there.
     fn bound_atom(&mut self, bound: Bound) -> Result<AtomId, Memory>
         requires normal { bound.strict ≡ false }
+        ensures small { IfOk result (λ id. id < 2 ^ 31) }
         ensures there { IfOk result (λ id. slice_get self.new.atoms id ≡ Some (AtMost bound)) }
         ensures joins { JoinsAtoms self.old self.new }
         ensures only { IfOk result (λ id. JoinOnly self.old.atoms self.new.atoms (λ i. i ≡ id)) }
@@ -125,6 +127,7 @@ impl Log {
     /// The number of the atom that a Boolean term is true, where it is there.
     pub fn find_term(&self, term: TermId) -> Option<AtomId>
         ensures found { IsFoundTerm self.now.atoms term result }
+        ensures small { IfSome result (λ id. id < 2 ^ 31) }
     {
         self.atoms.find_term(term)
     }
@@ -140,6 +143,7 @@ impl Log {
     /// How many atoms there are. Their numbers are those below it.
     pub fn atom_count(&self) -> usize
         ensures count { result ≡ length self.now.atoms }
+        ensures small { result ≤ 2 ^ 31 }
         ensures atoms { AreAtoms self.now.atoms }
     {
         self.atoms.len()
@@ -149,7 +153,7 @@ impl Log {
     pub(crate) fn atom_of(&self, literal: Lit) -> Option<&Atom>
         ensures atom { option_copied result ≡ slice_get self.now.atoms literal.atom }
     {
-        self.atoms.get(literal.atom)
+        self.atoms.get(literal.atom())
     }
 
     /// What a literal says. A number past the end stands for the first term.
@@ -157,10 +161,10 @@ impl Log {
         ensures reads { (ns : List Node) → literal_read ns result ≡ literal_in ns self.now.atoms literal }
     {
         match self.atom_of(literal) {
-            Some(atom) => Literal::of(atom, literal.sign),
+            Some(atom) => Literal::of(atom, literal.sign()),
             None => Literal::Term(TermLit {
                 term: 0,
-                sign: literal.sign,
+                sign: literal.sign(),
             }),
         }
     }

@@ -32,10 +32,10 @@ impl Marks {
     pub fn has(&self, literal: Lit) -> bool
         ensures has { result ≡ has_mark self.now literal }
     {
-        if literal.sign {
-            has_at(&self.holds, literal.atom)
+        if literal.sign() {
+            has_at(&self.holds, literal.atom())
         } else {
-            has_at(&self.fails, literal.atom)
+            has_at(&self.fails, literal.atom())
         }
     }
 
@@ -44,10 +44,10 @@ impl Marks {
         ensures marked { OnOk result ((l : Lit) → has_mark self.new l ≡ (are_same_lit l literal || has_mark self.old l)) }
         ensures unchanged { OnErr result ((l : Lit) → has_mark self.new l ≡ has_mark self.old l) }
     {
-        if literal.sign {
-            mark_at(&mut self.holds, literal.atom)
+        if literal.sign() {
+            mark_at(&mut self.holds, literal.atom())
         } else {
-            mark_at(&mut self.fails, literal.atom)
+            mark_at(&mut self.fails, literal.atom())
         }
     }
 
@@ -55,10 +55,10 @@ impl Marks {
     pub fn unmark(&mut self, literal: Lit)
         ensures unmarked { (l : Lit) → has_mark self.new l ≡ (not (are_same_lit l literal) && has_mark self.old l) }
     {
-        if literal.sign {
-            unmark_at(&mut self.holds, literal.atom);
+        if literal.sign() {
+            unmark_at(&mut self.holds, literal.atom());
         } else {
-            unmark_at(&mut self.fails, literal.atom);
+            unmark_at(&mut self.fails, literal.atom());
         }
     }
 }

@@ -79,7 +79,7 @@ impl Log {
         let factor = multiple.multiplier;
         match self.atom_of(multiple.literal) {
             Some(Atom::AtMost(bound)) => {
-                if multiple.literal.sign {
+                if multiple.literal.sign() {
                     sum.join_multiple(alloc, factor, bound)
                 } else {
                     sum.join_multiple(alloc, factor, &bound.not(alloc)?)

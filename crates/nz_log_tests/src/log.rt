@@ -77,10 +77,7 @@ fn tell(alloc: Global, log: &Log, id: ClauseId) -> Result<LoggedClause, Memory>
 /// The literal on a term whose atom is there.
 fn literal(log: &Log, literal: TermLit) -> Result<Lit, Memory> {
     match log.find_term(literal.term) {
-        Some(atom) => Ok(Lit {
-            atom,
-            sign: literal.sign,
-        }),
+        Some(atom) => Ok(Lit::new(atom, literal.sign)),
         None => Err(Memory),
     }
 }

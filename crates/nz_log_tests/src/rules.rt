@@ -187,13 +187,14 @@ fn add_multiple(
     ensures added { OnOk result (IsAdded log.now.atoms multiple sum.old sum.new) }
 {
     let literal = multiple.literal;
-    if log.atom_count() <= literal.atom {
+    let atom = literal.atom();
+    if log.atom_count() <= atom {
         return Err(ArithmeticStop::Memory);
     }
-    match log.atom(literal.atom) {
+    match log.atom(atom) {
         Atom::Term(_) => Err(ArithmeticStop::Memory),
         Atom::AtMost(bound) => {
-            if literal.sign {
+            if literal.sign() {
                 sum.join_multiple(alloc, multiple.multiplier, bound)
             } else {
                 sum.join_multiple(alloc, multiple.multiplier, &bound.not(alloc)?)

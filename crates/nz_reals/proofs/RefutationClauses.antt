@@ -41,7 +41,6 @@ use Rattle.nz_log.specs.Leveled.{AreTold, Names}
 use Rattle.nz_log.specs.Lits.{are_same_lit, negated_lit}
 use Rattle.nz_log.specs.Logs.{Entry, LogState, Puts, axiom_entry, entry_at, literals_at, told_of}
 use Rattle.nz_search.specs.Theories.{IsClash}
-use Rattle.nz_log.specs.Growth.{Grows}
 use Rattle.nz_reals.specs.Known.{Known}
 use Rattle.nz_reals.specs.Stands.{IsKnown, IsOf, IsOver}
 use Rattle.nz_reals.specs.State.{Theory, known_at}

@@ -1,5 +1,5 @@
 //! Clauses by which neighbouring bounds of one form know each other: one that is true makes the weaker ones true, and those against it false.
-ghost use Rattle.std.specs.Prelude.{◌≡◌, ◌<◌, ◌++◌, ℕ, List, [], ◌∷◌, All, Contains, IfOk, IfSome, IsSome, None, OnOk, Some, length, option_map, slice_get, true, false};
+ghost use Rattle.std.specs.Prelude.{◌≡◌, ◌^◌, ◌<◌, ◌++◌, ℕ, List, [], ◌∷◌, All, Contains, IfOk, IfSome, IsSome, None, OnOk, Some, length, option_map, slice_get, true, false};
 ghost use Rattle.nz_log.specs.declared.atoms.Atom.{Atom};
 ghost use Rattle.nz_log.specs.declared.lits.Lit.{Lit};
 ghost use Rattle.nz_log.specs.Logs.{IsLive, LogState};
@@ -15,6 +15,7 @@ use crate::reals::{Reals, stored};
 use crate::refute::{both_once, refute};
 use nz_base::Memory;
 use nz_delta::Delta;
+use nz_log::laws::tells_lits;
 use nz_log::{AtomId, ClauseId, Lit, Log};
 use nz_search::Stop;
 use nz_simplex::laws::{clashes_contradict, literals_say_bounds, sums_stay};
@@ -51,6 +52,7 @@ impl Reals {
         ensures neighbours { IfOk result (λ cs. HasNeighbours self.now log.new atoms.now (held.now ++ cs.items)) }
         ensures fresh { IfOk result (λ cs. All (IsFresh log.old log.new held.now) cs.items) }
     {
+        log.atom_count();
         let lowers = self.lowers(atoms)?;
         let joined = joined(self.alloc, log, held, &lowers)?;
         let mut clauses = Vec::new(self.alloc);
@@ -66,6 +68,7 @@ impl Reals {
     /// The lower bounds that these atoms say, those of a form beside each other, the weakest first.
     fn lowers(&self, atoms: &[AtomId]) -> Result<Vec<Lower>, Memory>
         requires of { (list : List Atom) × (ids : List ℕ) × IsOf self.now list ids }
+        requires small { (i : ℕ) → IsSome (known_at self.now i) → i < 2 ^ 31 }
         ensures known { IfOk result (λ ls. All (λ l. IsKnownOn self.now atoms.now l.literal) ls.items) }
         ensures lowers { IfOk result (λ ls. AreLowers self.now atoms.now (lits_of ls.items)) }
     {
@@ -81,6 +84,7 @@ impl Reals {
 
     /// The lower bound that an atom says, or its negation.
     fn lower(&self, atom: AtomId) -> Option<Lower>
+        requires small { IsSome (known_at self.now atom) → atom < 2 ^ 31 }
         ensures atom { IfSome result (λ l. l.literal.atom ≡ atom) }
         ensures known { IfSome result (λ l. IsSome (known_at self.now atom)) }
         ensures lower { IfSome result (IsSaidLower self.now) }
@@ -89,7 +93,7 @@ impl Reals {
         let bounded = self.known_if(atom)?;
         let sign = bounded.lower_sign()?;
         Some(Lower {
-            literal: Lit { atom, sign },
+            literal: Lit::new(atom, sign),
             var: bounded.var,
             value: bounded.said(sign).value,
         })
@@ -159,9 +163,9 @@ impl Reals {
         ensures apart { result ≡ true → AreOpposed self.now literal other }
         ensures together { result ≡ false → AreOpposed self.now literal other → ⊥ }
     {
-        let low = self.known(literal.atom);
-        let high = self.known(other.atom);
-        low.var == high.var && low.said(literal.sign).is_above(&high.said(other.sign))
+        let low = self.known(literal.atom());
+        let high = self.known(other.atom());
+        low.var == high.var && low.said(literal.sign()).is_above(&high.said(other.sign()))
     }
 }
 
@@ -193,7 +197,7 @@ fn places_of(alloc: Global, log: &Log, lowers: &[Lower]) -> Result<Vec<usize>, M
         places.resize(log.atom_count(), 0)?;
     }
     for (place, lower) in lowers.iter().enumerate() {
-        if let Some(at) = places.get_mut(lower.literal.atom) {
+        if let Some(at) = places.get_mut(lower.literal.atom()) {
             *at = place;
         }
     }
@@ -239,7 +243,7 @@ fn mark_by(lowers: &[Lower], places: &[usize], negated: Lit, clause: &[Lit], mar
     ensures marks { Marks lowers.now clause.now marks.old.items marks.new.items }
     ensures noted { (i : ℕ) → 0 < i → slice_get places.now negated.atom ≡ Some i → Joins lowers.now i clause.now → slice_get marks.new.items i ≡ Some true }
 {
-    let Some(place) = places.get(negated.atom) else {
+    let Some(place) = places.get(negated.atom()) else {
         return;
     };
     if !joins(lowers, *place, clause) {
@@ -290,7 +294,7 @@ fn is_noted(lowers: &[Lower], places: &[usize], place: usize) -> bool
     let Some(lower) = lowers.get(place) else {
         return false;
     };
-    match places.get(lower.literal.atom) {
+    match places.get(lower.literal.atom()) {
         Some(at) => *at == place,
         None => false,
     }
@@ -328,6 +332,7 @@ fn is_pair(lowers: &[Lower], place: usize, negated: Lit, weaker: Lit) -> bool
     ensures yes { result ≡ true → IsPair lowers.now place negated weaker }
     ensures no { result ≡ false → 0 < place → IsPair lowers.now place negated weaker → ⊥ }
 {
+    tells_lits();
     let Some(last) = place.checked_sub(1) else {
         return false;
     };
@@ -337,5 +342,5 @@ fn is_pair(lowers: &[Lower], place: usize, negated: Lit, weaker: Lit) -> bool
     let Some(before) = lowers.get(last) else {
         return false;
     };
-    negated == stronger.literal.not() && weaker == before.literal && weaker != negated
+    negated.is(stronger.literal.not()) && weaker.is(before.literal) && !weaker.is(negated)
 }

@@ -108,8 +108,8 @@ impl Reals {
         term_has_its_number();
         tells_literals();
         stored(self);
-        let bounded = self.known(literal.atom);
-        self.assert_said(literal, &bounded, &bounded.said(literal.sign))
+        let bounded = self.known(literal.atom());
+        self.assert_said(literal, &bounded, &bounded.said(literal.sign()))
     }
 
     /// Tells the simplex what is known of the atom of a literal.

@@ -114,10 +114,10 @@ fn bound_of(alloc: Global, log: &Log, literal: Lit) -> Result<lin::Bound, Memory
     ensures literal { IfOk result (λ b. (ns : List Node) → literal_over ns b ≡ literal_in ns log.now.atoms literal) }
     ensures units { IfOk result (λ b. (ns : List Node) → IsLitIn ns log.now.atoms literal → HasUnits ns b) }
 {
-    let Atom::AtMost(bound) = log.atom(literal.atom) else {
+    let Atom::AtMost(bound) = log.atom(literal.atom()) else {
         unreachable!()
     };
-    if literal.sign {
+    if literal.sign() {
         return bound.copied(alloc);
     }
     bound.not(alloc)

@@ -117,10 +117,11 @@ fn arrange(alloc: Global, system: &mut System, numbers: &[Number]) -> Result<boo
 fn truths_of(alloc: Global, literals: &[Lit]) -> Result<Vec<Option<bool>>, Memory> {
     let mut truths = Vec::new(alloc);
     for literal in literals {
-        let count = literal.atom.saturating_add(1).max(truths.len());
+        let atom = literal.atom();
+        let count = atom.saturating_add(1).max(truths.len());
         truths.resize(count, None)?;
-        if let Some(truth) = truths.get_mut(literal.atom) {
-            *truth = Some(literal.sign);
+        if let Some(truth) = truths.get_mut(atom) {
+            *truth = Some(literal.sign());
         }
     }
     Ok(truths)

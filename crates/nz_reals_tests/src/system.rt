@@ -145,11 +145,11 @@ impl System {
     /// The literal of a number: that the bound of this place, counted from 1, holds; of a negative number, that it doesn't.
     pub fn literal(&self, number: i32) -> Option<Lit> {
         let place = (number.unsigned_abs() as usize).checked_sub(1)?;
-        let atom = self.atoms.get(place)?;
-        Some(Lit {
-            atom: *atom,
-            sign: number > 0,
-        })
+        let atom = *self.atoms.get(place)?;
+        if self.log.atom_count() <= atom {
+            return None;
+        }
+        Some(Lit::new(atom, number > 0))
     }
 
     /// What a literal says.
@@ -303,13 +303,14 @@ fn learn(
 {
     terms.len();
     let literal = log.bound_literal(bound)?;
-    if reals.mark() != 0 || !is_sum(log, literal.atom) {
+    let atom = literal.atom();
+    if reals.mark() != 0 || !is_sum(log, atom) {
         return Err(Stop::Memory);
     }
     atoms.reserve(1)?;
     let mut work = Work::new(alloc)?;
-    reals.add_atom(log, literal.atom, atoms.len(), &mut work)?;
-    atoms.push(literal.atom)?;
+    reals.add_atom(log, atom, atoms.len(), &mut work)?;
+    atoms.push(atom)?;
     Ok(())
 }
 
@@ -351,7 +352,8 @@ fn tell(
     ensures live { IfOk result (λ r. IfSome r (IsLive log.new)) }
 {
     terms.len();
-    if !atoms.contains(&literal.atom) || !is_sum(log, literal.atom) {
+    let atom = literal.atom();
+    if !atoms.contains(&atom) || !is_sum(log, atom) {
         return Err(Stop::Memory);
     }
     let clause = reals.assert_lit(log, literal)?;

@@ -1,5 +1,5 @@
 -- Trails over atoms of a log: what is so of them where they grow, where they are cut, and where the log grows.
-use Rattle.std.proofs.Common.{◌≡◌, ℕ, ◌+◌, ◌<◌, ◌≤◌, ◌⊎◌, Bool, true, false, List, [], ◌∷◌, ◌++◌, length, min, take, drop, map, not, get_or, Option, Some, None, inl, inr, refl, sym, ap, subst, ◌∙◌, arith, true≢false}
+use Rattle.std.proofs.Common.{◌≡◌, ℕ, ◌+◌, ◌^◌, ◌<◌, ◌≤◌, ◌⊎◌, Bool, true, false, List, [], ◌∷◌, ◌++◌, length, min, take, drop, map, not, get_or, Option, Some, None, inl, inr, refl, sym, ap, subst, ◌∙◌, arith, true≢false}
 use Rattle.std.specs.Prelude.{All, Contains, IsSome, nat_le, slice_get, slice_index_or}
 use Rattle.std.specs.List.{AllByRecursion}
 use Rattle.std.proofs.lemmas.Bool.Decides.{leb_tells}
@@ -7,12 +7,12 @@ use Rattle.std.proofs.Math.Nat.{min-eq_left, min-eq_right, min-le_left, min-le_r
 use Rattle.std.proofs.lemmas.List.{append-nil, drop-append-le, drop_all, length-append, length-take, length_push, take-append-drop}
 use Rattle.std.proofs.lemmas.List.Elements.{All-append, All-cons, All-contains, All-filter, All-nil, All-push, All-weaker}
 use Rattle.std.proofs.lemmas.List.Filters.{length-filter_both}
-use Rattle.std.proofs.lemmas.Option.{slice_get-get_or}
+use Rattle.std.proofs.lemmas.Option.{slice_get-get_or, slice_get_within}
 use Rattle.nz_lists.proofs.Members.{map_has}
 use Rattle.nz_log.specs.declared.atoms.Atom.{Atom}
 use Rattle.nz_log.specs.declared.atoms.Atom.TheVariants.{Term, AtMost}
 use Rattle.nz_log.specs.declared.lits.Lit.{Lit}
-use Rattle.nz_log.specs.Atoms.{terms_of}
+use Rattle.nz_log.specs.Atoms.{AreAtoms, terms_of}
 use Rattle.nz_log.specs.Leveled.{AreTold, AreToldAtoms, Names}
 use Rattle.nz_log.specs.Logs.{Entry, LogState, IsLive, literals_at, told_of}
 use Rattle.nz_search.specs.Theories.{IsBoundIn}
@@ -67,6 +67,12 @@ pub names_some : (log : LogState) (ids : List ℕ) → AreToldAtoms log ids → 
 names_some log ids there =
     all_from (λ (i : ℕ). IsSome (slice_get log.atoms i)) ids
     (λ i has. let n = names_at log ids there (on i) has in subst IsSome (sym n.at) refl)
+
+pub names_small : (log : LogState) (ids : List ℕ) → AreToldAtoms log ids → AreAtoms log.atoms → (i : ℕ) → Contains ids i → i < 2 ^ 31
+names_small log ids there are i has =
+    let n = names_at log ids there (on i) has in
+    let within : i < length log.atoms = slice_get_within log.atoms i n.atom n.at in
+    omega (arith, within, are.few)
 
 names_grown : (log log' : LogState) → Grows log log' → (l : Lit) → Names (HasToldLevel log) log.atoms l → Names (HasToldLevel log') log'.atoms l
 names_grown log log' g l n =

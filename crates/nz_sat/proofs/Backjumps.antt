@@ -1,11 +1,11 @@
--- What a search is after it learned a clause: back where that asserts its literal.
+-- What a search is after it learned a clause, and went back.
 use Rattle.std.proofs.Common.{◌≡◌, ◌*◌, if◌then◌else◌, ℕ, suc, ◌+◌, ◌<◌, ◌≤◌, Bool, true, false, List, [], ◌∷◌, ◌++◌, length, min, take, map, Option, Some, None, inl, inr, refl, sym, ap, subst, ◌∙◌, arith}
 use Rattle.std.specs.Prelude.{All, Contains, IfSome, IsSome, filter, nat_le, slice_get}
 use Rattle.std.specs.declared.alloc.Global.{Global}
 use Rattle.std.specs.declared.result.Result.TheVariants.{Ok}
 use Rattle.std.specs.declared.vec.Vec.{Vec}
 use Rattle.std.proofs.Math.Nat.{min-eq_right, min-le_left, min-le_right}
-use Rattle.std.proofs.lemmas.List.{append-nil, length-take, length_push, map-append, take-append-le, take-map, take_all}
+use Rattle.std.proofs.lemmas.List.{append-nil, length-append, length-take, map-append, take-append-le, take-map, take_all}
 use Rattle.std.proofs.lemmas.List.Elements.{All-contains, All-filter, All-push, All-weaker, Contains-append_left, Contains-push, filter-append}
 use Rattle.std.proofs.lemmas.List.Sums.{length-filter, sum_by_push}
 use Rattle.nz_lists.proofs.Members.{has_found}
@@ -32,23 +32,23 @@ use Rattle.nz_sat.specs.Clauses.{HasReasonOf, HasTrue, IsAssumed, IsImplied, IsR
 use Rattle.nz_sat.specs.Conflicts.{AreUnmarked, is_marked}
 use Rattle.nz_sat.specs.Numbers.{numbered}
 use Rattle.nz_sat.specs.Sats.{AreHeld, HoldsLearned, held_of, ids}
-use Rattle.nz_sat.specs.Lists.{code_of}
+use Rattle.nz_log.specs.Codes.{code_of}
 use Rattle.nz_sat.specs.Searching.{AreFirst, Carries, IsSearch, KeepsFirst, Learns, after_learned, learned_line}
 use Rattle.nz_sat.specs.Theories.{AreLast, EndsLegally, IsTrailOn, TellsTrail, TheoryState, bounds_on, is_bound_at, told_literal, told_lits, told_on}
-use Rattle.nz_sat.specs.Trails.{EachBehind, IsFrontOf, IsNext, IsTrail, IsTrueOn, TrailState, assigned, below, depth, implied, is_decision, literals_on}
+use Rattle.nz_sat.specs.Trails.{EachBehind, GoesOn, IsFrontOf, IsNext, IsTrail, IsTrueOn, TrailState, assigned, below, depth, implied, is_decision, literals_on}
 use Rattle.nz_sat.specs.Watched.{AreWatched, HasClause, watch_state}
 use Rattle.nz_sat.proofs.SearchSteps.{StaysAt, cut_stands, told_taken}
 use Rattle.nz_sat.proofs.Clausal.{free_missing, truth_found}
 use Rattle.nz_sat.proofs.TrailGrowth.{held_live, learned_grown}
 use Rattle.nz_sat.proofs.LearnedClauses.{all_from}
-use Rattle.nz_sat.proofs.LearnedWatches.{Holds, after_deep, after_true, after_watched, first_longer, front_deep, literal_free, may_hold, watched_pair, watched_within}
+use Rattle.nz_sat.proofs.LearnedWatches.{Holds, after_goes, after_true, after_watched, by_keep, first_longer, goes_back, literal_free, may_hold, watched_pair, watched_within}
 use Rattle.nz_sat.proofs.Levels.{below_decided, below_false, below_front, below_twice}
 use Rattle.nz_sat.proofs.SearchLines.{search_more}
 use Rattle.nz_sat.proofs.LearnedLines as learned_lines
 use Rattle.nz_sat.proofs.LearnedLines.{IsTaught, all, decisions_on, front_depth, learned_named, line_learned, line_legal, was_learned, was_told}
 use Rattle.nz_sat.proofs.LogGrowth.{literals_stay, names_stay}
 use Rattle.nz_sat.proofs.ToldTrails.{entries_there, entry_from, stands_so, told_among, told_stay}
-use Rattle.nz_sat.proofs.AtomTrails.{cut_short, cut_told, last_push, literals_kept, names_some, reason_kept, trail_cut, trail_grown}
+use Rattle.nz_sat.proofs.AtomTrails.{cut_short, cut_told, last_goes, literals_kept, names_some, reason_kept, trail_cut, trail_grown}
 use Rattle.nz_sat.proofs.TrailEntries.{each_front, each_push, each_weaker}
 use Rattle.nz_sat.proofs.WatchedTrails.{first_grown, grown_watched}
 
@@ -95,7 +95,7 @@ module _ (log log' : LogState) (held : List Held) (s : state.Search) (work : Wor
   es = s.trail.entries
 
   abbrev front : List Assigned
-  front = below l.level es
+  front = below l.keep es
 
   abbrev mine : Assigned
   mine = implied front l.literal l.clause
@@ -106,8 +106,11 @@ module _ (log log' : LogState) (held : List Held) (s : state.Search) (work : Wor
   abbrev held' : List Held
   held' = held ++ held_of log' l.clause ∷ []
 
+  back : l.keep < depth es
+  back = goes_back log' s.trail h.search.on.order l h.learned
+
   pub literal_missing : assigned front l.literal.atom ≡ None
-  literal_missing = free_missing front l.literal.atom (literal_free log' s.trail h.search.on.order l h.learned l.level h.learned.earlier)
+  literal_missing = free_missing front l.literal.atom (literal_free log' s.trail h.search.on.order l h.learned l.keep back)
 
   -- the literals are of atoms of the trail
   lits_within : (m : Lit) → Contains lits m → m.atom < s.trail.size
@@ -129,20 +132,33 @@ module _ (log log' : LogState) (held : List Held) (s : state.Search) (work : Wor
   each_held : (P : ℕ → Type 0) → ((i : ℕ) → Contains (ids held) i → P i) → P l.clause → All P (ids held')
   each_held P f last = subst (All P) (sym ids_more) (All-push P (ids held) l.clause (all_from P (ids held) f) last)
 
+  by_its_keep : (P : List Assigned → Type 0) → (l.keep ≡ l.level → P (front ++ mine ∷ [])) → P front → P (after_learned es l)
+  by_its_keep P asserts stays = by_keep log' s.trail h.search.on.order l h.learned P asserts (λ less. stays)
+
+  abbrev goes : GoesOn front (after_learned es l)
+  goes = after_goes log' s.trail h.search.on.order l h.learned
+
   -- what holds of each entry, and of the new one
   after_each : (P : Assigned → Type 0) → All P es → P mine → All P (after_learned es l)
-  after_each P each last = All-push P front mine (All-filter (λ (e : Assigned). nat_le e.level l.level) P es each) last
+  after_each P each last =
+      let old : All P front = All-filter (λ (e : Assigned). nat_le e.level l.keep) P es each in
+      by_its_keep (All P) (λ same. All-push P front mine old last) old
 
   after_implied : EachBehind (IsImplied log') (after_learned es l)
   after_implied =
-      let f = below_front s.trail.size es h.search.on.order l.level in
+      let f = below_front s.trail.size es h.search.on.order l.keep in
       let grown = each_weaker (IsImplied log) (IsImplied log') (λ before e r. reason_kept log log' h.grows before e.literal e.reason r) es h.search.on.implied in
-      each_push (IsImplied log') front mine (each_front (IsImplied log') front f.more (subst (EachBehind (IsImplied log')) f.joined grown))
+      let old : EachBehind (IsImplied log') front = each_front (IsImplied log') front f.more (subst (EachBehind (IsImplied log')) f.joined grown) in
+      by_its_keep (EachBehind (IsImplied log'))
+      (λ same.
+      each_push (IsImplied log') front mine old
       (record {
         live = h.learned.live;
         has = h.learned.has;
-        others = λ m has other. below_false s.trail.size es h.search.on.order l.level m (h.learned.falsified m has) (h.learned.others m has other);
-      })
+        others = λ m has other.
+            let low = h.learned.others m has other in below_false s.trail.size es h.search.on.order l.keep m (h.learned.falsified m has) (omega (arith, low, same));
+      }))
+      old
 
   after_reasons : All (HasReasonOf (ids held')) (after_learned es l)
   after_reasons =
@@ -162,11 +178,14 @@ module _ (log log' : LogState) (held : List Held) (s : state.Search) (work : Wor
   abbrev pub work' : WorkList Note
   work' = with_line work line
 
-  goes : (ns : List Node) → search_after ns work' ≡ after_line (at ns) (UnitLine (LearnedEntry l.level (map (numbered s.atoms) lits)))
-  goes ns = search_more ns work (line ∷ [])
+  line_goes : (ns : List Node) → search_after ns work' ≡ after_line (at ns) (UnitLine (LearnedEntry l.keep (map (numbered s.atoms) lits)))
+  line_goes ns = search_more ns work (line ∷ [])
 
-  after_decided : filter is_decision (after_learned es l) ≡ take l.level (filter is_decision es)
-  after_decided = filter-append is_decision front (mine ∷ []) ∙ append-nil (filter is_decision front) ∙ below_decided s.trail.size es h.search.on.order l.level
+  after_decided : filter is_decision (after_learned es l) ≡ take l.keep (filter is_decision es)
+  after_decided =
+      let old = below_decided s.trail.size es h.search.on.order l.keep in
+      by_its_keep (λ (xs : List Assigned). filter is_decision xs ≡ take l.keep (filter is_decision es))
+      (λ same. filter-append is_decision front (mine ∷ []) ∙ append-nil (filter is_decision front) ∙ old) old
 
   abbrev whole : List Assigned
   whole = all log log' held s work falsified l h
@@ -175,60 +194,58 @@ module _ (log log' : LogState) (held : List Held) (s : state.Search) (work : Wor
   is_front = learned_lines.front log log' held s work falsified l h
 
   -- the first decisions of what is noted are those of the trail
-  kept_decided : take l.level (filter is_decision whole) ≡ take l.level (filter is_decision es)
+  kept_decided : take l.keep (filter is_decision whole) ≡ take l.keep (filter is_decision es)
   kept_decided =
       let long = length-filter is_decision es in
-      let earlier = h.learned.earlier in
-      ap (take l.level) (decisions_on es whole is_front) ∙ take-append-le l.level (filter is_decision es) (filter is_decision is_front.more) (omega (arith, long, earlier))
+      ap (take l.keep) (decisions_on es whole is_front) ∙ take-append-le l.keep (filter is_decision es) (filter is_decision is_front.more) (omega (arith, long, back))
 
   -- ---- What was told
 
   -- the search went back to no lower level
-  level_low : l.level ≤ h.noted.level
+  level_low : l.keep ≤ h.noted.level
   level_low =
-      let earlier = h.learned.earlier in
       let cut = ap depth h.noted.cut in
       let few = below_most h.noted.before.trail.size whole h.noted.search.on.order h.noted.level in
-      omega (arith, earlier, cut, few)
+      omega (arith, back, cut, few)
 
-  same_front : below l.level whole ≡ front
-  same_front = sym (ap (below l.level) h.noted.cut ∙ below_twice l.level h.noted.level level_low whole)
+  same_front : below l.keep whole ≡ front
+  same_front = sym (ap (below l.keep) h.noted.cut ∙ below_twice l.keep h.noted.level level_low whole)
 
   -- each bound of the front was told, and none of the others is
-  list_told : below l.level (told_on h.noted.before.bounds whole) ≡ bounds_on s.bounds.marks.items front
+  list_told : below l.keep (told_on h.noted.before.bounds whole) ≡ bounds_on s.bounds.marks.items front
   list_told =
       let b = h.noted.before.bounds in
-      let earlier = h.learned.earlier in
       let deeper = front_depth es whole is_front in
-      filters_swap (λ (e : Assigned). nat_le e.level l.level) (λ (e : Assigned). is_marked b.marks.items e.literal.atom) (take b.told whole)
-      ∙ ap (bounds_on b.marks.items) (cut_told b.told l.level whole h.noted.search.on.untold_last (omega (arith, earlier, deeper)) ∙ same_front)
+      filters_swap (λ (e : Assigned). nat_le e.level l.keep) (λ (e : Assigned). is_marked b.marks.items e.literal.atom) (take b.told whole)
+      ∙ ap (bounds_on b.marks.items) (cut_told b.told l.keep whole h.noted.search.on.untold_last (omega (arith, back, deeper)) ∙ same_front)
       ∙ ap (λ (v : Vec Bool Global). bounds_on v.items front) (sym h.noted.marks)
 
   after_told : (b : Bounds) → b ≡ record s.bounds { told = min s.bounds.told (length front) } → told_on b (after_learned es l) ≡ bounds_on s.bounds.marks.items front
   after_told b is =
-      let short = cut_short s.bounds.told l.level es h.search.on.untold_last h.learned.earlier in
+      let short = cut_short s.bounds.told l.keep es h.search.on.untold_last back in
       let least : min s.bounds.told (length front) ≡ length front = min-eq_right short in
       ap (λ (x : Bounds). told_on x (after_learned es l)) is
       ∙ ap (λ (n : ℕ). bounds_on s.bounds.marks.items (take n (after_learned es l))) least
-      ∙ ap (bounds_on s.bounds.marks.items) (take-append-le (length front) front (mine ∷ []) (omega arith) ∙ take_all (length front) front (omega arith))
+      ∙ ap (bounds_on s.bounds.marks.items)
+      (ap (take (length front)) goes.joined ∙ take-append-le (length front) front goes.more (omega arith) ∙ take_all (length front) front (omega arith))
 
   pub after_tells : (b : Bounds) → b ≡ record s.bounds { told = min s.bounds.told (length front) } → TellsTrail log' s.atoms b (after_learned es l) work'
   after_tells b is =
       let f : Assigned → ℕ × Bool = λ (e : Assigned). numbered s.atoms e.literal in
       let told = was_told log log' held s work falsified l h in
-      let low : ToldLiteral → Bool = λ t. nat_le t.depth l.level in
+      let low : ToldLiteral → Bool = λ t. nat_le t.depth l.keep in
       let T : Assigned → Type 0 = λ e. IsSome (slice_get log.atoms e.literal.atom) in
       let there : All T (bounds_on s.bounds.marks.items front) =
       All-filter (λ (e : Assigned). is_marked s.bounds.marks.items e.literal.atom) T front
-      (All-filter (λ (e : Assigned). nat_le e.level l.level) T es (entries_there log s.atoms h.search.on.there es h.search.on.on_trail)) in
+      (All-filter (λ (e : Assigned). nat_le e.level l.keep) T es (entries_there log s.atoms h.search.on.there es h.search.on.on_trail)) in
       record {
         named = λ ns.
-            ap (λ (x : Search). x.atoms) (goes ns) ∙ told.named ns
+            ap (λ (x : Search). x.atoms) (line_goes ns) ∙ told.named ns
             ∙ sym (names_stay log.atoms log'.atoms h.grows.atoms ns s.atoms (names_some log s.atoms h.search.on.there));
         decided = λ ns.
-            ap (λ (x : Search). x.decided) (goes ns) ∙ ap (take l.level) (told.decided ns) ∙ take-map f l.level (filter is_decision whole) ∙ ap (map f) (kept_decided ∙ sym after_decided);
+            ap (λ (x : Search). x.decided) (line_goes ns) ∙ ap (take l.keep) (told.decided ns) ∙ take-map f l.keep (filter is_decision whole) ∙ ap (map f) (kept_decided ∙ sym after_decided);
         told = λ ns.
-            ap (λ (x : Search). x.told) (goes ns) ∙ ap (filter low) (told.told ns) ∙ filters_map (told_literal ns log.atoms) low (told_on h.noted.before.bounds whole)
+            ap (λ (x : Search). x.told) (line_goes ns) ∙ ap (filter low) (told.told ns) ∙ filters_map (told_literal ns log.atoms) low (told_on h.noted.before.bounds whole)
             ∙ ap (map (told_literal ns log.atoms)) list_told ∙ sym (told_stay log.atoms log'.atoms h.grows.atoms ns (bounds_on s.bounds.marks.items front) there)
             ∙ ap (map (told_literal ns log'.atoms)) (sym (after_told b is));
       }
@@ -241,7 +258,7 @@ module _ (log log' : LogState) (held : List Held) (s : state.Search) (work : Wor
 
   after_first : KeepsFirst es (after_learned es l)
   after_first m holds =
-      subst (λ (xs : List Assigned). IsTrueOn xs m) (sym (first_longer log' s.trail h.search.on.order l h.learned)) (truth_found (below 0 es) (below 0 (mine ∷ [])) m.atom m.sign holds)
+      subst (λ (xs : List Assigned). IsTrueOn xs m) (sym (first_longer log' s.trail h.search.on.order l h.learned)) (truth_found (below 0 es) (below 0 goes.more) m.atom m.sign holds)
 
   -- ---- The search
 
@@ -251,13 +268,12 @@ module _ (log log' : LogState) (held : List Held) (s : state.Search) (work : Wor
     after_on : All (λ (e : Assigned). Contains s.atoms e.literal.atom) (after_learned es l) → IsTrailOn log' s'.atoms s'.bounds s'.trail
     after_on on_trail =
         let cut : TrailState = record { entries = front; size = s.trail.size } in
-        let made = trail_cut log s.atoms s.bounds s.trail h.search.on l.level (record s.bounds { told = min s.bounds.told (length front) }) cut refl refl refl in
-        let long = ap length entries ∙ length_push front mine in
+        let made = trail_cut log s.atoms s.bounds s.trail h.search.on l.keep (record s.bounds { told = min s.bounds.told (length front) }) cut refl refl refl in
+        let long = ap length entries ∙ ap length goes.joined ∙ length-append front goes.more in
         let inside = made.inside in
         let least = ap (λ (x : Bounds). x.told) bounds in
         let grown = trail_grown log s.atoms (record s.bounds { told = min s.bounds.told (length front) }) cut made log' h.grows in
-        let same : depth (front ++ mine ∷ []) ≡ depth front = after_deep log' s.trail h.search.on.order l h.learned ∙ sym (front_deep log' s.trail h.search.on.order l h.learned) in
-        let last = last_push (min s.bounds.told (length front)) front mine inside (sym same) (inl same) made.untold_last in
+        let last = last_goes (min s.bounds.told (length front)) front (after_learned es l) inside goes made.untold_last in
         subst (λ (us : List ℕ). IsTrailOn log' us s'.bounds s'.trail) (sym atoms)
         (record {
           there = grown.there;
@@ -355,11 +371,12 @@ module _ (log log' : LogState) (held : List Held) (s : state.Search) (work : Wor
     learned_ends m m' tells clauses other goes_on stays x ns levels assumed q known only asked st =
         let told' = told_lits s'.bounds s'.trail.entries in
         let b : Bounds = record s.bounds { told = min s.bounds.told (length front) } in
-        let f = below_front s.trail.size es h.search.on.order l.level in
+        let f = below_front s.trail.size es h.search.on.order l.keep in
         let inside : min s.bounds.told (length front) ≤ length front = min-le_right s.bounds.told (length front) in
         let same : told' ≡ told_lits b front =
         ap (λ (xs : List Assigned). told_lits s'.bounds xs) entries ∙ ap (λ (x : Bounds). told_lits x (after_learned es l)) bounds
-        ∙ ap (λ (xs : List Assigned). literals_on (bounds_on s.bounds.marks.items xs)) (take-append-le (min s.bounds.told (length front)) front (mine ∷ []) inside) in
+        ∙ ap (λ (xs : List Assigned). literals_on (bounds_on s.bounds.marks.items xs))
+        (ap (take (min s.bounds.told (length front))) goes.joined ∙ take-append-le (min s.bounds.told (length front)) front goes.more inside) in
         let first : take (length told') (told_lits s.bounds es) ≡ told' =
         subst (λ (ls : List Lit). take (length ls) (told_lits s.bounds es) ≡ ls) (sym same) (told_taken s.bounds b es front f refl) in
         let cut = cut_stands m m' ns q log work (told_lits s.bounds es) told' stays first st in
@@ -378,6 +395,6 @@ module _ (log log' : LogState) (held : List Held) (s : state.Search) (work : Wor
         (record {
           point = cut.point;
           legal = line_legal log log' held s work falsified l h tells clauses other ns levels assumed q only asked goes_on cut.point cut.legal;
-          at = subst (λ (r : Search). m'.at ns r.forms (clause_in ns log'.atoms told') cut.point) (sym (goes ns))
+          at = subst (λ (r : Search). m'.at ns r.forms (clause_in ns log'.atoms told') cut.point) (sym (line_goes ns))
               (subst (λ (ls : List spec.Literal). m'.at ns (search_after ns work).forms ls cut.point) says cut.at);
         })

@@ -26,6 +26,14 @@ false_more front more l falsified =
 pub false_whole : (es : List Assigned) (n : ℕ) (l : Lit) → IsFalseOn (take n es) l → IsFalseOn es l
 false_whole es n l falsified = subst (λ (front : List Assigned). IsFalseOn front l) (take-append-drop n es) (false_more (take n es) (drop n es) l falsified)
 
+-- a false literal is the negation of its atom's entry
+pub false_is : (es : List Assigned) (e : Assigned) (m : Lit) → assigned es e.literal.atom ≡ Some e → IsFalseOn es m → m.atom ≡ e.literal.atom → m ≡ negated_lit e.literal
+false_is es e m its falsified same =
+    let x = false_entry es m falsified in
+    let one : e ≡ x.0 = same_Some e x.0 (sym its ∙ ap (assigned es) (sym same) ∙ x.1) in
+    let sign : e.literal.sign ≡ not m.sign = ap (λ (y : Assigned). y.literal.sign) one ∙ x.2 in
+    lit_is m (negated_lit e.literal) same (sym (ap not sign ∙ not-not m.sign))
+
 -- with one entry more, its negation is false too
 false_push : (front : List Assigned) (e : Assigned) (m : Lit) → IsFalseOn (front ++ e ∷ []) m → (m ≡ negated_lit e.literal) ⊎ IsFalseOn front m
 false_push front e m falsified =

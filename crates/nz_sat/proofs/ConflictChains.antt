@@ -14,10 +14,10 @@ use Rattle.nz_log.specs.Lits.{negated_lit, lit_resolvent}
 use Rattle.nz_log.specs.Logs.{LogState, IsLive, chained, literals_at}
 use Rattle.nz_sat.specs.declared.analyze.Chain.{Chain}
 use Rattle.nz_sat.specs.declared.trail.Assigned.{Assigned}
-use Rattle.nz_sat.specs.Trails.{EachBehind, IsFalseOn, IsNext, depth, level_on}
+use Rattle.nz_sat.specs.Trails.{EachBehind, IsFalseOn, IsNext, assigned, depth, level_on}
 use Rattle.nz_sat.specs.Clauses.{IsFalsified, IsImplied, IsReason, IsReasonOf, IsAssumed}
 use Rattle.nz_sat.specs.Conflicts.{AreLinks, AreMarked, AreUnmarked, HasTwoLast, IsChain, IsOnWayBack, MarksCounted, is_marked, marked_of, IsMarkedBefore, IsOnWayToAssumed, MarksFalse, RefutesFrom}
-use Rattle.nz_sat.proofs.Backward.{apart, false_cases, false_whole, front_counted, fresh, its_entry, none_before_decision, not_false, of_last}
+use Rattle.nz_sat.proofs.Backward.{apart, false_cases, false_is, false_whole, front_counted, fresh, its_entry, none_before_decision, not_false, of_last}
 use Rattle.nz_sat.proofs.Chains.{chained_more, lit_is, resolvent_first, resolvent_from, resolvent_second, twice_negated}
 use Rattle.nz_sat.proofs.Marks.{counted, false_entry, found_whole, is_counted, level_found, marked_apart, marked_within, none_counted, one_counted, one_if, other_mark, two_counted, unmark_parts}
 use Rattle.nz_sat.proofs.TrailEntries.{assigned_place, level_within}
@@ -47,6 +47,71 @@ no_links s es = All-nil (λ (k : Link). IsLive s k.clause × ((x : Assigned) × 
 
 uncounted : (marks : List Bool) (level : ℕ) (e : Assigned) → is_marked marks e.literal.atom ≡ false → counted marks level e ≡ 0
 uncounted marks level e off = ap (λ (m : Bool). one_if (m && (e.level == level))) off
+
+-- ---- One link more
+
+pub reason_is : (s : LogState) (before : List Assigned) (e : Assigned) (clause : ℕ) → e.reason ≡ Some clause → IsImplied s before e → IsReason s before e.literal clause
+reason_is s before e clause reason implied = subst (IsReasonOf s before e.literal) reason implied
+
+pub reason_live : (s : LogState) (es : List Assigned) → EachBehind (IsImplied s) es → (t : ℕ) (e : Assigned) (clause : ℕ) → assigned es t ≡ Some e → e.reason ≡ Some clause
+    → IsLive s clause
+reason_live s es implied t e clause at reason = let p = (assigned_place es t e at).1 in (reason_is s (take p.0 es) e clause reason (implied p.0 e p.1)).live
+
+-- A falsified clause is resolved with the reason of an entry, whose negation it has. Its marks are those of the clause.
+module _ (s : LogState) (size : ℕ) (es : List Assigned) (order : EachBehind (IsNext size) es) (falsified i : ℕ) (e : Assigned) (at : slice_get es i ≡ Some e) (marks : List Bool)
+    (ks : List Link) (falses : IsFalsified es (chained s (literals_at s falsified) ks)) (marked : AreMarked (chained s (literals_at s falsified) ks) marks)
+    (on : is_marked marks e.literal.atom ≡ true) (tells : TellsLits) (clause : ℕ) (reason : e.reason ≡ Some clause) (implied : IsImplied s (take i es) e) (new : List Bool)
+    (made : MarksFalse es (literals_at s clause) (slice_set marks e.literal.atom false) new) where
+  abbrev before_link : List Lit
+  before_link = chained s (literals_at s falsified) ks
+
+  abbrev longer : List Link
+  longer = ks ++ link_of e clause ∷ []
+
+  its_reason : IsReason s (take i es) e.literal clause
+  its_reason = reason_is s (take i es) e clause reason implied
+
+  -- what is false is another literal than the entry's
+  reason_beside : (m : Lit) → IsFalseOn es m → m ≢ e.literal
+  reason_beside m falsified same = not_false size es order (i + 1) i refl e at (subst (IsFalseOn es) same falsified)
+
+  longer_is : chained s (literals_at s falsified) longer ≡ lit_resolvent (negated_lit e.literal) before_link (literals_at s clause)
+  longer_is = chained_more s (literals_at s falsified) ks (link_of e clause)
+
+  pub kept_longer : (m : Lit) → Contains before_link m → m ≢ negated_lit e.literal → Contains (chained s (literals_at s falsified) longer) m
+  kept_longer m has other =
+      subst (λ (c : List Lit). Contains c m) (sym longer_is)
+      (resolvent_first tells (negated_lit e.literal) before_link (literals_at s clause) m has (λ same. other (sym same)))
+
+  has_of_reason : (m : Lit) → Contains (literals_at s clause) m → m ≢ e.literal → Contains (chained s (literals_at s falsified) longer) m
+  has_of_reason m has other =
+      subst (λ (c : List Lit). Contains c m) (sym longer_is)
+      (resolvent_second tells (negated_lit e.literal) before_link (literals_at s clause) m has (λ same. other (sym same ∙ twice_negated e.literal)))
+
+  on_new : (m : Lit) → Contains (chained s (literals_at s falsified) longer) m → is_marked new m.atom ≡ true
+  on_new m has =
+      elim (longer_from tells s (literals_at s falsified) ks e clause m has) [
+        | inl old ↦
+            let its = its_entry size es order (i + 1) i refl e at in
+            let other : m.atom ≢ e.literal.atom = λ same. old.1 (false_is es e m its (falses m old.0) same) in
+            made.kept m.atom (other_mark marks e.literal.atom m.atom false other ∙ marked.each m old.0)
+        | inr of_reason ↦ made.marked m of_reason.0 (false_whole es i m (its_reason.others m of_reason.0 of_reason.1))
+      ]
+
+  only_new : (t : ℕ) → is_marked new t ≡ true → (m : Lit) × Contains (chained s (literals_at s falsified) longer) m × (m.atom ≡ t)
+  only_new t up =
+      elim (made.only t up) [
+        | inl old ↦
+            let was = unmark_parts marks e.literal.atom t (marked_within marks e.literal.atom on) old in
+            let w = marked.only t was.1 in
+            (w.0, kept_longer w.0 w.1 (λ same. was.0 (sym w.2 ∙ ap (λ (k : Lit). k.atom) same)), w.2)
+        | inr w ↦ (w.0, has_of_reason w.0 w.1 (reason_beside w.0 w.2), w.3)
+      ]
+
+  pub marked_longer : AreMarked (chained s (literals_at s falsified) longer) new
+  marked_longer = record { each = on_new; only = only_new }
+
+-- ---- The way back along the trail
 
 module _ (s : LogState) (size : ℕ) (es : List Assigned) (order : EachBehind (IsNext size) es) (falsified n i : ℕ) (is : n ≡ i + 1) (e : Assigned) (at : slice_get es i ≡ Some e)
     (marks : List Bool) (ks : List Link) (left : ℕ) (way : IsOnWayBack s es falsified n marks ks left) where
@@ -135,63 +200,28 @@ module _ (s : LogState) (size : ℕ) (es : List Assigned) (order : EachBehind (I
     -- the reason of the entry, its other literals before it
     module _ (tells : TellsLits) (clause : ℕ) (reason : e.reason ≡ Some clause) (implied : IsImplied s (take i es) e) (new : List Bool) (more : ℕ)
         (made : MarksCounted es (literals_at s clause) (depth es) (slice_set marks e.literal.atom false) new more) where
-      reason_is : IsReason s (take i es) e.literal clause
-      reason_is = subst (IsReasonOf s (take i es) e.literal) reason implied
+      why_here : IsReason s (take i es) e.literal clause
+      why_here = reason_is s (take i es) e clause reason implied
 
-      abbrev longer : List Link
-      longer = ks ++ link_of e clause ∷ []
-
-      longer_is : chained s (literals_at s falsified) longer ≡ lit_resolvent (negated_lit e.literal) so_far (literals_at s clause)
-      longer_is = chained_more s (literals_at s falsified) ks (link_of e clause)
-
-      parts : (m : Lit) → Contains (chained s (literals_at s falsified) longer) m
-          → (Contains so_far m × (m ≢ negated_lit e.literal)) ⊎ (Contains (literals_at s clause) m × (m ≢ e.literal))
-      parts m has = longer_from tells s (literals_at s falsified) ks e clause m has
-
-      before_new : (m : Lit) → Contains (chained s (literals_at s falsified) longer) m → IsFalseOn (take i es) m
+      before_new : (m : Lit) → Contains (chained s (literals_at s falsified) (ks ++ link_of e clause ∷ [])) m → IsFalseOn (take i es) m
       before_new m has =
-          elim (parts m has) [ inl old ↦ before_here m old.0 old.1 | inr of_reason ↦ reason_is.others m of_reason.0 of_reason.1 ]
-
-      on_new : (m : Lit) → Contains (chained s (literals_at s falsified) longer) m → is_marked new m.atom ≡ true
-      on_new m has =
-          elim (parts m has) [
-            | inl old ↦
-                let other = apart size es order n i is e at m (before_here m old.0 old.1) in
-                made.marks.kept m.atom (other_mark marks e.literal.atom m.atom false other ∙ way.marked.each m old.0)
-            | inr of_reason ↦ made.marks.marked m of_reason.0 (false_whole es i m (reason_is.others m of_reason.0 of_reason.1))
-          ]
-
-      has_old : (m : Lit) → Contains so_far m → m ≢ negated_lit e.literal → Contains (chained s (literals_at s falsified) longer) m
-      has_old m has other =
-          subst (λ (c : List Lit). Contains c m) (sym longer_is)
-          (resolvent_first tells (negated_lit e.literal) so_far (literals_at s clause) m has (λ same. other (sym same)))
-
-      has_of_reason : (m : Lit) → Contains (literals_at s clause) m → m ≢ e.literal → Contains (chained s (literals_at s falsified) longer) m
-      has_of_reason m has other =
-          subst (λ (c : List Lit). Contains c m) (sym longer_is)
-          (resolvent_second tells (negated_lit e.literal) so_far (literals_at s clause) m has (λ same. other (sym same ∙ twice_negated e.literal)))
-
-      only_new : (t : ℕ) → is_marked new t ≡ true → (m : Lit) × Contains (chained s (literals_at s falsified) longer) m × (m.atom ≡ t)
-      only_new t up =
-          elim (made.marks.only t up) [
-            | inl old ↦
-                let was = unmark_parts marks e.literal.atom t (marked_within marks e.literal.atom on) old in
-                let w = way.marked.only t was.1 in
-                (w.0, has_old w.0 w.1 (λ same. was.0 (sym w.2 ∙ ap (λ (k : Lit). k.atom) same)), w.2)
-            | inr w ↦ (w.0, has_of_reason w.0 w.1 (λ same. not_false size es order n i is e at (subst (IsFalseOn es) same w.2)), w.3)
+          elim (longer_from tells s (literals_at s falsified) ks e clause m has) [
+            | inl old ↦ before_here m old.0 old.1
+            | inr of_reason ↦ why_here.others m of_reason.0 of_reason.1
           ]
 
       counts_new : left - 1 + more ≡ marked_of new (depth es) (take i es)
       counts_new =
           let off = marked_apart false marks e.literal.atom (depth es) (take i es) (fresh size es order n i is e at) in
-          let step = made.count i (λ m has false_too. reason_is.others m has (λ same. not_false size es order n i is e at (subst (IsFalseOn es) same false_too))) in
+          let step = made.count i (λ m has false_too. why_here.others m has (λ same. not_false size es order n i is e at (subst (IsFalseOn es) same false_too))) in
           omega (arith, way.count, sum_here, off, step)
 
-      pub way_on : 1 < left → IsOnWayBack s es falsified i new longer (left - 1 + more)
+      pub way_on : 1 < left → IsOnWayBack s es falsified i new (ks ++ link_of e clause ∷ []) (left - 1 + more)
       way_on many = record {
-        links = links_longer s es i e at ks clause reason_is.live way.links;
+        links = links_longer s es i e at ks clause why_here.live way.links;
         falsified_before = before_new;
-        marked = record { each = on_new; only = only_new };
+        marked =
+            marked_longer s size es order falsified i e at marks ks (λ m has. false_whole es n m (way.falsified_before m has)) way.marked on tells clause reason implied new made.marks;
         count = counts_new;
         some = omega (arith, many);
         linked = λ one. omega (arith, length_push ks (link_of e clause));
@@ -309,7 +339,7 @@ module _ (s : LogState) (size : ℕ) (es : List Assigned) (order : EachBehind (I
   pub assumed_on : TellsLits → (clause : ℕ) → e.reason ≡ Some clause → IsImplied s (take i es) e → (new : List Bool) → MarksFalse es (literals_at s clause) marks new
       → IsOnWayToAssumed s es falsified i new (ks ++ link_of e clause ∷ [])
   assumed_on tells clause reason implied new made =
-      let why : IsReason s (take i es) e.literal clause = subst (IsReasonOf s (take i es) e.literal) reason implied in
+      let why = reason_is s (take i es) e clause reason implied in
       record {
         links = links_longer s es i e at ks clause why.live way.links;
         each = λ assumed all under m has.

@@ -198,6 +198,7 @@ links_within s es ns all ks within links =
 pub record IsAsserting (es : List Assigned) (c : List Lit) (id : ℕ) (m : Lit) (l : Learned) : Type 0 where
   pub clause : l.clause ≡ id
   pub literal : l.literal ≡ m
+  pub kept : l.keep ≡ l.level
   pub others : (x : Lit) → Contains c x → x ≢ m → level_on es x.atom ≤ l.level
   pub beside : IsBeside es c m l.level l.beside
 
@@ -211,7 +212,7 @@ asserting_learned : (log : LogState) (es : List Assigned) (id : ℕ) (m : Lit) �
     → Contains (literals_at log id) m → level_on es m.atom ≡ depth es → ((x : Lit) → Contains (literals_at log id) x → x ≢ m → level_on es x.atom < depth es)
     → (l : Learned) → IsAsserting es (literals_at log id) id m l → IsLearned log es l
 asserting_learned log es id m above live once falsified has last low l asserts =
-    let told : IsLearned log es (record { clause = id; literal = m; level = l.level; beside = l.beside }) =
+    let told : IsLearned log es (record { clause = id; literal = m; level = l.level; keep = l.keep; beside = l.beside }) =
     record {
       live = live;
       once = once;
@@ -219,10 +220,11 @@ asserting_learned log es id m above live once falsified has last low l asserts =
       has = has;
       last = last;
       earlier = beside_earlier es (literals_at log id) m l.level (depth es) l.beside above asserts.beside low;
+      kept = omega (arith, asserts.kept);
       others = asserts.others;
       beside = asserts.beside;
     } in
-    subst₂ (λ (i : ℕ) (x : Lit). IsLearned log es (record { clause = i; literal = x; level = l.level; beside = l.beside })) (sym asserts.clause) (sym asserts.literal) told
+    subst₂ (λ (i : ℕ) (x : Lit). IsLearned log es (record { clause = i; literal = x; level = l.level; keep = l.keep; beside = l.beside })) (sym asserts.clause) (sym asserts.literal) told
 
 -- ---- A conflict that is the learned clause itself
 

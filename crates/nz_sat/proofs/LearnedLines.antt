@@ -154,6 +154,23 @@ front_decided a ts f es all front hold =
     ∙ map-append (literal_by ts) (map f (filter is_decision es)) (map f (filter is_decision front.more)) in
     recursion_left P mine more (subst (AllByRecursion P) parts hold)
 
+-- also where the search goes back to a lower level
+pub kept_learned : {log : LogState} {es : List Assigned} {l l' : Learned} → l' ≡ record l { keep = l'.keep } → l'.keep ≤ l.keep → IsLearned log es l → IsLearned log es l'
+kept_learned {log} {es} same low h =
+    let kept = h.kept in
+    subst (IsLearned log es) (sym same)
+    (record {
+      live = h.live;
+      once = h.once;
+      falsified = h.falsified;
+      has = h.has;
+      last = h.last;
+      earlier = h.earlier;
+      kept = omega (arith, low, kept);
+      others = h.others;
+      beside = h.beside;
+    })
+
 module _ (log log' : LogState) (held : List Held) (s : state.Search) (work : WorkList Note) (falsified : ℕ) (l : Learned) (h : IsTaught log log' held s work falsified l) where
   abbrev es : List Assigned
   es = s.trail.entries
@@ -226,14 +243,15 @@ module _ (log log' : LogState) (held : List Held) (s : state.Search) (work : Wor
         (subst (IsClauseTrue a)
         (sym (ap (λ (ts : List Literal). literals_by ts (map (numbered s.atoms) lits)) names_same ∙ literals_numbered ns log'.atoms s.atoms lits learned_named)) holds)
 
-    may_learn : MayLearn q at l.level (map (numbered s.atoms) lits)
+    may_learn : MayLearn q at l.keep (map (numbered s.atoms) lits)
     may_learn =
         let long : length at.decided ≡ depth all =
         ap length (was_told.decided ns) ∙ length-map (filter is_decision all) (λ (e : Assigned). numbered s.atoms e.literal) ∙ length-filter is_decision all in
         let deeper = front_depth es all front in
         let earlier = h.learned.earlier in
+        let kept = h.learned.kept in
         record {
-          fewer = omega (arith, long, deeper, earlier);
+          fewer = omega (arith, long, deeper, earlier, kept);
           dead_end = dead_end;
           follows = follows;
           named = subst (λ (ts : List Literal). All (λ (p : ℕ × Bool). p.0 < length ts) (map (numbered s.atoms) lits)) (sym (was_told.named ns))
@@ -288,7 +306,7 @@ module _ (log log' : LogState) (held : List Held) (s : state.Search) (work : Wor
       record {
         point = st.point;
         legal = st.legal;
-        wanted = LearnedEntry l.level (map (numbered s.atoms) lits);
+        wanted = LearnedEntry l.keep (map (numbered s.atoms) lits);
         after = st.point;
         may = (may_learn tells clauses other ns levels assumed q only asked, refl);
       }

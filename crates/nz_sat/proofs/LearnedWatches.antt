@@ -1,9 +1,9 @@
--- Watched clauses where a search went back to where a learned clause asserts its literal, and that clause beside them.
-use Rattle.std.proofs.Common.{◌≡◌, ℕ, ◌*◌, ◌+◌, ◌<◌, ◌≤◌, ◌⊎◌, if◌then◌else◌, false, inl, inr, List, [], ◌∷◌, ◌++◌, length, min, Option, Some, None, refl, sym, ap, subst, ◌∙◌, arith}
-use Rattle.std.specs.Prelude.{All, Contains, IfSome, nat_le, option_map}
+-- Watched clauses where a search went back after it learned a clause, and that clause beside them.
+use Rattle.std.proofs.Common.{◌≡◌, ℕ, ◌*◌, ◌<◌, ◌≤◌, ◌⊎◌, if◌then◌else◌, Bool, inl, inr, List, [], ◌∷◌, ◌++◌, length, min, take, Option, Some, None, refl, sym, ap, subst, ◌∙◌, arith}
+use Rattle.std.specs.Prelude.{All, Contains, IfSome, option_map}
+use Rattle.std.proofs.lemmas.Bool.Decides.{eqb_tells}
 use Rattle.std.proofs.lemmas.List.{append-nil}
 use Rattle.std.proofs.lemmas.List.Elements.{All-push, All-weaker}
-use Rattle.std.proofs.lemmas.List.Sums.{sum_by_push}
 use Rattle.nz_log.specs.declared.lits.Lit.{Lit}
 use Rattle.nz_log.specs.Logs.{LogState, literals_at}
 use Rattle.nz_sat.specs.declared.analyze.Learned.{Learned}
@@ -11,15 +11,16 @@ use Rattle.nz_sat.specs.declared.propagation.Propagation.{Propagation}
 use Rattle.nz_sat.specs.declared.trail.Assigned.{Assigned}
 use Rattle.nz_sat.specs.Clauses.{HasTrue, IsUsable}
 use Rattle.nz_sat.specs.Conflicts.{IsBeside, IsLearned}
-use Rattle.nz_sat.specs.Lists.{code_of}
+use Rattle.nz_log.specs.Codes.{code_of}
 use Rattle.nz_sat.specs.Searching.{after_learned}
-use Rattle.nz_sat.specs.Trails.{EachBehind, IsFalseOn, IsFreeOn, IsNext, IsTrail, IsTrueOn, TrailState, below, depth, implied, is_decision, level_on}
+use Rattle.nz_sat.specs.Trails.{EachBehind, GoesOn, IsFalseOn, IsFreeOn, IsNext, IsTrail, IsTrueOn, TrailState, below, depth, implied, level_on}
 use Rattle.nz_sat.specs.Watched.{AreWatched, HasClause, MayHold, watch_state}
+use Rattle.nz_sat.proofs.Backward.{false_whole}
 use Rattle.nz_sat.proofs.Clausal.{truth_missing}
-use Rattle.nz_sat.proofs.Levels.{above_level, below_depth, below_free, below_join, below_twice}
+use Rattle.nz_sat.proofs.Levels.{below_depth, below_free, below_join, below_none, below_twice}
 use Rattle.nz_sat.proofs.LiteralNumbers.{code_within}
 use Rattle.nz_sat.proofs.TrailEntries.{assigned_one}
-use Rattle.nz_sat.proofs.VisitedClauses.{goes_one}
+use Rattle.nz_sat.proofs.VisitedClauses.{goes_depth, goes_one, goes_same}
 use Rattle.nz_sat.proofs.WatchedTrails.{below_whole, cut_watched, goes_watched, true_more}
 
 -- a literal and another one, where there is one
@@ -49,7 +50,7 @@ module _ (log : LogState) (t : TrailState) (order : IsTrail t) (l : Learned) (le
   es = t.entries
 
   abbrev front : List Assigned
-  front = below l.level es
+  front = below l.keep es
 
   abbrev mine : Assigned
   mine = implied front l.literal l.clause
@@ -62,64 +63,82 @@ module _ (log : LogState) (t : TrailState) (order : IsTrail t) (l : Learned) (le
 
   -- ---- The trail after it
 
-  pub front_deep : depth front ≡ l.level
-  front_deep = let earlier = learned.earlier in below_depth t.size es order l.level (omega arith)
+  -- what is so where the literal is asserted, and where it isn't
+  pub by_keep : (P : List Assigned → Type 0) → (l.keep ≡ l.level → P (front ++ mine ∷ [])) → (l.keep < l.level → P front) → P (after_learned es l)
+  by_keep P asserts stays =
+      let kept = learned.kept in
+      elim (eqb_tells l.keep l.level) [
+        | inl p ↦ subst (λ (b : Bool). P (if b then front ++ mine ∷ [] else front)) (sym p.0) (asserts p.1)
+        | inr p ↦ subst (λ (b : Bool). P (if b then front ++ mine ∷ [] else front)) (sym p.0) (stays (omega (arith, kept, p.1)))
+      ]
+
+  pub after_goes : GoesOn front (after_learned es l)
+  after_goes = by_keep (GoesOn front) (λ same. goes_one front mine refl refl) (λ less. goes_same front)
+
+  pub goes_back : l.keep < depth es
+  goes_back = let earlier = learned.earlier in let kept = learned.kept in omega (arith, earlier, kept)
+
+  front_deep : depth front ≡ l.keep
+  front_deep = below_depth t.size es order l.keep (omega (arith, goes_back))
 
   pub literal_free : (k : ℕ) → k < depth es → IsFreeOn (below k es) l.literal
   literal_free k less = let last = learned.last in below_free t.size es order k l.literal (learned.falsified l.literal learned.has) (omega (arith, last, less))
 
-  pub after_deep : depth (after_learned es l) ≡ l.level
-  after_deep =
-      let one : depth (front ++ mine ∷ []) ≡ depth front + 0 = sum_by_push (λ (x : Assigned). if is_decision x then 1 else 0) front mine in
-      omega (arith, one, front_deep)
+  after_deep : depth (after_learned es l) ≡ l.keep
+  after_deep = goes_depth front (after_learned es l) after_goes ∙ front_deep
 
-  now_true : IsTrueOn (after_learned es l) l.literal
+  now_true : IsTrueOn (front ++ mine ∷ []) l.literal
   now_true =
-      truth_missing front (mine ∷ []) l.literal.atom (literal_free l.level learned.earlier)
+      truth_missing front (mine ∷ []) l.literal.atom (literal_free l.keep goes_back)
       ∙ ap (option_map (λ (x : Assigned). x.literal.sign)) (assigned_one mine l.literal.atom refl)
 
-  below_after : (k : ℕ) → k < l.level → below k (after_learned es l) ≡ below k es
+  below_after : (k : ℕ) → k < l.keep → below k (after_learned es l) ≡ below k es
   below_after k less =
-      let high : nat_le (depth front) k ≡ false = above_level k (depth front) (omega (arith, front_deep, less)) in
-      below_join k front (mine ∷ []) ∙ ap (λ b. below k front ++ (if b then mine ∷ [] else [])) high ∙ append-nil (below k front)
-      ∙ below_twice k l.level (omega (arith, less)) es
+      let more = after_goes.more in
+      let high : All (λ (e : Assigned). k < e.level) more =
+      All-weaker (λ (e : Assigned). e.level ≡ depth front) (λ (e : Assigned). k < e.level) (λ e same. omega (arith, same, front_deep, less)) more after_goes.last in
+      ap (below k) after_goes.joined ∙ below_join k front more ∙ ap (λ (xs : List Assigned). below k front ++ xs) (below_none k more high)
+      ∙ append-nil (below k front) ∙ below_twice k l.keep (omega (arith, less)) es
 
-  pub first_longer : below 0 (after_learned es l) ≡ below 0 es ++ below 0 (mine ∷ [])
-  first_longer = below_join 0 front (mine ∷ []) ∙ ap (λ (xs : List Assigned). xs ++ below 0 (mine ∷ [])) (below_twice 0 l.level (omega arith) es)
+  pub first_longer : below 0 (after_learned es l) ≡ below 0 es ++ below 0 after_goes.more
+  first_longer =
+      ap (below 0) after_goes.joined ∙ below_join 0 front after_goes.more
+      ∙ ap (λ (xs : List Assigned). xs ++ below 0 after_goes.more) (below_twice 0 l.keep (omega arith) es)
 
-  has_true : HasTrue (after_learned es l) lits
-  has_true = record { literal = l.literal; has = learned.has; holds = now_true }
+  asserts_true : HasTrue (front ++ mine ∷ []) lits
+  asserts_true = record { literal = l.literal; has = learned.has; holds = now_true }
 
   -- ---- The clauses that are watched
 
   pub after_watched : (p q : Propagation) → q ≡ record p { head = min p.head (length front) } → AreWatched log (watch_state p t) → AreWatched log (watch_state q after)
   after_watched p q is w =
       let cut : TrailState = record { entries = front; size = t.size } in
-      goes_watched log q cut after (goes_one front mine refl refl) refl (cut_watched log p q t cut l.level order refl refl is w)
+      goes_watched log q cut after after_goes refl (cut_watched log p q t cut l.keep order refl refl is w)
 
   module _ (within : (m : Lit) → Contains lits m → m.atom < t.size) where
     usable : IsUsable log t.size l.clause
     usable = record { live = learned.live; within = within }
 
     -- the two literals that are watched are undecided at each level before that
-    free_before : (k : ℕ) → k < l.level → (m : Lit) → Contains lits m → level_on es m.atom ≡ l.level → IsFreeOn (below k es) m
-    free_before k less m has level = below_free t.size es order k m (learned.falsified m has) (omega (arith, less, level))
+    pair_free : (k : ℕ) → k < l.level → (m : Lit) → Contains lits m → level_on es m.atom ≡ l.level → (x : Lit) → (l.literal ≡ x) ⊎ (m ≡ x) → IsFreeOn (below k es) x
+    pair_free k less m has level x (inl same) = let earlier = learned.earlier in subst (IsFreeOn (below k es)) same (literal_free k (omega (arith, less, earlier)))
+    pair_free k less m has level x (inr same) =
+        subst (IsFreeOn (below k es)) same (below_free t.size es order k m (learned.falsified m has) (omega (arith, less, level)))
 
     holds_pair : (head : ℕ) (o : Option Lit) → IsBeside es lits l.literal l.level o → MayHold log after head l.clause (pair_of l.literal o)
     holds_pair head None h = record { usable = usable; lone = λ a b has_a has_b. h.1 a has_a ∙ sym (h.1 b has_b) }
     holds_pair head (Some m) h =
         record {
           held = record { usable = usable; has_first = learned.has; has_second = h.0; differ = λ same. h.1 (sym same) };
-          settled = λ x watched falls. has_true;
+          settled =
+              by_keep (λ (xs : List Assigned). (x : Lit) → (l.literal ≡ x) ⊎ (m ≡ x) → IsFalseOn (take head xs) x → HasTrue xs lits)
+              (λ same x watched falls. asserts_true)
+              (λ less x watched falls. let free = pair_free l.keep less m h.0 h.2 x watched in let falls' = false_whole front head x falls in cc);
           were_settled = λ k less x watched falls.
-              let low : k < l.level = omega (arith, less, after_deep) in
-              let earlier = learned.earlier in
+              let low : k < l.keep = omega (arith, less, after_deep) in
+              let kept = learned.kept in
               let falls' : IsFalseOn (below k es) x = subst (λ (xs : List Assigned). IsFalseOn xs x) (below_after k low) falls in
-              let free : IsFreeOn (below k es) x =
-              elim watched [
-                | inl first ↦ subst (IsFreeOn (below k es)) first (literal_free k (omega (arith, low, earlier)))
-                | inr second ↦ subst (IsFreeOn (below k es)) second (free_before k low m h.0 h.2)
-              ] in
+              let free = pair_free k (omega (arith, low, kept)) m h.0 h.2 x watched in
               cc;
         }
 
@@ -145,14 +164,16 @@ module _ (log : LogState) (t : TrailState) (order : IsTrail t) (l : Learned) (le
   first_kept : (us : List ℕ) → All (IsTrueFirst es) us → All (IsTrueFirst (after_learned es l)) us
   first_kept us first =
       All-weaker (IsTrueFirst es) (IsTrueFirst (after_learned es l))
-      (λ i x. subst (λ (xs : List Assigned). HasTrue xs (literals_at log i)) (sym first_longer) (true_more (below 0 es) (below 0 (mine ∷ [])) (literals_at log i) x))
+      (λ i x. subst (λ (xs : List Assigned). HasTrue xs (literals_at log i)) (sym first_longer) (true_more (below 0 es) (below 0 after_goes.more) (literals_at log i) x))
       us first
 
   first_pair : EachBehind (IsNext t.size) (after_learned es l) → (us us' : List ℕ) (o : Option Lit) → IsBeside es lits l.literal l.level o
       → (pair_of l.literal o ≡ None → us' ≡ us ++ l.clause ∷ []) → IfSome (pair_of l.literal o) (λ (pair : Lit × Lit). us' ≡ us)
       → All (IsTrueFirst es) us → All (IsTrueFirst (after_learned es l)) us'
   first_pair ordered us us' None h more same first =
-      let whole : below 0 (after_learned es l) ≡ after_learned es l = below_whole t.size (after_learned es l) ordered 0 (omega (arith, after_deep, h.0)) in
+      let kept = learned.kept in
+      let whole : below 0 (after_learned es l) ≡ after_learned es l = below_whole t.size (after_learned es l) ordered 0 (omega (arith, after_deep, h.0, kept)) in
+      let has_true : HasTrue (after_learned es l) lits = by_keep (λ (xs : List Assigned). HasTrue xs lits) (λ same. asserts_true) (λ less. absurd (omega (arith, less, h.0))) in
       subst (All (IsTrueFirst (after_learned es l))) (sym (more refl))
       (All-push (IsTrueFirst (after_learned es l)) us l.clause (first_kept us first) (subst (λ (xs : List Assigned). HasTrue xs lits) (sym whole) has_true))
   first_pair ordered us us' (Some m) h more same first = subst (All (IsTrueFirst (after_learned es l))) (sym same) (first_kept us first)

@@ -13,6 +13,7 @@ pub mod LearnedLines
 pub mod LearnedWatches
 pub mod Levels
 pub mod LiteralNumbers
+pub mod LiteralValues
 pub mod LogGrowth
 pub mod Marks
 pub mod Propagations
@@ -22,6 +23,7 @@ pub mod SearchLines
 pub mod SearchRuns
 pub mod SearchSteps
 pub mod SetPlaces
+pub mod Shortening
 pub mod StartsAndEnds
 pub mod TheoryAnswers
 pub mod ToldTrails

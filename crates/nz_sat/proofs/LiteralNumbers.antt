@@ -4,7 +4,7 @@ use Rattle.std.proofs.lemmas.Bool.{and_parts, cases_eq}
 use Rattle.nz_spec.specs.clauses.Literal.{are_same_sign}
 use Rattle.nz_log.specs.declared.lits.Lit.{Lit}
 use Rattle.nz_log.specs.Lits.{are_same_lit}
-use Rattle.nz_sat.specs.Lists.{code_of, sign_bit}
+use Rattle.nz_log.specs.Codes.{code_of, sign_bit}
 
 bit_small : (b : Bool) → sign_bit b ≤ 1
 bit_small true = omega arith
@@ -43,7 +43,7 @@ sign_is true false e = absurd (true≢false (sym e))
 sign_is false true e = absurd (true≢false (sym e))
 sign_is false false e = refl
 
-sign_same : (p : Bool) → are_same_sign p p ≡ true
+pub sign_same : (p : Bool) → are_same_sign p p ≡ true
 sign_same true = refl
 sign_same false = refl
 

@@ -44,6 +44,17 @@ unmark_parts marks u t within on =
       | inr other ↦ (other, sym (other_mark marks u t false other) ∙ on)
     ]
 
+-- a mark that is taken off is off, and so are those that were
+pub unmarked : (marks : List Bool) (u : ℕ) → u < length marks → is_marked (slice_set marks u false) u ≡ false
+unmarked marks u within = get_or-set_same marks u false false within
+
+pub unmark_keeps : (marks : List Bool) (u t : ℕ) → u < length marks → is_marked marks t ≡ false → is_marked (slice_set marks u false) t ≡ false
+unmark_keeps marks u t within off =
+    elim (cases_eq t u) [
+      | inl same ↦ ap (is_marked (slice_set marks u false)) same ∙ unmarked marks u within
+      | inr other ↦ other_mark marks u t false other ∙ off
+    ]
+
 -- ---- The marks of one more literal
 
 module _ (es : List Assigned) (c : List Lit) (l : Lit) (old new : List Bool) where

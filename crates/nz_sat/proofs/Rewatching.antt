@@ -12,7 +12,8 @@ use Rattle.nz_sat.specs.declared.clauses.WatchedClause.{WatchedClause}
 use Rattle.nz_sat.specs.declared.trail.Assigned.{Assigned}
 use Rattle.nz_sat.specs.declared.watches.Watch.{Watch}
 use Rattle.nz_sat.specs.Clauses.{HasTrue, IsHeldIn, IsUsable, IsWatchedIn, other_in, with_watch}
-use Rattle.nz_sat.specs.Lists.{AreOnce, HasKey, TakesOut, code_of}
+use Rattle.nz_log.specs.Codes.{code_of}
+use Rattle.nz_sat.specs.Lists.{AreOnce, HasKey, TakesOut}
 use Rattle.nz_sat.specs.Trails.{IsFalseOn, IsTrail, below}
 use Rattle.nz_sat.specs.Watched.{AreListed, AreSettledBy, AreWatched, HoldSame, IsWatch, MayRewatch, State}
 use Rattle.nz_sat.proofs.Clausal.{truth_found}

@@ -97,15 +97,15 @@ assigned_at es i e at fresh =
 
 -- ---- The table of entries
 
-module _ (es : List Assigned) (e : Assigned) (by_atom : List (Option Assigned)) (within : e.literal.atom < length by_atom) (fresh : assigned es e.literal.atom ≡ None) where
-  -- the entry of another term is as before
-  other_entry : (t : ℕ) → (t ≡ e.literal.atom → ⊥) → assigned (es ++ e ∷ []) t ≡ assigned es t
-  other_entry t other =
-      elim (assigned es t) as (λ o. assigned es t ≡ o → assigned (es ++ e ∷ []) t ≡ o) [
-        | None ↦ λ h. assigned_missing es (e ∷ []) t h ∙ assigned_none e t (λ same. other (sym same))
-        | Some x ↦ λ h. assigned_found es (e ∷ []) t x h
-      ] refl
+-- the entry of another term is as before
+pub other_entry : (es : List Assigned) (e : Assigned) (t : ℕ) → t ≢ e.literal.atom → assigned (es ++ e ∷ []) t ≡ assigned es t
+other_entry es e t other =
+    elim (assigned es t) as (λ o. assigned es t ≡ o → assigned (es ++ e ∷ []) t ≡ o) [
+      | None ↦ λ h. assigned_missing es (e ∷ []) t h ∙ assigned_none e t (λ same. other (sym same))
+      | Some x ↦ λ h. assigned_found es (e ∷ []) t x h
+    ] refl
 
+module _ (es : List Assigned) (e : Assigned) (by_atom : List (Option Assigned)) (within : e.literal.atom < length by_atom) (fresh : assigned es e.literal.atom ≡ None) where
   pub table_put : ((t : ℕ) → slice_index_or by_atom t None ≡ assigned es t) → (t : ℕ)
       → slice_index_or (slice_set by_atom e.literal.atom (Some e)) t None ≡ assigned (es ++ e ∷ []) t
   table_put table t =
@@ -114,7 +114,7 @@ module _ (es : List Assigned) (e : Assigned) (by_atom : List (Option Assigned)) 
             ap (λ (n : ℕ). slice_index_or (slice_set by_atom e.literal.atom (Some e)) n None) same
             ∙ get_or-set_same by_atom e.literal.atom (Some e) None within
             ∙ sym (ap (assigned (es ++ e ∷ [])) same ∙ assigned_missing es (e ∷ []) e.literal.atom fresh ∙ assigned_one e e.literal.atom refl)
-        | inr other ↦ get_or-set_other by_atom e.literal.atom t (Some e) None other ∙ table t ∙ sym (other_entry t other)
+        | inr other ↦ get_or-set_other by_atom e.literal.atom t (Some e) None other ∙ table t ∙ sym (other_entry es e t other)
       ]
 
   pub table_pop : ((t : ℕ) → slice_index_or by_atom t None ≡ assigned (es ++ e ∷ []) t) → (t : ℕ)
@@ -124,7 +124,7 @@ module _ (es : List Assigned) (e : Assigned) (by_atom : List (Option Assigned)) 
         | inl same ↦
             ap (λ (n : ℕ). slice_index_or (slice_set by_atom e.literal.atom None) n None) same
             ∙ get_or-set_same by_atom e.literal.atom None None within ∙ sym (ap (assigned es) same ∙ fresh)
-        | inr other ↦ get_or-set_other by_atom e.literal.atom t None None other ∙ table t ∙ other_entry t other
+        | inr other ↦ get_or-set_other by_atom e.literal.atom t None None other ∙ table t ∙ other_entry es e t other
       ]
 
 -- ---- Levels

@@ -34,7 +34,7 @@ goes_depth es es' g =
     let same : depth es' ≡ depth (es ++ g.more) = ap depth g.joined in
     omega arith
 
-goes_same : (es : List Assigned) → GoesOn es es
+pub goes_same : (es : List Assigned) → GoesOn es es
 goes_same es =
     record {
       more = [];

@@ -11,7 +11,7 @@ use Rattle.nz_log.specs.Sound.{IsLog}
 use Rattle.nz_sat.specs.declared.analyze.Chain.{Chain}
 use Rattle.nz_sat.specs.declared.analyze.Learned.{Learned}
 use Rattle.nz_sat.specs.declared.trail.Assigned.{Assigned}
-use Rattle.nz_sat.specs.Trails.{IsFalseOn, below, depth, level_on}
+use Rattle.nz_sat.specs.Trails.{IsFalseOn, assigned, below, depth, level_on}
 use Rattle.nz_sat.specs.Clauses.{IsFalsified, IsAssumed}
 
 -- where the trail is over a table, the log stays in order
@@ -101,6 +101,15 @@ pub record IsChain (s : LogState) (es : List Assigned) (falsified : ℕ) (marks 
   pub others : (m : Lit) → Contains (chained s (literals_at s falsified) c.links.items) m → m ≢ c.literal → level_on es m.atom < depth es
   pub marked : AreMarked (chained s (literals_at s falsified) c.links.items) marks
 
+-- A literal of a marked atom is false by this clause, and isn't of the atom of another one.
+pub record IsFalseBy (es : List Assigned) (marks : List Bool) (but : Lit) (atom clause : ℕ) (l : Lit) : Type 0 where
+  pub entry : Assigned
+  pub is : assigned es atom ≡ Some entry
+  pub reason : entry.reason ≡ Some clause
+  pub literal : l ≡ negated_lit entry.literal
+  pub marked : is_marked marks atom ≡ true
+  pub other : atom ≢ but.atom
+
 -- one of the literals is of the greatest level of those beside this one, where there are others
 abbrev pub IsDeepestBut : List Assigned → Lit → List Lit → Option Lit → Type 0
 IsDeepestBut es but c None = (m : Lit) → Contains c m → m ≡ but
@@ -129,6 +138,7 @@ pub record IsLearned (s : LogState) (es : List Assigned) (l : Learned) : Type 0 
   pub has : Contains (literals_at s l.clause) l.literal
   pub last : level_on es l.literal.atom ≡ depth es
   pub earlier : l.level < depth es
+  pub kept : l.keep ≤ l.level
   pub others : (m : Lit) → Contains (literals_at s l.clause) m → m ≢ l.literal → level_on es m.atom ≤ l.level
   pub beside : IsBeside es (literals_at s l.clause) l.literal l.level l.beside
 

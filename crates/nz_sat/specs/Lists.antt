@@ -1,18 +1,11 @@
 -- The lists of watches by literal.
-use Rattle.std.specs.Prelude.{◌≡◌, ◌≢◌, ℕ, ◌+◌, ◌*◌, ◌<◌, ◌≤◌, Bool, List, [], length, Some, None, slice_get, slice_set, vec_capacity, if◌then◌else◌}
+use Rattle.std.specs.Prelude.{◌≡◌, ◌≢◌, ℕ, ◌+◌, ◌<◌, ◌≤◌, List, [], length, Some, None, slice_get, slice_set, vec_capacity}
 use Rattle.std.specs.declared.vec.Vec.{Vec}
 use Rattle.std.specs.declared.alloc.Global.{Global}
 use Rattle.nz_log.specs.declared.lits.Lit.{Lit}
+use Rattle.nz_log.specs.Codes.{code_of}
 use Rattle.nz_sat.specs.declared.watches.Watch.{Watch}
 use Rattle.nz_sat.specs.declared.watches.Watches.{Watches}
-
--- 1 for the atom itself
-abbrev pub sign_bit : Bool → ℕ
-sign_bit sign = if sign then 1 else 0
-
--- The number of a literal: those of an atom and of its negation are neighbours.
-abbrev pub code_of : Lit → ℕ
-code_of l = 2 * l.atom + sign_bit l.sign
 
 -- the list of a number
 abbrev pub list_at : List (Vec Watch Global) → ℕ → List Watch

@@ -1,5 +1,5 @@
 -- A search under way.
-use Rattle.std.specs.Prelude.{◌≡◌, ℕ, suc, ◌<◌, ◌≤◌, ◌++◌, ◌⊎◌, Bool, All, Contains, List, [], ◌∷◌, length, map, Option, Some, None, IfErr, IfOk, IfSome, IsSome, unwrap_or}
+use Rattle.std.specs.Prelude.{◌≡◌, ◌==◌, if◌then◌else◌, ℕ, suc, ◌<◌, ◌≤◌, ◌++◌, ◌⊎◌, Bool, All, Contains, List, [], ◌∷◌, length, map, Option, Some, None, IfErr, IfOk, IfSome, IsSome, unwrap_or}
 use Rattle.std.specs.declared.result.Result.{Result}
 use Rattle.nz_spec.specs.terms.Table.{Node}
 use Rattle.nz_spec.specs.clauses.Literal.{StandOnce}
@@ -190,11 +190,11 @@ pub record Carries (s s' : Search) (work work' : WorkList Note) : Type 0 where
 
 -- the line of a learned clause
 abbrev pub learned_line : List ℕ → LogState → Learned → WorkLine Note
-learned_line atoms log l = UnitLine (LearnedEntry l.level (map (numbered atoms) (literals_at log l.clause)))
+learned_line atoms log l = UnitLine (LearnedEntry l.keep (map (numbered atoms) (literals_at log l.clause)))
 
--- the entries where a learned clause asserts its literal
+-- the entries up to the level that is kept, and the literal of a learned clause where that is asserted there
 abbrev pub after_learned : List Assigned → Learned → List Assigned
-after_learned es l = below l.level es ++ implied (below l.level es) l.literal l.clause ∷ []
+after_learned es l = if l.keep == l.level then below l.keep es ++ implied (below l.keep es) l.literal l.clause ∷ [] else below l.keep es
 
 -- A clause was learned and noted, and what it makes true stands on the trail.
 pub record Learns (log : LogState) (held : List Held) (s s' : Search) (work work' : WorkList Note) : Type 0 where

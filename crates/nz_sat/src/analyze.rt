@@ -1,17 +1,18 @@
 //! Conflict analysis: the clause that is learned from a conflict, and the one that refutes the assumed literals.
-ghost use Rattle.std.specs.Prelude.{◌≡◌, ◌≢◌, ℕ, ◌<◌, ◌≤◌, true, false, All, Contains, length, IfOk, MatchOption, OnOk, option_map};
+ghost use Rattle.std.specs.Prelude.{◌≡◌, ◌≢◌, ℕ, ◌<◌, ◌≤◌, true, false, All, Contains, length, IfOk, IfSome, MatchOption, OnOk, option_map};
 ghost use Rattle.nz_log.specs.declared.lits.Lit.{Lit};
 ghost use Rattle.nz_log.specs.Logs.{IsLive, chained, literals_at};
 ghost use Rattle.nz_sat.specs.Clauses.{IsFalsified, IsImplied};
 ghost use Rattle.nz_log.specs.Growth.{Grows};
-ghost use Rattle.nz_sat.specs.Conflicts.{AreLinks, AreUnmarked, HasLast, HasTwoLast, IsBeside, IsChain, IsDeepestBut, IsGreatest, IsLearnable, IsLearned, IsLoneLast, MarksCounted, RefutesFrom, StaysSound, is_marked};
+ghost use Rattle.nz_sat.specs.Conflicts.{AreLinks, AreUnmarked, HasLast, HasTwoLast, IsFalseBy, IsBeside, IsChain, IsDeepestBut, IsGreatest, IsLearnable, IsLearned, IsLoneLast, MarksCounted, RefutesFrom, StaysSound, is_marked};
 ghost use Rattle.nz_sat.specs.Trails.{EachBehind, IsTrail, depth, level_on};
 
 use crate::order::Order;
+use crate::redundancy::Redundancy;
 use crate::trail::Trail;
 use nz_base::Memory;
 use nz_log::laws::tells_lits;
-use nz_log::{ClauseId, Link, Lit, Log};
+use nz_log::{AtomId, ClauseId, Link, Lit, Log};
 use std::alloc::Global;
 
 /// A learned clause, in which each literal is false, with the literal that it asserts.
@@ -20,8 +21,10 @@ pub struct Learned {
     pub clause: ClauseId,
     /// The only literal of the last level.
     pub literal: Lit,
-    /// The greatest level of the others.
+    /// The greatest level of the others: where it asserts that literal.
     pub level: usize,
+    /// The level to which the search goes back, at most that one.
+    pub keep: usize,
     /// Another literal, of that level.
     pub beside: Option<Lit>,
 }
@@ -33,6 +36,17 @@ impl Learned {
     {
         let other = self.beside?;
         Some((self.literal, other))
+    }
+
+    /// The same, where the search maybe begins anew, from no decision.
+    pub fn kept(self, anew: bool) -> Learned
+        ensures same { result ≡ record self { keep = result.keep } }
+        ensures kept { result.keep ≤ self.keep }
+    {
+        Learned {
+            keep: if anew { 0 } else { self.keep },
+            ..self
+        }
     }
 }
 
@@ -57,10 +71,11 @@ fn mark(
 {
     let mut count = 0;
     for literal in literals {
-        if trail.value(*literal) == Some(false) && !seen[literal.atom] {
-            seen[literal.atom] = true;
-            order.raise(literal.atom);
-            if trail.level_of(literal.atom) == level {
+        let atom = literal.atom();
+        if trail.value(*literal) == Some(false) && !seen[atom] {
+            seen[atom] = true;
+            order.raise(atom);
+            if trail.level_of(atom) == level {
                 count += 1;
             }
         }
@@ -75,7 +90,7 @@ fn unmark(seen: &mut [bool], literals: &[Lit])
     ensures unmarked { All (λ l. is_marked seen.new l.atom ≡ false) literals.now }
 {
     for literal in literals {
-        seen[literal.atom] = false;
+        seen[literal.atom()] = false;
     }
 }
 
@@ -105,11 +120,12 @@ fn chain_back(
     let mut left = mark(trail, order, seen, log.clause(falsified), level);
     for i in (0..count).rev() {
         let entry = trail.entry(i);
-        if seen[entry.literal.atom] {
+        let atom = entry.literal.atom();
+        if seen[atom] {
             let literal = entry.literal.not();
             match entry.reason {
                 Some(clause) if left > 1 => {
-                    seen[entry.literal.atom] = false;
+                    seen[atom] = false;
                     left -= 1;
                     left += mark(trail, order, seen, log.clause(clause), level);
                     links.push(Link { clause, literal })?;
@@ -121,6 +137,50 @@ fn chain_back(
     unreachable!()
 }
 
+/// Resolves the clause of a chain with the reasons of its redundant literals.
+fn shorten(
+    log: &Log,
+    trail: &Trail,
+    order: &mut Order,
+    seen: &mut [bool],
+    redundancy: &mut Redundancy,
+    falsified: ClauseId,
+    chain: Chain,
+) -> Result<Chain, Memory>
+    requires live { IsLive log.now falsified }
+    requires order { IsTrail trail.now }
+    requires implied { EachBehind (IsImplied log.now) trail.now.entries }
+    requires size { length seen.old ≡ trail.now.size }
+    requires chain { IsChain log.now trail.now.entries falsified seen.old chain }
+    ensures chain { IfOk result (λ c. IsChain log.now trail.now.entries falsified seen.new c) }
+{
+    tells_lits();
+    let Chain { mut links, literal } = chain;
+    redundancy.look(log, trail, seen, falsified, &links)?;
+    while let Some(atom) = redundancy.next() {
+        if let Some((clause, redundant)) = its_reason(trail, seen, literal, atom) {
+            seen[atom] = false;
+            mark(trail, order, seen, log.clause(clause), 0);
+            links.push(Link {
+                clause,
+                literal: redundant,
+            })?;
+        }
+    }
+    Ok(Chain { links, literal })
+}
+
+/// The reason of a marked atom, and its false literal, where that isn't this one.
+fn its_reason(trail: &Trail, seen: &[bool], but: Lit, atom: AtomId) -> Option<(ClauseId, Lit)>
+    ensures reason { IfSome result (λ p. IsFalseBy trail.now.entries seen.now but atom p.0 p.1) }
+{
+    let entry = trail.assigned(atom)?;
+    if atom == but.atom() || seen.get(atom) != Some(&true) {
+        return None;
+    }
+    Some((entry.reason?, entry.literal.not()))
+}
+
 /// One of these literals that is of the greatest level of those beside this one.
 fn deepest_but(trail: &Trail, literals: &[Lit], but: Lit) -> Option<Lit>
     ensures deepest { IsDeepestBut trail.now.entries but literals.now result }
@@ -129,7 +189,7 @@ fn deepest_but(trail: &Trail, literals: &[Lit], but: Lit) -> Option<Lit>
     let mut deepest: Option<Lit> = None;
     let mut level = 0;
     for literal in literals {
-        let own = trail.level_of(literal.atom);
+        let own = trail.level_of(literal.atom());
         if !literal.is(but) && (deepest.is_none() || level < own) {
             deepest = Some(*literal);
             level = own;
@@ -142,18 +202,20 @@ fn deepest_but(trail: &Trail, literals: &[Lit], but: Lit) -> Option<Lit>
 fn asserting(trail: &Trail, literals: &[Lit], clause: ClauseId, literal: Lit) -> Learned
     ensures clause { result.clause ≡ clause }
     ensures literal { result.literal ≡ literal }
+    ensures kept { result.keep ≡ result.level }
     ensures others { (m : Lit) → Contains literals.now m → m ≢ literal → level_on trail.now.entries m.atom ≤ result.level }
     ensures beside { IsBeside trail.now.entries literals.now literal result.level result.beside }
 {
     let beside = deepest_but(trail, literals, literal);
     let level = match beside {
-        Some(other) => trail.level_of(other.atom),
+        Some(other) => trail.level_of(other.atom()),
         None => 0,
     };
     Learned {
         clause,
         literal,
         level,
+        keep: level,
         beside,
     }
 }
@@ -164,7 +226,7 @@ pub fn greatest_level(trail: &Trail, literals: &[Lit]) -> usize
 {
     let mut level = 0;
     for literal in literals {
-        level = level.max(trail.level_of(literal.atom));
+        level = level.max(trail.level_of(literal.atom()));
     }
     level
 }
@@ -178,7 +240,7 @@ fn lone_last(trail: &Trail, literals: &[Lit]) -> Option<Lit>
     let last = trail.level();
     let mut lone: Option<Lit> = None;
     for literal in literals {
-        if trail.level_of(literal.atom) == last {
+        if trail.level_of(literal.atom()) == last {
             match lone {
                 Some(other) => {
                     if !other.is(*literal) {
@@ -199,11 +261,13 @@ fn learn_from(
     trail: &Trail,
     order: &mut Order,
     seen: &mut [bool],
+    redundancy: &mut Redundancy,
     falsified: ClauseId,
 ) -> Result<Learned, Memory>
     requires live { IsLive log.old falsified }
     requires falsified { IsFalsified trail.now.entries (literals_at log.old falsified) }
     requires two { HasTwoLast trail.now.entries (literals_at log.old falsified) }
+    requires order { IsTrail trail.now }
     requires implied { EachBehind (IsImplied log.old) trail.now.entries }
     requires decided { 0 < depth trail.now.entries }
     requires size { length seen.old ≡ trail.now.size }
@@ -214,7 +278,8 @@ fn learn_from(
     ensures unmarked { OnOk result (AreUnmarked seen.new) }
 {
     tells_lits();
-    let Chain { links, literal } = chain_back(alloc, log, trail, order, seen, falsified)?;
+    let chain = chain_back(alloc, log, trail, order, seen, falsified)?;
+    let Chain { links, literal } = shorten(log, trail, order, seen, redundancy, falsified, chain)?;
     order.decay();
     let clause = log.chain(falsified, &links)?;
     let literals = log.clause(clause);
@@ -229,6 +294,7 @@ pub fn learned_clause(
     trail: &Trail,
     order: &mut Order,
     seen: &mut [bool],
+    redundancy: &mut Redundancy,
     falsified: ClauseId,
 ) -> Result<Learned, Memory>
     requires live { IsLive log.old falsified }
@@ -248,7 +314,7 @@ pub fn learned_clause(
     let literals = log.clause(falsified);
     match lone_last(trail, literals) {
         Some(literal) => Ok(asserting(trail, literals, falsified, literal)),
-        None => learn_from(alloc, log, trail, order, seen, falsified),
+        None => learn_from(alloc, log, trail, order, seen, redundancy, falsified),
     }
 }
 
@@ -274,7 +340,8 @@ fn chain_to_assumed(
     mark(trail, order, seen, log.clause(falsified), 0);
     for i in (0..count).rev() {
         let entry = trail.entry(i);
-        if seen[entry.literal.atom] {
+        let atom = entry.literal.atom();
+        if seen[atom] {
             if let Some(clause) = entry.reason {
                 mark(trail, order, seen, log.clause(clause), 0);
                 links.push(Link {

@@ -91,10 +91,10 @@ fn note_told(atoms: &Atoms, literal: Lit, work: &mut Work<Note>) -> Result<(), M
     ensures noted { OnOk result (work.new ≡ with_line work.old (told_line atoms.now literal)) }
     ensures err { OnErr result (work.new ≡ work.old) }
 {
-    match atoms.number(literal.atom) {
+    match atoms.number(literal.atom()) {
         Some(atom) => work.note(Note::Told {
             atom,
-            sign: literal.sign,
+            sign: literal.sign(),
         }),
         None => unreachable!(),
     }
@@ -154,7 +154,7 @@ fn tell<T: Theory>(
     legal_work_does_not_repeat();
     while bounds.told < trail.len() {
         let literal = trail.entry(bounds.told).literal;
-        if bounds.has(literal.atom) {
+        if bounds.has(literal.atom()) {
             let clash = tell_one(log, atoms, literal, theory, work)?;
             if clash.is_some() {
                 return Ok(clash);

@@ -10,6 +10,8 @@ mod heap;
 mod order;
 mod propagate;
 mod propagation;
+mod redundancy;
+mod restarts;
 mod sat;
 mod search;
 mod trail;

@@ -48,10 +48,10 @@ impl Order {
 
     /// Keeps the sign of a literal that is taken off the trail: its atom is undecided again.
     pub fn keep(&mut self, literal: Lit) {
-        if let Some(sign) = self.signs.get_mut(literal.atom) {
-            *sign = literal.sign;
+        if let Some(sign) = self.signs.get_mut(literal.atom()) {
+            *sign = literal.sign();
         }
-        self.heap.insert(literal.atom);
+        self.heap.insert(literal.atom());
     }
 
     /// An atom takes part in a conflict.

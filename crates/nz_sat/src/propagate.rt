@@ -102,10 +102,11 @@ impl Propagation {
         if trail.value(watch.blocker) == Some(true) {
             return Ok(Visit::Stays);
         }
+        let key = watch.key as usize;
         if watch.is_short {
-            return Ok(self.settle(log, trail, watch.key, watch.blocker));
+            return Ok(self.settle(log, trail, key, watch.blocker));
         }
-        let clause = self.clauses[watch.key];
+        let clause = self.clauses[key];
         let other = clause.other(literal);
         if trail.value(other) == Some(true) {
             self.watches.block(literal, i, other);
@@ -113,7 +114,7 @@ impl Propagation {
         }
         match another(trail, log.clause(clause.id), other) {
             Some(next) => self.rewatch(log, trail, literal, i, next, other),
-            None => Ok(self.settle(log, trail, watch.key, other)),
+            None => Ok(self.settle(log, trail, key, other)),
         }
     }
 
@@ -141,6 +142,7 @@ impl Propagation {
         self.watches.reserve(next)?;
         self.watches.put(next, watch(key, other, false));
         self.watches.remove(literal, i);
+        let key = key as usize;
         let clause = self.clauses[key].with(literal, next);
         self.clauses[key] = clause;
         Ok(Visit::Moved)

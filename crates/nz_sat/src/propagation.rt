@@ -3,7 +3,7 @@ ghost use Rattle.std.specs.Prelude.{◌≡◌, ◌≢◌, ℕ, ◌*◌, ◌<◌,
 ghost use Rattle.nz_log.specs.declared.lits.Lit.{Lit};
 ghost use Rattle.nz_log.specs.Logs.{IsLive, LogState, literals_at};
 ghost use Rattle.nz_sat.specs.Clauses.{HasTrue, IsFalsified, IsLoneIn, Visits};
-ghost use Rattle.nz_sat.specs.Lists.{code_of};
+ghost use Rattle.nz_log.specs.Codes.{code_of};
 ghost use Rattle.nz_sat.specs.Trails.{TrailState};
 ghost use Rattle.nz_sat.specs.Watched.{AreWatched, HasClause, MayHold, watch_state};
 
@@ -13,6 +13,9 @@ use crate::watches::{Watch, Watches};
 use nz_base::Memory;
 use nz_log::{ClauseId, Lit, Log};
 use std::alloc::Global;
+
+// How many clauses there are at most that are watched.
+const MOST_WATCHED: usize = 1 << 32;
 
 /// The clauses of a search, each with two watched literals, or with none where it has no two different ones.
 #[derive(Debug, Drop)]
@@ -79,7 +82,7 @@ impl Propagation {
     ///
     /// # Errors
     ///
-    /// `Memory`. Then the same clauses are held as before.
+    /// `Memory`, also where there are as many as keys. Then the same clauses are held as before.
     fn watch(&mut self, log: &Log, id: ClauseId, first: Lit, second: Lit) -> Result<(), Memory>
         requires live { IsLive log.now id }
         requires first { code_of first < length self.old.watches.lists.items }
@@ -92,16 +95,19 @@ impl Propagation {
         ensures lone { self.new.lone ≡ self.old.lone }
         ensures head { self.new.head ≡ self.old.head }
     {
+        let key = self.clauses.len();
+        if key >= MOST_WATCHED {
+            return Err(Memory);
+        }
         self.clauses.reserve(1)?;
         self.watches.reserve(first)?;
         self.watches.reserve(second)?;
         let is_short = log.clause(id).len() == 2;
-        let key = self.clauses.len();
         self.clauses
             .push(WatchedClause { id, first, second })
             .unwrap();
-        self.watches.put(first, watch(key, second, is_short));
-        self.watches.put(second, watch(key, first, is_short));
+        self.watches.put(first, watch(key as u32, second, is_short));
+        self.watches.put(second, watch(key as u32, first, is_short));
         Ok(())
     }
 
@@ -150,7 +156,7 @@ fn assert_one(log: &Log, trail: &mut Trail, id: ClauseId) -> bool
 }
 
 /// A watch of the clause of this key.
-pub(crate) fn watch(key: usize, blocker: Lit, is_short: bool) -> Watch
+pub(crate) fn watch(key: u32, blocker: Lit, is_short: bool) -> Watch
     ensures watch { result ≡ record { key = key; blocker = blocker; is_short = is_short } }
 {
     Watch {

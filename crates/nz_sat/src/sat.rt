@@ -156,8 +156,8 @@ impl<T: Theory> Sat<T> {
     pub fn truth(&self, lit: Lit) -> Option<bool>
         ensures truth { result ≡ literal_truth self.now lit }
     {
-        match self.truths.get(lit.atom) {
-            Some(Some(truth)) => Some(*truth == lit.sign),
+        match self.truths.get(lit.atom()) {
+            Some(Some(truth)) => Some(*truth == lit.sign()),
             _ => None,
         }
     }

@@ -1,5 +1,5 @@
 //! The search: decisions, what follows from them, and what each conflict teaches.
-ghost use Rattle.std.specs.Prelude.{◌≡◌, ℕ, ◌<◌, ◌≤◌, ◌+◌, ◌++◌, ◌∷◌, [], All, Contains, List, None, length, map, min, take, vec_capacity, vec_len, IfErr, IfOk, IfSome, IsSome, OnErr, OnOk};
+ghost use Rattle.std.specs.Prelude.{◌≡◌, ℕ, ◌^◌, ◌<◌, ◌≤◌, ◌+◌, ◌++◌, ◌∷◌, [], All, Contains, List, None, length, map, min, take, vec_capacity, vec_len, IfErr, IfOk, IfSome, IsSome, OnErr, OnOk};
 ghost use Rattle.nz_spec.specs.simplex.Bland.{Point};
 ghost use Rattle.nz_spec.specs.terms.Form as form;
 ghost use Rattle.nz_spec.specs.clauses.Literal as spec;
@@ -28,6 +28,8 @@ use crate::clauses::Held;
 use crate::consult::{Bounds, consult};
 use crate::order::Order;
 use crate::propagation::Propagation;
+use crate::redundancy::Redundancy;
+use crate::restarts::Restarts;
 use crate::trail::Trail;
 use nz_base::{Entry, Literals, Memory, Work};
 use nz_log::laws::{clauses_are_true, tells_lits};
@@ -47,6 +49,8 @@ pub struct Search {
     order: Order,
     // By the numbers of atoms, the marks of the conflict analysis: none between two conflicts.
     seen: Vec<bool>,
+    redundancy: Redundancy,
+    restarts: Restarts,
     bounds: Bounds,
 }
 
@@ -74,6 +78,8 @@ impl Search {
             propagation,
             order,
             seen: vec![in alloc; false; size]?,
+            redundancy: Redundancy::new(alloc, size)?,
+            restarts: Restarts::new(),
             bounds,
         })
     }
@@ -102,7 +108,7 @@ impl Search {
         ensures comes { (held : List Held) (assumed : List Lit) → MayAssume log.now held assumed literal self.old → IfOk result (Assumes log.now held assumed literal self.old.trail.entries self.new) }
     {
         tells_lits();
-        match self.trail.assigned(literal.atom) {
+        match self.trail.assigned(literal.atom()) {
             Some(entry) if entry.literal.is(literal) => Ok(None),
             Some(entry) => Ok(entry.reason),
             None => {
@@ -178,7 +184,7 @@ impl Search {
     {
         let mut untold = 0;
         while let Some(literal) = self.trail.pop_above(level) {
-            untold += self.bounds.told_at(self.trail.len(), literal.atom);
+            untold += self.bounds.told_at(self.trail.len(), literal.atom());
             self.order.keep(literal);
         }
         self.bounds.cut(self.trail.len());
@@ -305,34 +311,37 @@ impl Search {
         note(
             work,
             Entry::Learned {
-                keep: learned.level,
+                keep: learned.keep,
                 lits,
             },
         )
     }
 
-    /// Goes back to where a learned clause asserts its literal, and puts that on the trail.
+    /// Goes back to the level that is kept, and where a learned clause asserts its literal there, puts that on the trail.
     fn go_back<T: Theory>(&mut self, theory: &mut T, learned: Learned)
-        requires free { assigned (below learned.level self.old.trail.entries) learned.literal.atom ≡ None }
+        requires free { assigned (below learned.keep self.old.trail.entries) learned.literal.atom ≡ None }
         requires within { learned.literal.atom < self.old.trail.size }
         requires told { T.has_told theory.old (told_lits self.old.bounds self.old.trail.entries) }
         ensures rest { self.new ≡ record self.old { trail = self.new.trail; propagation = self.new.propagation; order = self.new.order; bounds = self.new.bounds } }
         ensures size { self.new.trail.size ≡ self.old.trail.size }
         ensures order { IsTrail self.new.trail }
         ensures entries { self.new.trail.entries ≡ after_learned self.old.trail.entries learned }
-        ensures looked { self.new.propagation ≡ record self.old.propagation { head = min self.old.propagation.head (length (below learned.level self.old.trail.entries)) } }
-        ensures bounds { self.new.bounds ≡ record self.old.bounds { told = min self.old.bounds.told (length (below learned.level self.old.trail.entries)) } }
+        ensures looked { self.new.propagation ≡ record self.old.propagation { head = min self.old.propagation.head (length (below learned.keep self.old.trail.entries)) } }
+        ensures bounds { self.new.bounds ≡ record self.old.bounds { told = min self.old.bounds.told (length (below learned.keep self.old.trail.entries)) } }
         ensures told { T.has_told theory.new (told_lits self.new.bounds self.new.trail.entries) }
         ensures keeps { Keeps (state_of T.is_over T.has_told T.is_feasible T.is_of T.is_at theory.old) (state_of T.is_over T.has_told T.is_feasible T.is_of T.is_at theory.new) }
         ensures at { (ns : List Node) (fs : List (List form.Part)) (ls : List spec.Literal) (x : Point) → T.is_at theory.old ns fs ls x → length ls ≡ length (told_lits self.old.bounds self.old.trail.entries)
             → T.is_at theory.new ns fs (take (length (told_lits self.new.bounds self.new.trail.entries)) ls) x }
     {
-        self.cut(theory, learned.level);
-        self.trail.imply(learned.literal, learned.clause);
+        self.cut(theory, learned.keep);
+        self.trail.len();
+        if learned.keep == learned.level {
+            self.trail.imply(learned.literal, learned.clause);
+        }
     }
 
     /// Learns from a clause in which each literal is false, one of them of the last level: notes the clause learned, goes back to
-    /// where it makes a literal true, and holds it.
+    /// where it makes a literal true, or to no decision where the search begins anew, and holds it.
     pub(crate) fn learn<T: Theory>(
         &mut self,
         log: &mut Log,
@@ -364,8 +373,10 @@ impl Search {
             &self.trail,
             &mut self.order,
             &mut self.seen,
+            &mut self.redundancy,
             falsified,
-        )?;
+        )?
+        .kept(self.restarts.conflict());
         self.note_learned(log, held, work, learned)?;
         hold(log, held, learned.clause);
         self.go_back(theory, learned);
@@ -388,6 +399,7 @@ impl Search {
         requires free { assigned self.old.trail.entries atom ≡ None }
         requires named { Contains self.old.atoms atom }
         requires within { atom < self.old.trail.size }
+        requires small { atom < 2 ^ 31 }
         ensures rest { self.new ≡ record self.old { trail = self.new.trail } }
         ensures decides { OnOk result (Decides self.old self.new atom work.old work.new) }
         ensures free { OnOk result (unit_count work.old.lines < work.old.limit) }
@@ -400,7 +412,7 @@ impl Search {
         };
         let sign = self.order.sign(atom);
         note(work, Entry::Decision { atom: number, sign })?;
-        self.trail.decide(Lit { atom, sign });
+        self.trail.decide(Lit::new(atom, sign));
         Ok(())
     }
 }
@@ -457,8 +469,8 @@ fn by_numbers(alloc: Global, atoms: &Atoms, literals: &[Lit]) -> Result<Literals
 {
     let mut pairs = Vec::with_capacity(alloc, literals.len())?;
     for literal in literals {
-        match atoms.number(literal.atom) {
-            Some(number) => pairs.push((number, literal.sign))?,
+        match atoms.number(literal.atom()) {
+            Some(number) => pairs.push((number, literal.sign()))?,
             None => unreachable!(),
         }
     }

@@ -24,6 +24,8 @@ pub struct Trail {
     entries: Vec<Assigned>,
     // By the numbers of atoms.
     by_atom: Vec<Option<Assigned>>,
+    // By the numbers of literals: whether each is true, where its atom is decided.
+    values: Vec<Option<bool>>,
 }
 
 impl Model for Trail {
@@ -35,7 +37,7 @@ impl Model for Trail {
 
     ghost view = { λ t. trail_of t.entries.items t.by_atom.items };
 
-    ghost invariant = { λ t. IsTabled t.entries t.by_atom.items };
+    ghost invariant = { λ t. IsTabled t.entries t.by_atom.items t.values.items };
 }
 
 impl Trail {
@@ -43,9 +45,13 @@ impl Trail {
     pub fn new(alloc: Global, size: usize) -> Result<Trail, Memory>
         ensures empty { IfOk result (λ t. t ≡ empty_trail size) }
     {
+        let Some(literals) = size.checked_mul(2) else {
+            return Err(Memory);
+        };
         Ok(Trail {
             entries: Vec::with_capacity(alloc, size)?,
             by_atom: vec![in alloc; None; size]?,
+            values: vec![in alloc; None; literals]?,
         })
     }
 
@@ -80,8 +86,8 @@ impl Trail {
     pub fn value(&self, literal: Lit) -> Option<bool>
         ensures value { HasValue self.now.entries literal result }
     {
-        match self.assigned(literal.atom) {
-            Some(entry) => Some(entry.literal.sign == literal.sign),
+        match self.values.get(literal.code()) {
+            Some(value) => *value,
             None => None,
         }
     }
@@ -115,7 +121,13 @@ impl Trail {
         ensures put { self.new ≡ with_entry self.old entry }
         ensures order { IsTrail self.new }
     {
-        self.by_atom[entry.literal.atom] = Some(entry);
+        let literal = &entry.literal;
+        let atom = literal.atom();
+        let code = literal.code();
+        let opposite = literal.not().code();
+        self.by_atom[atom] = Some(entry);
+        self.values[code] = Some(true);
+        self.values[opposite] = Some(false);
         self.entries.push(entry).unwrap();
     }
 
@@ -175,7 +187,9 @@ impl Trail {
             return None;
         }
         self.entries.pop();
-        self.by_atom[last.literal.atom] = None;
+        self.by_atom[last.literal.atom()] = None;
+        self.values[last.literal.code()] = None;
+        self.values[last.literal.not().code()] = None;
         Some(last.literal)
     }
 
@@ -192,7 +206,7 @@ fn sign_of(entry: &Option<Assigned>) -> Option<bool>
     ensures sign { result ≡ option_map (λ e. e.literal.sign) entry.now }
 {
     match entry {
-        Some(assigned) => Some(assigned.literal.sign),
+        Some(assigned) => Some(assigned.literal.sign()),
         None => None,
     }
 }

@@ -95,6 +95,7 @@ impl Search {
         ensures refuted { IfOk result (λ r. IfSome r (λ id. IsLive log.new id × ((assumed : List Lit) → All (IsAssumed assumed) self.old.trail.entries → Refutes assumed (literals_at log.new id)))) }
     {
         legal_work_goes_on();
+        log.atom_count();
         self.decide(work, atom)?;
         self.settle(log, held, theory, work)
     }

@@ -1,6 +1,7 @@
 //! For each literal the clauses in which it is watched.
-ghost use Rattle.std.specs.Prelude.{◌≡◌, ◌≢◌, ℕ, ◌^◌, ◌<◌, ◌≤◌, [], ◌∷◌, ◌++◌, length, OnOk, slice_get, Some};
-ghost use Rattle.nz_sat.specs.Lists.{Blocks, HasRoom, TakesOut, code_of, list_at, list_of};
+ghost use Rattle.std.specs.Prelude.{◌≡◌, ◌≢◌, ℕ, ◌<◌, ◌≤◌, [], ◌∷◌, ◌++◌, length, OnOk, slice_get, Some};
+ghost use Rattle.nz_log.specs.Codes.{code_of};
+ghost use Rattle.nz_sat.specs.Lists.{Blocks, HasRoom, TakesOut, list_at, list_of};
 
 use nz_base::Memory;
 use nz_log::Lit;
@@ -9,8 +10,8 @@ use std::alloc::Global;
 /// A clause in which a literal is watched.
 #[derive(Clone, Copy, Debug, PartialEq, Eq)]
 pub struct Watch {
-    /// The key of the clause.
-    pub key: usize,
+    /// The key of the clause, in 32 bits, since watches are what propagation reads most.
+    pub key: u32,
     /// Another literal of the clause: where it is true, nothing is to do.
     pub blocker: Lit,
     /// Whether these two are all its literals.
@@ -55,7 +56,7 @@ impl Watches {
         requires within { code_of literal < length self.now.lists.items }
         ensures count { result ≡ length (list_of self.now literal) }
     {
-        self.lists[code(literal)].len()
+        self.lists[literal.code()].len()
     }
 
     /// The watch of a place in the list of a literal.
@@ -64,7 +65,7 @@ impl Watches {
         requires inside { i < length (list_of self.now literal) }
         ensures watch { slice_get (list_of self.now literal) i ≡ Some result }
     {
-        self.lists[code(literal)][i]
+        self.lists[literal.code()][i]
     }
 
     /// Makes room for one more in the list of a literal.
@@ -79,7 +80,7 @@ impl Watches {
         ensures room { OnOk result (HasRoom self.new.lists.items (code_of literal)) }
         ensures others { (t : ℕ) → HasRoom self.old.lists.items t → HasRoom self.new.lists.items t }
     {
-        self.lists[code(literal)].reserve(1)?;
+        self.lists[literal.code()].reserve(1)?;
         Ok(())
     }
 
@@ -92,7 +93,7 @@ impl Watches {
         ensures others { (t : ℕ) → t ≢ code_of literal → list_at self.new.lists.items t ≡ list_at self.old.lists.items t }
         ensures others_room { (t : ℕ) → t ≢ code_of literal → HasRoom self.old.lists.items t → HasRoom self.new.lists.items t }
     {
-        self.lists[code(literal)].push(watch).unwrap();
+        self.lists[literal.code()].push(watch).unwrap();
     }
 
     /// Takes the watch of a place out of the list of a literal. The last one takes its place.
@@ -103,7 +104,7 @@ impl Watches {
         ensures removed { TakesOut i (list_of self.old literal) (list_of self.new literal) }
         ensures others { (t : ℕ) → t ≢ code_of literal → list_at self.new.lists.items t ≡ list_at self.old.lists.items t }
     {
-        self.lists[code(literal)].swap_remove(i);
+        self.lists[literal.code()].swap_remove(i);
     }
 
     /// Puts another blocking literal beside the clause of a place in the list of a literal.
@@ -114,14 +115,6 @@ impl Watches {
         ensures blocked { Blocks i blocker (list_of self.old literal) (list_of self.new literal) }
         ensures others { (t : ℕ) → t ≢ code_of literal → list_at self.new.lists.items t ≡ list_at self.old.lists.items t }
     {
-        self.lists[code(literal)][i].blocker = blocker;
+        self.lists[literal.code()][i].blocker = blocker;
     }
-}
-
-/// The number of a literal: those of an atom and of its negation are neighbours.
-fn code(literal: Lit) -> usize
-    requires small { code_of literal < 2 ^ 64 }
-    ensures code { result ≡ code_of literal }
-{
-    2 * literal.atom + if literal.sign { 1 } else { 0 }
 }

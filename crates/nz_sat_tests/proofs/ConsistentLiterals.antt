@@ -1,31 +1,24 @@
 -- Literals none of which is the negation of another.
-use Rattle.std.proofs.Common.{◌≡◌, ℕ, ◌+◌, ◌<◌, ◌≤◌, ◌==◌, ◌&&◌, Bool, true, false, true≢false, List, length, get_or, inl, inr, refl, sym, ap, subst, ◌∙◌, arith}
+use Rattle.std.proofs.Common.{◌≡◌, ℕ, ◌+◌, ◌<◌, ◌≤◌, ◌==◌, true, false, true≢false, List, length, get_or, inl, inr, refl, sym, ap, subst, ◌∙◌, arith}
 use Rattle.std.specs.Prelude.{Contains}
-use Rattle.std.proofs.Math.Bool.{beq}
 use Rattle.std.proofs.lemmas.Bool.{cases_eq, eq-eqb, eqb-true}
 use Rattle.std.proofs.lemmas.List.{get_or_default}
 use Rattle.std.proofs.lemmas.List.Elements.{All-contains}
 use Rattle.nz_log.specs.declared.lits.Lit.{Lit}
+use Rattle.nz_log.specs.Codes.{code_of}
 use Rattle.nz_log.specs.Lits.{negated_lit}
-
-same_sign : (s : Bool) → beq s s ≡ true
-same_sign true = refl
-same_sign false = refl
-
-same_itself : (l : Lit) → ((l.atom == l.atom) && beq l.sign l.sign) ≡ true
-same_itself l = ap (λ (b : Bool). b && beq l.sign l.sign) (eq-eqb l.atom l.atom refl) ∙ same_sign l.sign
 
 -- none so far has its negation among these, nor has one more
 pub one_consistent : (ls : List Lit) (i : ℕ) (n e : Lit) → i < length ls → n ≡ negated_lit (get_or ls i e)
-    → ((k : ℕ) (d : Lit) → 0 ≤ k → k < length ls → (((get_or ls k d).atom == n.atom) && beq (get_or ls k d).sign n.sign) ≡ false)
+    → ((k : ℕ) (d : Lit) → 0 ≤ k → k < length ls → (code_of (get_or ls k d) == code_of n) ≡ false)
     → ((k : ℕ) (d : Lit) → k < i → Contains ls (negated_lit (get_or ls k d)) → ⊥) → (k : ℕ) (d : Lit) → k < i + 1 → Contains ls (negated_lit (get_or ls k d)) → ⊥
 one_consistent ls i n e inside is others before k d small has =
     elim (cases_eq k i) [
       | inl same ↦
           let there : Contains ls n =
           subst (Contains ls) (ap negated_lit (ap (λ (j : ℕ). get_or ls j d) same ∙ get_or_default ls i d e inside) ∙ sym is) has in
-          true≢false (sym (same_itself n)
-          ∙ All-contains (λ (m : Lit). ((m.atom == n.atom) && beq m.sign n.sign) ≡ false) ls n (λ j x below. others j x (omega arith) below) there)
+          true≢false (sym (eq-eqb (code_of n) (code_of n) refl)
+          ∙ All-contains (λ (m : Lit). (code_of m == code_of n) ≡ false) ls n (λ j x below. others j x (omega arith) below) there)
       | inr differ ↦ before k d (omega (arith, differ)) has
     ]
 

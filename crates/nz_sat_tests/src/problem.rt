@@ -128,10 +128,7 @@ impl Problem {
     /// Whether a literal is true after the last search, where its term has a truth.
     pub fn truth(&self, literal: TermLit) -> Option<bool> {
         let atom = self.held.log.find_term(literal.term)?;
-        self.held.sat.truth(Lit {
-            atom,
-            sign: literal.sign,
-        })
+        self.held.sat.truth(Lit::new(atom, literal.sign))
     }
 }
 
@@ -276,7 +273,7 @@ fn are_on(literals: &[Lit], atoms: &[AtomId]) -> bool
     ensures among { OnTrue result (All (λ l. Contains atoms.now l.atom) literals.now) }
 {
     for i in 0..literals.len() {
-        if !atoms.contains(&literals[i].atom) {
+        if !atoms.contains(&literals[i].atom()) {
             return false;
         }
     }

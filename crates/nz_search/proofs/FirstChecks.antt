@@ -1,20 +1,18 @@
 -- A list without lines, of which a check may be made.
-use Rattle.std.proofs.Common.{◌≡◌, ◌⊎◌, ℕ, suc, ◌≤◌, ◌*◌, List, [], ◌∷◌, All, Contains, length, map, inl, refl, sym, subst, arith}
+use Rattle.std.proofs.Common.{◌≡◌, ◌⊎◌, ◌≤◌, ◌*◌, List, [], ◌∷◌, All, Contains, length, map, inl, refl, sym, subst, arith}
 use Rattle.std.proofs.lemmas.List.Elements.{All-contains, All-contains_itself, All-nil}
 use Rattle.nz_spec.specs.clauses.Literal.{Literal}
 use Rattle.nz_spec.specs.search.Atoms.{IsBoundOf, IsTruth}
-use Rattle.nz_spec.specs.search.Legal.{AreFew, Lead, events}
-use Rattle.nz_spec.specs.search.Search.{Task, at_first, no_point}
-use Rattle.nz_spec.specs.search.Work.{WorkLine, WorkList}
+use Rattle.nz_spec.specs.search.Legal.{AreFew, events}
+use Rattle.nz_spec.specs.search.Search.{Task, at_first}
+use Rattle.nz_spec.specs.search.Work.{WorkList}
 use Rattle.nz_spec.specs.terms.Table.{Node}
-use Rattle.nz_spec.specs.terms.Term as spec
 use Rattle.nz_term.specs.declared.term_lits.TermLit.{TermLit}
 use Rattle.nz_term.specs.TermLits.{literal_of}
 use Rattle.nz_search.specs.declared.note.Note.{Note}
 use Rattle.nz_search.specs.Asked.{ChecksMayStart, HasRoom, IsAskedOf, MayCheck}
 use Rattle.nz_search.specs.Levels.{Level}
 use Rattle.nz_search.specs.Standing.{search_after}
-use Rattle.nz_search.specs.Verdicts.{task_in}
 
 -- no atom is named
 none_named : (q : Task) (others : List Literal) → All (λ (l : Literal). Contains [] l × (IsTruth q.listed l ⊎ IsBoundOf q.numbering q.listed l → ⊥)) others → length others ≤ 2 * events q at_first

@@ -42,7 +42,7 @@ fn truth(prepared: &Prepared, term: TermId) -> Option<bool>
 {
     atoms_of_terms();
     let atom = prepared.log.find_term(term)?;
-    prepared.sat.truth(Lit { atom, sign: true })
+    prepared.sat.truth(Lit::new(atom, true))
 }
 
 /// Adds the truth of a term, where it is a constant of sort `Bool` that has one.

@@ -61,9 +61,6 @@ impl Log {
         ensures atoms { AreAtoms self.new.atoms }
     {
         let atom = self.term_atom(literal.term)?;
-        Ok(Lit {
-            atom,
-            sign: literal.sign,
-        })
+        Ok(Lit::new(atom, literal.sign))
     }
 }

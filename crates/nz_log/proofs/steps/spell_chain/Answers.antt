@@ -1,5 +1,5 @@
 -- The step of one link more.
-use Rattle.std.proofs.Common.{◌≡◌, List, ◌∷◌, [], ◌++◌, length, get_or, false, ◌∙◌, rules}
+use Rattle.std.proofs.Common.{◌≡◌, List, ◌∷◌, [], ◌++◌, length, get_or, ◌∙◌, rules}
 use Rattle.std.specs.Prelude.{slice_index}
 use Rattle.nz_spec.specs.clauses.Steps.{resolve_step}
 use Rattle.nz_spec.specs.terms.Table.{Node}
@@ -16,11 +16,11 @@ loop-link-preserved c =
     let places = c.args.places.now in
     let ks = c.args.links.now in
     let i = c.loop-link.link-index in
-    let d : Link = get_or ks i (record { clause = 0; literal = record { atom = 0; sign = false } }) in
+    let d : Link = c.link-item.result in
     let steps = c.loop-link.steps.items in
     let r = Resolve c.loop-link.current (slice_index places d.clause) c.literal.result in
     let pushed : c.push.new.self.items ≡ steps ++ r ∷ [] = search rules in
-    let read : d ≡ get_or ks i d = search rules in
+    let read : d ≡ get_or ks i d = c.link-item.is in
     let here : c.len-next.result ≡ length steps = search rules in
     let says : (ns : List Node) → step_of ns r ≡ resolve_step c.loop-link.current (slice_index places d.clause) (literal_in ns atoms d.literal) = λ ns. search rules in
     record {

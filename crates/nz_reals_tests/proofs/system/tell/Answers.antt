@@ -1,4 +1,4 @@
-use Rattle.std.proofs.Common.{rules, refl}
+use Rattle.std.proofs.Common.{rules, refl, subst}
 use Rattle.std.specs.Prelude.{Contains}
 use Rattle.nz_search.specs.Theories.{told_after}
 use Rattle.nz_reals.specs.State.{told_lits}
@@ -14,7 +14,8 @@ returns-clause-order c =
     let l = c.args.literal in
     let h = c.requires.order in
     let made = c.in_ok-clause.ensures in
-    let has : Contains ids l.atom = search rules in
+    let found : Contains ids c.atom-atom.result = search rules in
+    let has : Contains ids l.atom = subst (Contains ids) c.atom-atom.ensures.atom found in
     order_told ns old c.assert_lit.new.log t c.assert_lit.new.self ids (told_after (told_lits t) l c.in_ok-clause.clause) h (made.grows (told_lits t) refl (are_told_with ns old t ids h l has))
     (made.over ns h.over) (made.of old.atoms ids h.of) (made.told (told_lits t) refl) (told_among ids (told_lits t) l c.in_ok-clause.clause h.told has)
 

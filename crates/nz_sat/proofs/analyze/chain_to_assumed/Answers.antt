@@ -1,8 +1,8 @@
 -- The way back along the trail, place by place.
-use Rattle.std.proofs.Common.{◌≡◌, ◌-◌, List, [], ◌∷◌, ◌++◌, Some, subst, sym, ap, ◌∙◌, arith, rules}
+use Rattle.std.proofs.Common.{◌≡◌, ◌-◌, ℕ, false, List, [], ◌∷◌, ◌++◌, Some, subst, sym, ap, ◌∙◌, arith, rules}
 use Rattle.nz_log.specs.declared.lits.Lit.{Lit}
 use Rattle.nz_log.specs.Logs.{literals_at}
-use Rattle.nz_sat.specs.Conflicts.{IsOnWayToAssumed, MarksFalse}
+use Rattle.nz_sat.specs.Conflicts.{IsOnWayToAssumed, MarksFalse, is_marked}
 use Rattle.nz_sat.proofs.ConflictChains.{assumed_ends, assumed_here, assumed_on, assumed_past, assumed_starts, link_of}
 use Rattle.nz_sat.proofs.analyze.chain_to_assumed.Goals as goal
 
@@ -16,10 +16,10 @@ loop-i-init c =
     subst (IsOnWayToAssumed s es c.args.falsified c.len-count.result new) (sym c.new-links.ensures.items)
     (assumed_starts s es c.args.falsified c.len-count.result c.len-count.ensures.count c.args.seen.now new made)
 
-pub bounds-seen-entry : goal.bounds-seen-entry
-bounds-seen-entry c =
+pub bounds-seen-atom : goal.bounds-seen-atom
+bounds-seen-atom c =
     let within = (c.len-count.ensures.trail (c.loop-i.i - 1) c.entry-entry.result c.entry-entry.ensures.entry).within in
-    omega (arith, within, c.requires.size, c.loop-i.auto.seen)
+    omega (arith, within, c.requires.size, c.loop-i.auto.seen, c.atom-atom.ensures.atom)
 
 pub loop-i-preserved-in-Continue-1 : goal.loop-i-preserved-in-Continue-1
 loop-i-preserved-in-Continue-1 c =
@@ -45,7 +45,7 @@ loop-i-preserved-in_default c =
 pub loop-i-preserved : goal.loop-i-preserved
 loop-i-preserved c =
     assumed_past c.args.log.now c.args.trail.now.size c.args.trail.now.entries c.len-count.ensures.trail c.args.falsified c.loop-i.i (c.loop-i.i - 1) (omega arith)
-    c.entry-entry.result c.entry-entry.ensures.entry c.loop-i.seen c.loop-i.links.items c.loop-i.invariant c.if-seen-entry.false
+    c.entry-entry.result c.entry-entry.ensures.entry c.loop-i.seen c.loop-i.links.items c.loop-i.invariant (subst (λ (a : ℕ). is_marked c.loop-i.seen a ≡ false) c.atom-atom.ensures.atom c.if-seen-atom.false)
 
 pub returns-clause-refutes : goal.returns-clause-refutes
 returns-clause-refutes c =

@@ -1,5 +1,5 @@
 -- One literal more may be of a greater level.
-use Rattle.std.proofs.Common.{◌≡◌, ◌+◌, false, max, List, [], ◌∷◌, ◌++◌, get_or, take, subst, sym, ap, ◌∙◌, arith}
+use Rattle.std.proofs.Common.{◌≡◌, ◌+◌, max, List, [], ◌∷◌, ◌++◌, take, subst, sym, ap, ◌∙◌, arith}
 use Rattle.std.proofs.lemmas.List.{take_more}
 use Rattle.nz_log.specs.declared.lits.Lit.{Lit}
 use Rattle.nz_sat.specs.Conflicts.{IsGreatest}
@@ -12,8 +12,8 @@ loop-literal-preserved c =
     let es = c.args.trail.now.entries in
     let i = c.loop-literal.literal-index in
     let n = c.loop-literal.level in
-    let l = get_or c.args.literals.now i (record { atom = 0; sign = false }) in
+    let l = c.literal-item.result in
     let before = take i c.args.literals.now in
-    let more : take (i + 1) c.args.literals.now ≡ before ++ l ∷ [] = take_more c.args.literals.now i (record { atom = 0; sign = false }) (omega arith) in
-    let most : c.max-level.result ≡ max n (level_on es l.atom) = c.max-level.ensures ∙ greater_of n c.level_of.result ∙ ap (max n) c.level_of.ensures.level in
+    let more : take (i + 1) c.args.literals.now ≡ before ++ l ∷ [] = take_more c.args.literals.now i l (omega arith) ∙ ap (λ (m : Lit). before ++ m ∷ []) (sym c.literal-item.is) in
+    let most : c.max-level.result ≡ max n (level_on es l.atom) = c.max-level.ensures ∙ greater_of n c.level_of.result ∙ ap (max n) (c.level_of.ensures.level ∙ ap (level_on es) c.atom.ensures.atom) in
     subst (λ (d : List Lit). IsGreatest es d c.max-level.result) (sym more) (greatest_grown es before n l c.loop-literal.invariant c.max-level.result most)

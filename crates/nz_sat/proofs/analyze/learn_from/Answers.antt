@@ -12,7 +12,7 @@ unmark-requires c =
     let old = c.args.log.now in
     let new = c.chain.new.self in
     let es = c.args.trail.now.entries in
-    let marks = c.chain_back.new.seen in
+    let marks = c.shorten.new.seen in
     let chain = c.in_ok-links.field-0 in
     let puts : Puts old c.in_ok-clause.clause (chain_entry old c.args.falsified chain.links.items) new =
     subst (λ (ks : List Link). Puts old c.in_ok-clause.clause (chain_entry old c.args.falsified ks) new) c.deref.ensures.value c.in_ok-clause.ensures.made in
@@ -35,11 +35,11 @@ returns-clause-learned c =
     let old = c.args.log.now in
     let new = c.chain.new.self in
     let es = c.args.trail.now.entries in
-    let marks = c.chain_back.new.seen in
+    let marks = c.shorten.new.seen in
     let chain = c.in_ok-links.field-0 in
     let puts : Puts old c.in_ok-clause.clause (chain_entry old c.args.falsified chain.links.items) new =
     subst (λ (ks : List Link). Puts old c.in_ok-clause.clause (chain_entry old c.args.falsified ks) new) c.deref.ensures.value c.in_ok-clause.ensures.made in
     let told = c.asserting.ensures in
     taught old new es c.args.falsified marks chain c.in_ok-links.ensures.chain c.in_ok-clause.clause puts c.tells_lits.ensures.tells c.requires.decided c.asserting.result
     (subst (λ (d : List Lit). IsAsserting es d c.in_ok-clause.clause chain.literal c.asserting.result) c.clause-literals.ensures.literals
-    (record { clause = told.clause; literal = told.literal; others = told.others; beside = told.beside }))
+    (record { clause = told.clause; literal = told.literal; kept = told.kept; others = told.others; beside = told.beside }))

@@ -14,4 +14,4 @@ returns-in-Some-clause-learned c =
     lone_taught c.args.trail.now.size es c.requires.order c.args.log.now c.args.falsified l c.requires.live c.requires.falsified c.requires.once c.requires.decided
     (subst (λ (d : List Lit). IsLoneLast es d l) is c.in-Some.ensures.lone) c.asserting.result
     (subst (λ (d : List Lit). IsAsserting es d c.args.falsified l c.asserting.result) is
-    (record { clause = told.clause; literal = told.literal; others = told.others; beside = told.beside }))
+    (record { clause = told.clause; literal = told.literal; kept = told.kept; others = told.others; beside = told.beside }))

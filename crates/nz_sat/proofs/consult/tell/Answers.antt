@@ -17,14 +17,14 @@ loop-bounds-init g c =
 
 pub tell_one-requires-clause-named : goal.tell_one-requires-clause-named
 tell_one-requires-clause-named g c =
-    next_atom c.loop-bounds.log c.args.atoms.now c.loop-bounds.bounds c.args.trail.now c.loop-bounds.invariant.trail c.entry.result c.entry.ensures.entry
+    next_atom c.loop-bounds.log c.args.atoms.now c.loop-bounds.bounds c.args.trail.now c.loop-bounds.invariant.trail c.entry-literal.result c.entry-literal.ensures.entry
 
 pub tell_one-requires-clause-bound : goal.tell_one-requires-clause-bound
 tell_one-requires-clause-bound g c =
     let b = c.loop-bounds.bounds in
-    let marked : is_marked b.marks.items c.entry.result.literal.atom ≡ true = search rules in
-    marked_bound c.loop-bounds.log c.args.atoms.now b.marks.items c.loop-bounds.invariant.trail.marked c.entry.result.literal
-    (next_atom c.loop-bounds.log c.args.atoms.now b c.args.trail.now c.loop-bounds.invariant.trail c.entry.result c.entry.ensures.entry) marked
+    let marked : is_marked b.marks.items c.entry-literal.result.literal.atom ≡ true = search rules in
+    marked_bound c.loop-bounds.log c.args.atoms.now b.marks.items c.loop-bounds.invariant.trail.marked c.entry-literal.result.literal
+    (next_atom c.loop-bounds.log c.args.atoms.now b c.args.trail.now c.loop-bounds.invariant.trail c.entry-literal.result c.entry-literal.ensures.entry) marked
 
 pub tell_one-requires-clause-of : goal.tell_one-requires-clause-of
 tell_one-requires-clause-of g c =
@@ -35,7 +35,7 @@ pub returns-in_err-clash-clause-comes : goal.returns-in_err-clash-clause-comes
 returns-in_err-clash-clause-comes g c =
     let same : Err c.in_err-clash.field-0.0 ≡ c.from_residual.result = search rules in
     consults_same same
-    (consults_err c.loop-bounds.invariant c.entry.result c.entry.ensures.entry c.in_err-clash.ensures.comes (record {
+    (consults_err c.loop-bounds.invariant c.entry-literal.result c.entry-literal.ensures.entry c.in_err-clash.ensures.comes (record {
       tells = c.tells_lits.ensures.tells;
       clauses = c.clauses_are_true.ensures.clauses;
       other = c.negation_is_other.ensures.other;
@@ -45,7 +45,7 @@ returns-in_err-clash-clause-comes g c =
 pub returns-then-is_some-clause-comes : goal.returns-then-is_some-clause-comes
 returns-then-is_some-clause-comes g c =
     let some : is_some c.in_ok-clash.clash ≡ true = search rules in
-    consults_clash c.loop-bounds.invariant c.entry.result c.entry.ensures.entry c.in_ok-clash.clash some c.in_ok-clash.ensures.comes (record {
+    consults_clash c.loop-bounds.invariant c.entry-literal.result c.entry-literal.ensures.entry c.in_ok-clash.clash some c.in_ok-clash.ensures.comes (record {
       tells = c.tells_lits.ensures.tells;
       clauses = c.clauses_are_true.ensures.clauses;
       other = c.negation_is_other.ensures.other;
@@ -61,8 +61,8 @@ loop-bounds-smaller g c =
 pub loop-bounds-preserved : goal.loop-bounds-preserved
 loop-bounds-preserved g c =
     let b = c.loop-bounds.bounds in
-    let e = c.entry.result in
-    let at = c.entry.ensures.entry in
+    let e = c.entry-literal.result in
+    let at = c.entry-literal.ensures.entry in
     let theory : g.row.T.Denot → TheoryState = state_of g.T.Theory.is_over g.T.Theory.has_told g.T.Theory.is_feasible g.T.Theory.is_of g.T.Theory.is_at in
     let F : LogState → g.row.T.Denot → WorkList Note → Type 0 =
     λ log t work. Consults (theory c.args.theory.now) (theory t) c.args.log.now log c.args.atoms.now c.args.bounds.now (record b { told = b.told + 1 }) c.args.trail.now c.args.work.now work (Ok None) in

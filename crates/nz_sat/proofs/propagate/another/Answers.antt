@@ -1,5 +1,5 @@
 -- One literal more was looked at.
-use Rattle.std.proofs.Common.{◌≡◌, ◌<◌, Bool, true, false, List, length, take, get_or, Option, Some, inl, inr, sym, subst, ◌∙◌, arith, rules, Contains}
+use Rattle.std.proofs.Common.{◌≡◌, ◌<◌, Bool, true, false, List, [], ◌∷◌, ◌++◌, length, take, Option, Some, inl, inr, sym, ap, subst, ◌∙◌, arith, rules, Contains}
 use Rattle.std.proofs.lemmas.List.{take_all, take_more}
 use Rattle.std.proofs.lemmas.List.Elements.{Contains-push_cases}
 use Rattle.nz_log.specs.declared.lits.Lit.{Lit}
@@ -8,17 +8,14 @@ use Rattle.nz_sat.specs.Trails.{HasValue, IsFalseOn}
 use Rattle.nz_sat.proofs.propagate.another.Goals as goal
 use Rattle.nz_sat.proofs.propagate.another.Goals.{else-not-is-via-then-not-is+else-ne, else-not-is-via-else-not-is}
 
-abbrev blank : Lit
-blank = record { atom = 0; sign = false }
-
 pub loop-literal-preserved : goal.loop-literal-preserved
 loop-literal-preserved c m has other =
     let es = c.args.trail.now.entries in
     let cs = c.args.literals.now in
     let i = c.loop-literal.literal-index in
-    let lit = get_or cs i blank in
+    let lit = c.literal-item.result in
     let inside : i < length cs = omega arith in
-    elim (Contains-push_cases (take i cs) lit m (subst (λ (xs : List Lit). Contains xs m) (take_more cs i blank inside) has)) [
+    elim (Contains-push_cases (take i cs) lit m (subst (λ (xs : List Lit). Contains xs m) (take_more cs i lit inside ∙ ap (λ (k : Lit). take i cs ++ k ∷ []) (sym c.literal-item.is)) has)) [
       | inl old ↦ c.loop-literal.invariant m old other
       | inr here ↦
           subst (IsFalseOn es) here

@@ -10,8 +10,8 @@ use Rattle.nz_log.specs.Atoms.{IsLitIn, literal_in}
 use Rattle.nz_log.proofs.MultipleSums.{multiple_added, no_bound, other_bound, units_added, units_at}
 use Rattle.nz_log.proofs.log.Log.add_multiple.Goals as goal
 
-pub returns-then-multiple-clause-units : goal.returns-then-multiple-clause-units
-returns-then-multiple-clause-units c =
+pub returns-then-sign-clause-units : goal.returns-then-sign-clause-units
+returns-then-sign-clause-units c =
     let atoms = c.args.self.now.atoms in
     let l = c.args.multiple.literal in
     let b = c.in-Some-AtMost.bound in
@@ -26,10 +26,10 @@ returns-in_ok-not-in-Some-AtMost-clause-comes c ns table units within =
     let b = c.in-Some-AtMost.bound in
     let o = c.in_ok-not-in-Some-AtMost.field-0 in
     let at : slice_get atoms l.atom ≡ Some (AtMost b) = search rules in
-    let join = c.join_multiple-else-multiple in
+    let join = c.join_multiple-else-sign in
     let own = c.in_ok-not-in-Some-AtMost.ensures.units ns (units_at ns atoms l b at within) in
     multiple_added (number_in ns) (bound_over ns c.args.sum.now) (bound_over ns join.new.self) c.args.multiple.multiplier (bound_of (literal_in ns atoms l)) (bound_over ns o) join.result
-    (other_bound ns atoms l b at o c.if-multiple.false (c.in_ok-not-in-Some-AtMost.ensures.literal ns)) (join.ensures.comes ns table units own)
+    (other_bound ns atoms l b at o (sym c.sign.ensures.sign ∙ c.if-sign.false) (c.in_ok-not-in-Some-AtMost.ensures.literal ns)) (join.ensures.comes ns table units own)
 
 pub returns-in_ok-not-in-Some-AtMost-clause-units : goal.returns-in_ok-not-in-Some-AtMost-clause-units
 returns-in_ok-not-in-Some-AtMost-clause-units c =
@@ -38,7 +38,7 @@ returns-in_ok-not-in-Some-AtMost-clause-units c =
     let b = c.in-Some-AtMost.bound in
     let o = c.in_ok-not-in-Some-AtMost.field-0 in
     let at : slice_get atoms l.atom ≡ Some (AtMost b) = search rules in
-    let join = c.join_multiple-else-multiple in
+    let join = c.join_multiple-else-sign in
     units_added join.result (λ (ns : List Node). HasUnits ns c.args.sum.now) (λ (ns : List Node). HasUnits ns o) (λ (ns : List Node). HasUnits ns join.new.self)
     (λ (ns : List Node). IsLitIn ns atoms l) (λ ns h. c.in_ok-not-in-Some-AtMost.ensures.units ns (units_at ns atoms l b at h)) join.ensures.units
 

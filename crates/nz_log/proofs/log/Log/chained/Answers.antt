@@ -1,5 +1,5 @@
 -- The set of the first clause, and then one link after another.
-use Rattle.std.proofs.Common.{◌≡◌, List, ap, sym, ◌∙◌, get_or, false, rules}
+use Rattle.std.proofs.Common.{◌≡◌, List, ap, subst, sym, ◌∙◌, rules}
 use Rattle.nz_spec.specs.clauses.Literal.{once}
 use Rattle.nz_log.specs.declared.lits.Lit.{Lit}
 use Rattle.nz_log.specs.declared.origins.Link.{Link}
@@ -23,14 +23,14 @@ pub loop-link-preserved : goal.loop-link-preserved
 loop-link-preserved c =
     let s = c.args.self.now in
     let ks = c.args.links.now in
-    let d : Link = record { clause = 0; literal = record { atom = 0; sign = false } } in
-    let k = get_or ks c.loop-link.link-index d in
+    let k = c.link-item.result in
     let old = c.loop-link.resolvent in
     let new = c.resolve_with.new.self in
     let is : new ≡ lit_resolvent k.literal old (literals_at s k.clause) =
     c.in_ok-resolve_with.ensures.resolvent old (sym c.loop-link.invariant.set)
     ∙ ap (λ (ls : List Lit). lit_resolvent k.literal old ls) c.clause-in-loop-link.ensures.literals in
+    let read = subst (λ (m : Link). new ≡ lit_resolvent m.literal old (literals_at s m.clause)) c.link-item.is is in
     record {
-      left = chained_next s old new ks c.loop-link.link-index d c.loop-link-test.true is ∙ c.loop-link.invariant.left;
+      left = chained_next s old new ks c.loop-link.link-index k c.loop-link-test.true read ∙ c.loop-link.invariant.left;
       set = resolvent_set k.literal old (literals_at s k.clause) new is;
     }

@@ -7,8 +7,12 @@ use Rattle.nz_reals.specs.declared.neighbours.Lower.{Lower}
 use Rattle.nz_reals.specs.Exclusions.{AreExcluded, AreJoined, AreOpen, HasNone}
 use Rattle.nz_reals.proofs.ExclusionClauses.{IsExcluding, adds_more, excluding_held, excluding_more, neighbours_joined}
 use Rattle.nz_reals.proofs.Joints.{none_joined}
+use Rattle.nz_reals.proofs.KnownAtoms.{known_small}
 use Rattle.nz_reals.proofs.reals.Reals.exclusions.Goals as goal
 use Rattle.nz_reals.proofs.reals.Reals.exclusions.Goals.{then-not-index+in_ok-add_exclusion, else-not-index}
+
+pub lowers-requires-clause-small : goal.lowers-requires-clause-small
+lowers-requires-clause-small c i known = known_small c.args.self.now c.args.log.now.atoms c.requires.of.0 c.requires.of.1 c.atom_count.ensures.atoms i known
 
 pub returns-in_err-add_exclusion-clause-adds : goal.returns-in_err-add_exclusion-clause-adds
 returns-in_err-add_exclusion-clause-adds c =

@@ -14,11 +14,11 @@ use Rattle.nz_sat.proofs.propagation.Propagation.propagate.Goals.{After-visit_al
 pub visit_all-requires-clause-falls : goal.visit_all-requires-clause-falls
 visit_all-requires-clause-falls c =
     let es = c.loop-self.trail.entries in
-    subst (IsFalseOn es) (sym c.not.ensures.negation) (entry_falls c.loop-self.trail.size es c.len.ensures.trail c.loop-self.self.head c.entry.result c.entry.ensures.entry)
+    subst (IsFalseOn es) (sym c.not.ensures.negation) (entry_falls c.loop-self.trail.size es c.len.ensures.trail c.loop-self.self.head c.entry-literal.result c.entry-literal.ensures.entry)
 
 pub visit_all-requires-clause-within : goal.visit_all-requires-clause-within
 visit_all-requires-clause-within c =
-    subst (λ (l : Lit). l.atom < c.loop-self.trail.size) (sym c.not.ensures.negation) (c.len.ensures.trail c.loop-self.self.head c.entry.result c.entry.ensures.entry).within
+    subst (λ (l : Lit). l.atom < c.loop-self.trail.size) (sym c.not.ensures.negation) (c.len.ensures.trail c.loop-self.self.head c.entry-literal.result c.entry-literal.ensures.entry).within
 
 way : (c : After-visit_all) → IsOnWay c.args.log.now c.args.self.now c.visit_all.new.self c.args.trail.now c.visit_all.new.trail
 way c =
@@ -36,11 +36,11 @@ loop-self-preserved c =
     let s = c.args.log.now in
     let p = c.visit_all.new.self in
     let t = c.visit_all.new.trail in
-    let e = c.entry.result in
+    let e = c.entry-literal.result in
     let goes = c.visit_all.ensures.visits.goes_on in
     let at : slice_get t.entries p.head ≡ Some e =
     ap (slice_get t.entries) c.visit_all.ensures.head
-    ∙ subst (λ xs. slice_get xs c.loop-self.self.head ≡ Some e) (sym goes.joined) (slice_get_kept c.loop-self.trail.entries goes.more c.loop-self.self.head e c.entry.ensures.entry) in
+    ∙ subst (λ xs. slice_get xs c.loop-self.self.head ≡ Some e) (sym goes.joined) (slice_get_kept c.loop-self.trail.entries goes.more c.loop-self.self.head e c.entry-literal.ensures.entry) in
     let none : c.in_ok-falsified.falsified ≡ None = search rules in
     let Looked : Lit → Type 0 = λ l. (key : ℕ) (h : WatchedClause) → slice_get p.clauses.items key ≡ Some h → IsWatchedIn h l → HasTrue t.entries (literals_at s h.id) in
     let V : Option ℕ → Type 0 = λ o. IfNone o (Looked c.not.result) in

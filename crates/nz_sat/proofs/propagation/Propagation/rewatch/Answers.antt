@@ -5,7 +5,8 @@ use Rattle.std.proofs.lemmas.Option.{same_Some, slice_get-get_or, slice_get_with
 use Rattle.nz_sat.specs.declared.clauses.WatchedClause.{WatchedClause}
 use Rattle.nz_sat.specs.declared.watches.Watch.{Watch}
 use Rattle.nz_sat.specs.Clauses.{with_watch}
-use Rattle.nz_sat.specs.Lists.{TakesOut, code_of, list_of}
+use Rattle.nz_log.specs.Codes.{code_of}
+use Rattle.nz_sat.specs.Lists.{TakesOut, list_of}
 use Rattle.nz_sat.specs.Watched.{watch_state}
 use Rattle.nz_sat.proofs.LiteralNumbers.{other_code}
 use Rattle.nz_sat.proofs.Rewatching.{all_rewatched, hold_same, literal_fits, next_fits, next_fresh}

@@ -5,7 +5,8 @@ use Rattle.nz_log.specs.declared.lits.Lit.{Lit}
 use Rattle.nz_log.specs.Logs.{IsLive, literals_at}
 use Rattle.nz_sat.specs.declared.clauses.WatchedClause.{WatchedClause}
 use Rattle.nz_sat.specs.Clauses.{AreFalseBut, other_in}
-use Rattle.nz_sat.specs.Lists.{code_of, list_of}
+use Rattle.nz_log.specs.Codes.{code_of}
+use Rattle.nz_sat.specs.Lists.{list_of}
 use Rattle.nz_sat.specs.Trails.{HasValue, IsTrueOn}
 use Rattle.nz_sat.specs.Watched.{IsWatch, State, watch_state}
 use Rattle.nz_sat.proofs.LiteralNumbers.{other_code}

@@ -4,7 +4,8 @@ use Rattle.nz_log.specs.declared.lits.Lit.{Lit}
 use Rattle.nz_log.specs.Logs.{literals_at}
 use Rattle.nz_sat.specs.declared.clauses.WatchedClause.{WatchedClause}
 use Rattle.nz_sat.specs.declared.watches.Watch.{Watch}
-use Rattle.nz_sat.specs.Lists.{code_of, list_of}
+use Rattle.nz_log.specs.Codes.{code_of}
+use Rattle.nz_sat.specs.Lists.{list_of}
 use Rattle.nz_sat.proofs.Holding.{held_watched}
 use Rattle.nz_sat.proofs.LiteralNumbers.{other_code}
 use Rattle.nz_sat.proofs.propagation.Propagation.watch.Goals as goal

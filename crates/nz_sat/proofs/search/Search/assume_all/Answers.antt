@@ -1,5 +1,5 @@
 -- One assumed literal more.
-use Rattle.std.proofs.Common.{◌≡◌, ℕ, ◌<◌, true, false, List, length, get_or, None, ap, sym, subst, ◌∙◌, arith, rules, below_more, inl, All, Contains, is_some}
+use Rattle.std.proofs.Common.{◌≡◌, ℕ, ◌<◌, true, List, length, get_or, None, ap, sym, subst, ◌∙◌, arith, rules, below_more, inl, All, Contains, is_some}
 use Rattle.std.proofs.lemmas.List.{get_or_default}
 use Rattle.std.proofs.lemmas.List.Elements.{All-contains, Contains-get_or}
 use Rattle.std.proofs.lemmas.Option.{IfSome_then}
@@ -13,9 +13,6 @@ use Rattle.nz_sat.specs.Searching.{Assumes, IsReady, IsSearch, MayAssume}
 use Rattle.nz_sat.specs.Trails.{IsTrueOn}
 use Rattle.nz_sat.proofs.TrailGrowth.{held_live, none_told, reasons_assumed}
 use Rattle.nz_sat.proofs.search.Search.assume_all.Goals as goal
-
-abbrev blank : Lit
-blank = record { atom = 0; sign = false }
 
 pub start-requires : goal.start-requires
 start-requires c = record { watched = c.requires.search.1.watched; none = c.requires.none }
@@ -52,16 +49,16 @@ loop-literal-init c =
 atom_named : (s start : Search) (l : Lit) → s ≡ record start { trail = s.trail; propagation = s.propagation } → Contains start.atoms l.atom → Contains s.atoms l.atom
 atom_named s start l rest has = subst (λ (us : List ℕ). Contains us l.atom) (sym (ap (λ (r : Search). r.atoms) rest)) has
 
-may_assume : (log : LogState) (held : List Held) (assumed : List Lit) (s start : Search) (i : ℕ) → i < length assumed → s ≡ record start { trail = s.trail; propagation = s.propagation }
+may_assume : (log : LogState) (held : List Held) (assumed : List Lit) (s start : Search) (i : ℕ) (l : Lit) → l ≡ get_or assumed i l → i < length assumed → s ≡ record start { trail = s.trail; propagation = s.propagation }
     → IsSearch log held s → IsReady log s → All (IsAssumed assumed) s.trail.entries → All (λ (m : Lit). Contains start.atoms m.atom) assumed → AreConsistent assumed
-    → MayAssume log held assumed (get_or assumed i blank) s
-may_assume log held assumed s start i inside rest search ready assumed_only named consistent =
+    → MayAssume log held assumed l s
+may_assume log held assumed s start i l read inside rest search ready assumed_only named consistent =
     record {
       search = search;
       ready = ready;
       assumed_only = assumed_only;
-      among = Contains-get_or assumed i blank inside;
-      atom = atom_named s start (get_or assumed i blank) rest (named i blank inside);
+      among = subst (Contains assumed) (sym read) (Contains-get_or assumed i l inside);
+      atom = atom_named s start l rest (subst (λ (m : Lit). Contains start.atoms m.atom) (sym read) (named i l inside));
       consistent = consistent;
     }
 
@@ -72,16 +69,16 @@ pub assume-requires-clause-within : goal.assume-requires-clause-within
 assume-requires-clause-within c =
     let s = c.loop-literal.self in
     let before = c.loop-literal.invariant in
-    let l = get_or c.args.assumed.now c.loop-literal.literal-index blank in
+    let l = c.literal-item.result in
     let search = before.search c.requires.search.0 c.requires.search.1 in
-    All-contains (λ (t : ℕ). t < s.trail.size) s.atoms l.atom search.within (atom_named s c.args.self.now l before.rest (c.requires.named c.loop-literal.literal-index blank (omega arith)))
+    All-contains (λ (t : ℕ). t < s.trail.size) s.atoms l.atom search.within (atom_named s c.args.self.now l before.rest (subst (λ (m : Lit). Contains c.args.self.now.atoms m.atom) (sym c.literal-item.is) (c.requires.named c.loop-literal.literal-index l (omega arith))))
 
 pub returns-then-is_some-2-clause-comes : goal.returns-then-is_some-2-clause-comes
 returns-then-is_some-2-clause-comes c held h =
     let before = c.loop-literal.invariant in
     let assumed = c.args.assumed.now in
     let told = c.in_ok-falsified-2.falsified in
-    let may = may_assume c.args.log.now held assumed c.loop-literal.self c.args.self.now c.loop-literal.literal-index (omega arith) before.rest (before.search held h) before.ready before.assumed_only c.requires.named c.requires.consistent in
+    let may = may_assume c.args.log.now held assumed c.loop-literal.self c.args.self.now c.loop-literal.literal-index c.literal-item.result c.literal-item.is (omega arith) before.rest (before.search held h) before.ready before.assumed_only c.requires.named c.requires.consistent in
     let comes = c.in_ok-falsified-2.ensures.comes held assumed may in
     let some : is_some told ≡ true = search rules in
     record {
@@ -98,14 +95,15 @@ loop-literal-preserved c =
     let log = c.args.log.now in
     let assumed = c.args.assumed.now in
     let i = c.loop-literal.literal-index in
+    let l = c.literal-item.result in
     let new = c.assume.new.self in
     let before = c.loop-literal.invariant in
     let inside : i < length assumed = omega arith in
     let told = c.in_ok-falsified-2.falsified in
     let none : told ≡ None = search rules in
-    let comes : (held : List Held) → IsSearch log held c.args.self.now → Assumes log held assumed (get_or assumed i blank) c.loop-literal.self.trail.entries new told =
+    let comes : (held : List Held) → IsSearch log held c.args.self.now → Assumes log held assumed l c.loop-literal.self.trail.entries new told =
     λ held h. c.in_ok-falsified-2.ensures.comes held assumed
-    (may_assume log held assumed c.loop-literal.self c.args.self.now i inside before.rest (before.search held h) before.ready before.assumed_only c.requires.named c.requires.consistent) in
+    (may_assume log held assumed c.loop-literal.self c.args.self.now i l c.literal-item.is inside before.rest (before.search held h) before.ready before.assumed_only c.requires.named c.requires.consistent) in
     let one = comes c.requires.search.0 c.requires.search.1 in
     record {
       rest = c.assume.ensures.rest ∙ ap (λ (s : Search). record s { trail = new.trail; propagation = new.propagation }) before.rest;
@@ -115,7 +113,7 @@ loop-literal-preserved c =
       hold = λ k d below.
           below_more (λ (n : ℕ). (f : Lit) → IsTrueOn new.trail.entries (get_or assumed n f)) i
           (λ n less f. one.kept (get_or assumed n f) (before.hold n f less))
-          (λ f. subst (IsTrueOn new.trail.entries) (get_or_default assumed i blank f inside) (one.holds none))
+          (λ f. subst (IsTrueOn new.trail.entries) (c.literal-item.is ∙ get_or_default assumed i l f inside) (one.holds none))
           k below d;
       ready = one.ready none;
     }

@@ -17,7 +17,7 @@ overflow_add-untold c =
     let b = c.loop-literal.self.bounds in
     let same : b ≡ c.args.self.now.bounds = ap (λ (s : Search). s.bounds) c.loop-literal.invariant.rest in
     let d = c.in-Some.ensures.taken in
-    let more = count_more b old new c.args.level d c.told_at-untold.result (c.told_at-untold.ensures.one new d.last (sym c.len.ensures.count) (ap (λ (l : Lit). l.atom) d.is)) in
+    let more = count_more b old new c.args.level d c.told_at-untold.result (c.told_at-untold.ensures.one new d.last (sym c.len.ensures.count) (ap (λ (l : Lit). l.atom) d.is ∙ sym c.atom.ensures.atom)) in
     let count = c.loop-literal.invariant.count in
     let before : length (told_on b start) ≡ length (told_on b old) + c.loop-literal.untold =
     ap (λ (x : Bounds). length (told_on x start)) same ∙ count ∙ ap (λ (x : Bounds). length (told_on x old) + c.loop-literal.untold) (sym same) in
@@ -32,7 +32,7 @@ loop-literal-preserved c =
     let new = c.pop_above.new.self.entries in
     let b = c.loop-literal.self.bounds in
     let same : b ≡ c.args.self.now.bounds = ap (λ (s : Search). s.bounds) before.rest in
-    let more = count_more b old new c.args.level d c.told_at-untold.result (c.told_at-untold.ensures.one new d.last (sym c.len.ensures.count) (ap (λ (l : Lit). l.atom) d.is)) in
+    let more = count_more b old new c.args.level d c.told_at-untold.result (c.told_at-untold.ensures.one new d.last (sym c.len.ensures.count) (ap (λ (l : Lit). l.atom) d.is ∙ sym c.atom.ensures.atom)) in
     let count = before.count in
     let first = ap (λ (x : Bounds). length (told_on x old)) same in
     let second = ap (λ (x : Bounds). length (told_on x new)) same in

@@ -6,6 +6,7 @@ use Rattle.nz_spec.specs.search.Work.{WorkList}
 use Rattle.nz_search.specs.declared.note.Note.{Note}
 use Rattle.nz_sat.specs.Searching.{Advances, Settles, SettlesOn}
 use Rattle.nz_sat.specs.Theories.{state_of}
+use Rattle.nz_sat.proofs.AtomTrails.{names_small}
 use Rattle.nz_sat.proofs.SearchSteps.{narrow_advances, reaches_then, steps_behind}
 use Rattle.nz_sat.proofs.LogGrowth.{grows_none}
 use Rattle.nz_sat.proofs.SearchRuns.{decided_wanting, has_decided, refutes_far, settles_far}
@@ -14,6 +15,10 @@ use Rattle.nz_sat.proofs.search.Search.turn.Goals as goal
 pub decide-requires-clause-within : goal.decide-requires-clause-within
 decide-requires-clause-within g c =
     All-contains (λ (t : ℕ). t < c.args.self.now.trail.size) c.args.self.now.atoms c.args.atom c.requires.search.within c.requires.named
+
+pub decide-requires-clause-small : goal.decide-requires-clause-small
+decide-requires-clause-small g c =
+    names_small c.args.log.now c.args.self.now.atoms c.requires.search.on.there c.atom_count.ensures.atoms c.args.atom c.requires.named
 
 pub returns-in_err-decide-clause-steps : goal.returns-in_err-decide-clause-steps
 returns-in_err-decide-clause-steps g c =

@@ -2,7 +2,8 @@
 use Rattle.std.proofs.Common.{◌≡◌, ◌<◌, ℕ, List, length, sym, ap, subst, ◌∙◌}
 use Rattle.std.specs.Prelude.{slice_set}
 use Rattle.nz_sat.specs.declared.watches.Watch.{Watch}
-use Rattle.nz_sat.specs.Lists.{TakesOut, code_of, list_at}
+use Rattle.nz_log.specs.Codes.{code_of}
+use Rattle.nz_sat.specs.Lists.{TakesOut, list_at}
 use Rattle.nz_sat.proofs.Removals.{list_beside, list_read, list_there, taken_out}
 use Rattle.nz_sat.proofs.watches.Watches.remove.Goals as goal
 
