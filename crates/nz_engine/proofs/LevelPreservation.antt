@@ -18,7 +18,7 @@ use Rattle.nz_log.specs.declared.atoms.Atom.TheVariants.{Term, AtMost}
 use Rattle.nz_log.specs.declared.lits.Lit.{Lit}
 use Rattle.nz_log.specs.Atoms.{HasTerm, lit_of, terms_of}
 use Rattle.nz_log.specs.Leveled.{IsToldWithin, LogsStayLeveled}
-use Rattle.nz_log.specs.Logs.{Origin, Entry, entry_at, IsLive, level_at, literals_at, told_of, told_level, kept_below, told_below}
+use Rattle.nz_log.specs.Logs.{LogState, Origin, Entry, entry_at, IsLive, level_at, literals_at, told_of, told_level, kept_below, told_below}
 use Rattle.nz_log.specs.Sound.{IsLog, live_at, LogsStay}
 use Rattle.nz_term.specs.TermLits.{yes}
 use Rattle.nz_cform.specs.Covering.{IsRowAt}
@@ -27,10 +27,10 @@ use Rattle.nz_cform.specs.Listings as listings
 use Rattle.nz_cform.specs.Listings.{ListingState, listed_at}
 use Rattle.nz_cform.specs.Laws.{CoversStay}
 use Rattle.nz_sat.specs.declared.clauses.Held.{Held}
-use Rattle.nz_sat.specs.Sats.{AreHeld, held_of, held_up_to}
+use Rattle.nz_sat.specs.Sats.{AreHeld, AreSameSince, IsSameIn, held_of, held_up_to}
 use Rattle.nz_search.specs.Levels.{Level, added_by_level, asserted_by_level, numbers_by_level}
 use Rattle.nz_engine.specs.Levels.{count_in, count_of}
-use Rattle.nz_engine.specs.Preparing.{PreparedState, AreSearched, HoldsUnit, IsMadeOf, IsNumbered, IsOfForm, IsPrepared, IsSearched, IsStanding, CutsTo, KeepsBounds}
+use Rattle.nz_engine.specs.Preparing.{PreparedState, AreSearched, HoldsUnit, IsMadeOf, IsNumbered, IsOfForm, IsPrepared, IsSearched, IsSeen, IsStanding, CutsTo, KeepsBounds}
 use Rattle.nz_engine.proofs.AssertionPlaces.{GoOn, TermsGoOn, count_all, count_cut, count_more, in_all, live_cut, longer_cut, lower_or_not}
 
 pub none_or_some : {X : Type 0} (o : Option X) → (o ≡ None) ⊎ ((x : X) × (o ≡ Some x))
@@ -127,6 +127,7 @@ module _ (ns : List Node) (old new : List Level) (p : PreparedState) (on : GoOn 
         taken = h.taken;
         leveled = h.leveled;
         held = h.held;
+        seen = h.seen;
         searched = h.searched;
         rows = h.rows;
         units = goes_units;
@@ -153,6 +154,7 @@ raised ns levels more p h =
       taken = h.taken;
       leveled = h.leveled;
       held = h.held;
+      seen = h.seen;
       searched = h.searched;
       rows = h.rows;
       units = h.units;
@@ -199,6 +201,7 @@ grown terms stay covers ns more levels roots p table h =
           subst IsTaken (sym (terms ns more t (h.covers.within t n.0 n.1))) (h.taken t some);
       leveled = h.leveled;
       held = h.held;
+      seen = h.seen;
       searched = λ k d inside.
           let x = get_or p.sat.clauses k d in
           All-weaker (λ (l : Lit). IsSearched ns p.log p.form l.atom) (λ (l : Lit). IsSearched (ns ++ more) p.log p.form l.atom)
@@ -292,6 +295,24 @@ module _ (ns : List Node) (levels : List Level) (roots : List (List ℕ)) (p q :
       let same = same_entry x.id k.0 (subst (λ n. n ≤ m) (sym k.1) low) in
       (subst (λ o. IsSome o) (sym same) k.0, ap (λ (o : Option Entry). elim o [ None ↦ 0 | Some e ↦ e.level ]) same ∙ k.1))
       p.sat.clauses (recursion_from_All P p.sat.clauses h.held)))
+
+  -- they are as the search saw them still
+  cut_since : (seen : Option LogState) → AreSameSince seen p.log p.sat.clauses → AreSameSince seen q.log (held_up_to m p.sat.clauses)
+  cut_since None none = ap (held_up_to m) none
+  cut_since (Some s) since =
+      let P = λ (x : Held). (level_at p.log x.id ≡ x.level) × IsSameIn s p.log x in
+      let Q = IsSameIn s q.log in
+      All-from_recursion Q (held_up_to m p.sat.clauses)
+      (up_to P Q m
+      (λ x low k.
+      let same = same_entry x.id k.1.0 (subst (λ n. n ≤ m) (sym k.0) low) in
+      (subst (λ o. IsSome o) (sym same) k.1.0, ap (λ (o : Option Entry). elim o [ None ↦ [] | Some e ↦ e.literals ]) same ∙ k.1.1))
+      p.sat.clauses (recursion_from_All P p.sat.clauses (λ k d inside. ((h.held k d inside).1, since k d inside))))
+
+  cut_seen : IsSeen q
+  cut_seen =
+      subst (λ (s : Option LogState). AreSameSince s q.log q.sat.clauses) (sym c.seen)
+      (subst (AreSameSince p.sat.seen q.log) (sym c.clauses) (cut_since p.sat.seen h.seen))
 
   -- a term that a clause below the level names is covered still
   cut_covered : (x : Held) → IsLive p.log x.id → level_at p.log x.id ≤ m → (l : Lit) → Contains (literals_at p.log x.id) l → (t : ℕ) → slice_get p.log.atoms l.atom ≡ Some (Term t)
@@ -425,6 +446,7 @@ module _ (ns : List Node) (levels : List Level) (roots : List (List ℕ)) (p q :
             h.taken t (subst (λ (o : Option ℕ). IsSome o) (sym was.0) refl);
         leveled = leveled.dropped p.log q.log m c.log h.leveled;
         held = cut_held;
+        seen = cut_seen;
         searched = cut_searched keeps;
         rows = cut_rows;
         units = cut_units;

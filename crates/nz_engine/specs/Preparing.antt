@@ -23,7 +23,7 @@ use Rattle.nz_reals.specs.Exclusions.{AddsOn, HasNeighbours, IsExclusion}
 use Rattle.nz_reals.specs.Stands.{HasTold, IsOf}
 use Rattle.nz_reals.specs.State.{Theory}
 use Rattle.nz_sat.specs.declared.clauses.Held.{Held}
-use Rattle.nz_sat.specs.Sats.{SatState, AreHeld, HoldsMore, held_of, held_up_to}
+use Rattle.nz_sat.specs.Sats.{SatState, AreHeld, AreSameSince, HoldsMore, held_of, held_up_to}
 use Rattle.nz_search.specs.Levels.{Level, added_by_level, asserted_by_level, numbers_by_level}
 use Rattle.nz_engine.specs.declared.levels.Kind.{Kind}
 use Rattle.nz_engine.specs.declared.levels.Kind.TheVariants.{Asserted, Number}
@@ -44,7 +44,7 @@ abbrev pub nothing_prepared : Theory → PreparedState
 nothing_prepared theory = record {
   log = empty_log;
   form = empty_form;
-  sat = record { clauses = []; truths = []; theory = theory };
+  sat = record { clauses = []; truths = []; theory = theory; seen = None };
   given = 0;
   numbered = 0;
   above = false;
@@ -120,6 +120,10 @@ pub record IsNumbered (levels : List (List ℕ)) (p : PreparedState) (k t : ℕ)
   pub covered : covered_at p.form t ≡ Some level
   pub behind : count_in levels level ≤ k
 
+-- the clauses that are held are as the search saw them
+abbrev pub IsSeen : PreparedState → Type 0
+IsSeen p = AreSameSince p.sat.seen p.log p.sat.clauses
+
 -- The clauses are in order over the levels of assertions. What is covered is taken, and made of roots by level: of what was added, and in a level above of
 -- what is assumed. The search holds each clause of a table, and of so many assertions that each is true, and so many numbers are covered; where a term is
 -- covered, all that was added in lower levels is among them. Each clause that is held is on the atoms of covered Boolean terms and on listed bounds.
@@ -131,6 +135,7 @@ pub record IsPrepared (ns : List Node) (levels : List Level) (roots : List (List
   pub taken : (t : ℕ) → IsSome (covered_at p.form t) → IsTaken (term_in ns t)
   pub leveled : IsLeveled p.log
   pub held : AreHeld p.log p.sat.clauses
+  pub seen : IsSeen p
   pub searched : AreSearched ns p.log p.form p.sat.clauses
   pub rows : (i t : ℕ) → IsRowAt p.log i t → Contains p.sat.clauses (held_of p.log i)
   pub units : (k t : ℕ) → k < p.given → slice_get (asserted_numbers (asserted_by_level levels)) k ≡ Some t → HoldsUnit (asserted_by_level levels) p k t
@@ -181,6 +186,7 @@ pub record CoversAlso (ns : List Node) (old : PreparedState) (t level : ℕ) (ne
   pub ids : List ℕ
   pub added : AreAdded old.log ids new.log
   pub joined : new.sat.clauses ≡ old.sat.clauses ++ map (held_of new.log) ids
+  pub seen : IsSeen new
   pub told : (u : ℕ) → told_level new.log u ≤ level
   pub sound : (levels : List (List ℕ)) → IsLog ns levels old.log → IsLog ns levels new.log
   pub given : new.given ≡ old.given
@@ -212,6 +218,7 @@ pub record Excludes (log : LogState) (old : SatState Theory) (atoms : List ℕ) 
   pub ids : List ℕ
   pub exclusions : All (IsExclusion log' atoms) ids
   pub joined : new.clauses ≡ old.clauses ++ map (held_of log') ids
+  pub seen : AreSameSince new.seen log' new.clauses
   pub neighbours : HasNeighbours new.theory log' atoms (ids_held new.clauses)
 
 -- When the search began, and the theory had been told nothing, each two neighbouring bounds of one form had their clause among those held, unless their sum
@@ -232,6 +239,7 @@ pub record CutsTo (old : PreparedState) (level : ℕ) (levels : List Level) (new
   pub sound : (ns : List Node) (levels : List (List ℕ)) → IsLog ns levels old.log → IsLog ns (take (suc level) levels) new.log
   pub form : Cuts old.form level new.form
   pub clauses : new.sat.clauses ≡ held_up_to level old.sat.clauses
+  pub seen : new.sat.seen ≡ old.sat.seen
   pub theory : new.sat.theory ≡ old.sat.theory
   pub given : new.given ≡ min old.given (count_of (asserted_by_level levels))
   pub numbered : new.numbered ≡ min old.numbered (count_of (numbers_by_level levels))

@@ -41,14 +41,14 @@ use std::alloc::Global;
 use std::mem;
 
 /// What is kept from check to check: all that was prepared, or the theory alone.
-#[derive(Debug, Drop)]
+#[derive(Drop)]
 pub enum Retained {
     Prepared(Prepared),
     Theory(Reals),
 }
 
 /// What a check comes to: its answer, and what is kept.
-#[derive(Debug, Drop)]
+#[derive(Drop)]
 pub struct CheckOutcome {
     pub verdict: Verdict,
     pub prepared: Prepared,

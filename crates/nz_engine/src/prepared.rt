@@ -2,7 +2,7 @@
 ghost use Rattle.std.specs.Prelude.{◌≡◌, ◌++◌, All, map, IfOk, OnOk, true};
 ghost use Rattle.nz_log.specs.Logs.{IsLive};
 ghost use Rattle.nz_log.specs.Spelling.{AreStepsOf};
-ghost use Rattle.nz_sat.specs.Sats.{held_of};
+ghost use Rattle.nz_sat.specs.Sats.{AreSameSince, held_of};
 ghost use Rattle.nz_engine.specs.Preparing.{CutsTo, KeepsBounds, nothing_prepared};
 
 mod added;
@@ -25,7 +25,7 @@ use std::mem;
 
 /// The clauses of what was added and of all that it is made of, in a log, each held by a search, at the level in which it was added. What is assumed may
 /// be covered above all levels, for one check.
-#[derive(Debug, Drop)]
+#[derive(Drop)]
 pub struct Prepared {
     alloc: Global,
     log: Log,
@@ -119,6 +119,8 @@ fn take_theory(alloc: Global, sat: &mut Sat<Reals>) -> Reals
 /// Holds these clauses too.
 fn hold(sat: &mut Sat<Reals>, log: &Log, clauses: &[ClauseId]) -> Result<(), Memory>
     requires live { All (λ id. IsLive log.now id) clauses.now }
+    requires since { AreSameSince sat.old.seen log.now sat.old.clauses }
+    ensures since { OnOk result (AreSameSince sat.new.seen log.now sat.new.clauses) }
     ensures held { OnOk result (sat.new.clauses ≡ sat.old.clauses ++ map (held_of log.now) clauses.now) }
     ensures theory { sat.new.theory ≡ sat.old.theory }
 {

@@ -8,6 +8,7 @@ pub mod Clausal
 pub mod ConflictChains
 pub mod DeadEnds
 pub mod Holding
+pub mod KeptClauses
 pub mod LearnedClauses
 pub mod LearnedLines
 pub mod LearnedWatches

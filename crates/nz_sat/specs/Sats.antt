@@ -16,11 +16,12 @@ use Rattle.nz_search.specs.Theories.{IsBoundIn}
 use Rattle.nz_sat.specs.declared.clauses.Held.{Held}
 use Rattle.nz_sat.specs.Numbers.{IsAtomAt, numbered}
 
--- The clauses, by the numbers of atoms in the log the truths that the last search left, and the theory.
+-- The clauses, by the numbers of atoms in the log the truths that the last search left, the theory, and the log as it was seen last.
 pub record SatState (T : Type 0) : Type 0 where
   pub clauses : List Held
   pub truths : List (Option Bool)
   pub theory : T
+  pub seen : Option LogState
 
 -- ---- Truths
 
@@ -62,6 +63,15 @@ ids held = map (λ (h : Held). h.id) held
 -- each clause is live in the log, with its level
 abbrev pub AreHeld : LogState → List Held → Type 0
 AreHeld log held = All (λ (h : Held). IsLive log h.id × (level_at log h.id ≡ h.level)) held
+
+-- a clause is live in a log, with the literals that it had in another one
+abbrev pub IsSameIn : (seen log : LogState) → Held → Type 0
+IsSameIn seen log h = IsLive log h.id × (literals_at log h.id ≡ literals_at seen h.id)
+
+-- each clause is so since the log was seen; before, there is none
+abbrev pub AreSameSince : Option LogState → LogState → List Held → Type 0
+AreSameSince None log held = held ≡ []
+AreSameSince (Some seen) log held = All (IsSameIn seen log) held
 
 -- a clause, with its level
 abbrev pub held_of : LogState → ℕ → Held

@@ -2,7 +2,9 @@
 use Rattle.std.specs.Prelude.{◌≡◌, ◌≢◌, ℕ, ◌+◌, ◌-◌, ◌*◌, ◌<◌, ◌≤◌, ◌⊎◌, true, All, List, take, length, Contains, Option, Some, None, option_map, slice_get}
 use Rattle.nz_log.specs.declared.lits.Lit.{Lit}
 use Rattle.nz_log.specs.Logs.{LogState, literals_at}
+use Rattle.nz_sat.specs.declared.clauses.Held.{Held}
 use Rattle.nz_sat.specs.declared.clauses.WatchedClause.{WatchedClause}
+use Rattle.nz_sat.specs.declared.kept.Kept.{Kept}
 use Rattle.nz_sat.specs.declared.propagate.Visit.{Visit}
 use Rattle.nz_sat.specs.declared.propagate.Visit.TheVariants.{Stays, Moved, Falsified}
 use Rattle.nz_sat.specs.declared.propagation.Propagation.{Propagation}
@@ -10,6 +12,7 @@ use Rattle.nz_sat.specs.declared.trail.Assigned.{Assigned}
 use Rattle.nz_sat.specs.declared.watches.Watch.{Watch}
 use Rattle.nz_sat.specs.Clauses.{AreFalseBut, HasTrue, IsFalsified, IsHeldIn, IsLone, IsLoneIn, IsSettledBy, IsWatchedIn, other_in}
 use Rattle.nz_sat.specs.Lists.{AreOnce, HasKey, HasKeyFrom, list_of}
+use Rattle.nz_sat.specs.Sats.{ids}
 use Rattle.nz_sat.specs.Trails.{IsFalseOn, TrailState, below, depth}
 
 -- The trail, how much of it was looked at, the clauses by their keys, those that have no two different literals, the watches by literal, and below
@@ -79,6 +82,23 @@ pub record AreWatched (s : LogState) (state : State) : Type 0 where
   pub within : state.head ≤ length state.trail.entries
   pub settled : AreSettledBy (take state.head state.trail.entries) state.trail.entries s state.held
   pub were_settled : (k : ℕ) → k < depth state.trail.entries → AreSettledBy (below k state.trail.entries) (below k state.trail.entries) s state.held
+
+-- ---- What outlives a search
+
+-- The clauses that are held are those of which literals are watched, whatever is true.
+pub record HoldsWatched (s : LogState) (held : List Held) (p : Propagation) : Type 0 where
+  pub size : ℕ
+  pub room : 2 * size ≤ length p.watches.lists.items
+  pub listed : AreListed s size (slice_get p.clauses.items) (list_of p.watches)
+  pub lone : All (IsLoneIn s size) p.lone.items
+  pub covered : (i : ℕ) → Contains (ids held) i → HasClause p i
+  pub only : (i : ℕ) → HasClause p i → Contains (ids held) i
+
+-- The first clauses of those that are held were kept, and nothing was looked at.
+pub record IsKept (s : LogState) (held : List Held) (k : Kept) : Type 0 where
+  pub within : k.count ≤ length held
+  pub holds : HoldsWatched s (take k.count held) k.propagation
+  pub head : k.propagation.head ≡ 0
 
 -- ---- A clause more
 

@@ -7,6 +7,7 @@ mod atoms;
 mod clauses;
 mod consult;
 mod heap;
+mod kept;
 mod order;
 mod propagate;
 mod propagation;

@@ -4,7 +4,7 @@ ghost use Rattle.nz_log.specs.declared.lits.Lit.{Lit};
 ghost use Rattle.nz_log.specs.Logs.{IsLive, LogState, literals_at};
 ghost use Rattle.nz_sat.specs.Clauses.{HasTrue, IsFalsified, IsLoneIn, Visits};
 ghost use Rattle.nz_log.specs.Codes.{code_of};
-ghost use Rattle.nz_sat.specs.Trails.{TrailState};
+ghost use Rattle.nz_sat.specs.Trails.{TrailState, empty_trail};
 ghost use Rattle.nz_sat.specs.Watched.{AreWatched, HasClause, MayHold, watch_state};
 
 use crate::clauses::WatchedClause;
@@ -30,24 +30,48 @@ pub struct Propagation {
 }
 
 impl Propagation {
-    /// No clauses, for atoms below a number.
-    pub fn new(alloc: Global, size: usize) -> Result<Propagation, Memory>
-        ensures room { IfOk result (λ p. 2 * size ≤ length p.watches.lists.items) }
-        ensures none { IfOk result (λ p. (i : ℕ) → HasClause p i → ⊥) }
-        ensures head { IfOk result (λ p. p.head ≡ 0) }
-        ensures watched { IfOk result (λ p. (s : LogState) (t : TrailState) → t.size ≡ size → AreWatched s (watch_state p t)) }
+    /// No clauses, for no atoms. Takes no memory.
+    pub fn new(alloc: Global) -> Propagation
+        ensures none { (i : ℕ) → HasClause result i → ⊥ }
+        ensures head { result.head ≡ 0 }
+        ensures watched { (s : LogState) → AreWatched s (watch_state result (empty_trail 0)) }
+    {
+        Propagation {
+            watches: Watches::new(alloc),
+            clauses: Vec::new(alloc),
+            lone: Vec::new(alloc),
+            head: 0,
+        }
+    }
+
+    /// Makes room for atoms below a number.
+    ///
+    /// # Errors
+    ///
+    /// `Memory`. Then there may be room for some more.
+    pub fn fit(&mut self, size: usize) -> Result<(), Memory>
+        ensures room { OnOk result (2 * size ≤ length self.new.watches.lists.items) }
+        ensures same { (s : LogState) (t : TrailState) → AreWatched s (watch_state self.old t) → AreWatched s (watch_state self.new t) }
+        ensures kept { (i : ℕ) → HasClause self.old i → HasClause self.new i }
+        ensures only { (i : ℕ) → HasClause self.new i → HasClause self.old i }
+        ensures head { self.new.head ≡ self.old.head }
     {
         let Some(literals) = size.checked_mul(2) else {
             return Err(Memory);
         };
-        let mut watches = Watches::new(alloc);
-        watches.fit(literals)?;
-        Ok(Propagation {
-            watches,
-            clauses: Vec::new(alloc),
-            lone: Vec::new(alloc),
-            head: 0,
-        })
+        self.watches.fit(literals)
+    }
+
+    /// Lets go of all clauses. Takes no memory.
+    pub fn clear(&mut self)
+        ensures none { (i : ℕ) → HasClause self.new i → ⊥ }
+        ensures head { self.new.head ≡ 0 }
+        ensures watched { (s : LogState) → AreWatched s (watch_state self.new (empty_trail 0)) }
+    {
+        self.watches.clear();
+        self.clauses.clear();
+        self.lone.clear();
+        self.head = 0;
     }
 
     /// Holds a clause, of which these two literals are watched, or none where it has no two different ones.

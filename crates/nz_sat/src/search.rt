@@ -8,7 +8,7 @@ ghost use Rattle.nz_spec.specs.search.Work.{IsSpent, UnitLine, unit_count, with_
 ghost use Rattle.nz_base.specs.Entries.{entry_of};
 ghost use Rattle.nz_log.specs.declared.lits.Lit.{Lit};
 ghost use Rattle.nz_search.specs.declared.stop.Stop.TheVariants as stop;
-ghost use Rattle.nz_log.specs.Logs.{IsLive, literals_at};
+ghost use Rattle.nz_log.specs.Logs.{IsLive, LogState, literals_at};
 ghost use Rattle.nz_sat.specs.declared.clauses.Held.{Held};
 ghost use Rattle.nz_sat.specs.Clauses.{IsImplied};
 ghost use Rattle.nz_search.specs.Places.{OnWide};
@@ -20,12 +20,13 @@ ghost use Rattle.nz_sat.specs.Sats.{AreConsistent, AreHeld, AreOn, HoldsMore, he
 ghost use Rattle.nz_sat.specs.Searching.{Advances, AreFirst, Assumes, AssumesAll, ComesTo, Decides, Follows, IsConflict, IsSearch, Learns, MayAssume, MayFollow, Starts, WasNoted, after_learned, learned_line};
 ghost use Rattle.nz_sat.specs.Theories.{AddsLines, IsMet, IsOfTheory, Keeps, TellsTrail, state_of, told_lits, told_on};
 ghost use Rattle.nz_sat.specs.Trails.{EachBehind, GoesOn, IsFrontOf, IsTrail, assigned, below, depth};
-ghost use Rattle.nz_sat.specs.Watched.{AreTwoOf, AreWatched, watch_state};
+ghost use Rattle.nz_sat.specs.Watched.{AreTwoOf, AreWatched, HoldsWatched, IsKept, watch_state};
 
 use crate::analyze::{Learned, greatest_level, learned_clause, refutation};
 use crate::atoms::Atoms;
 use crate::clauses::Held;
 use crate::consult::{Bounds, consult};
+use crate::kept::Kept;
 use crate::order::Order;
 use crate::propagation::Propagation;
 use crate::redundancy::Redundancy;
@@ -55,11 +56,18 @@ pub struct Search {
 }
 
 impl Search {
-    /// A search over these clauses, with nothing decided.
-    pub fn new(alloc: Global, log: &Log, held: &[Held], atoms: &[AtomId]) -> Result<Search, Memory>
+    /// A search over these clauses, of which the first ones were kept, with nothing decided.
+    pub fn new(
+        alloc: Global,
+        log: &Log,
+        held: &[Held],
+        atoms: &[AtomId],
+        kept: Kept,
+    ) -> Result<Search, Memory>
         requires held { AreHeld log.now held.now }
         requires named { All (λ h. All (λ l. Contains atoms.now l.atom) (literals_at log.now h.id)) held.now }
         requires there { AreToldAtoms log.now atoms.now }
+        requires kept { IsKept log.now held.now kept }
         ensures search { IfOk result (λ s. IsSearch log.now held.now s) }
         ensures atoms { IfOk result (λ s. s.atoms ≡ atoms.now) }
         ensures none { IfOk result (λ s. s.trail.entries ≡ []) }
@@ -67,9 +75,14 @@ impl Search {
         let atoms = Atoms::of(alloc, atoms)?;
         let size = atoms.size();
         let bounds = Bounds::among(alloc, log, atoms.ids(), size)?;
-        let order = Order::new(alloc, &atoms)?;
-        let mut propagation = Propagation::new(alloc, size)?;
-        for clause in held {
+        let Kept {
+            mut propagation,
+            count,
+            mut order,
+        } = kept;
+        order.fit(&atoms)?;
+        propagation.fit(size)?;
+        for clause in &held[count..] {
             propagation.hold(log, clause.id, two_of(log.clause(clause.id)))?;
         }
         Ok(Search {
@@ -82,6 +95,23 @@ impl Search {
             restarts: Restarts::new(),
             bounds,
         })
+    }
+
+    /// What is kept for the next search, which holds so many clauses of those that were held.
+    pub fn rest(self, count: usize) -> Kept
+        ensures kept { (log : LogState) (held : List Held) → length held ≡ count → HoldsWatched log held self.propagation → IsKept log held result }
+    {
+        let Search {
+            mut propagation,
+            order,
+            ..
+        } = self;
+        propagation.cut(0);
+        Kept {
+            propagation,
+            count,
+            order,
+        }
     }
 
     /// Puts what the clauses alone make true on the trail. Answers a falsified clause.

@@ -51,6 +51,15 @@ impl Watches {
         Ok(())
     }
 
+    /// Empties each list. Takes no memory.
+    pub fn clear(&mut self)
+        ensures none { (t : ℕ) → list_at self.new.lists.items t ≡ [] }
+    {
+        for list in self.lists.iter_mut() {
+            list.clear();
+        }
+    }
+
     /// How many clauses watch a literal.
     pub fn count(&self, literal: Lit) -> usize
         requires within { code_of literal < length self.now.lists.items }

@@ -15,6 +15,7 @@ returns-clause-cuts c =
       sound = c.drop_above.ensures.sound;
       form = c.cut.ensures.cuts;
       clauses = c.cut-2.ensures.clauses;
+      seen = c.cut-2.ensures.seen;
       theory = c.cut-2.ensures.theory;
       given = c.count_up_to-self-inside.ensures.count;
       numbered = c.count_up_to-self-inside-2.ensures.count;
