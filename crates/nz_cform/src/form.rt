@@ -75,6 +75,13 @@ impl ClauseForm {
         self.terms.has(term)
     }
 
+    /// Whether a bound is listed, by the number of its atom.
+    pub fn is_listed(&self, atom: AtomId) -> bool
+        ensures listed { result ≡ is_some (listed_at self.now.bounds atom) }
+    {
+        self.bounds.has(atom)
+    }
+
     /// Puts the clauses of a term, and of all that is listed with it, into a log: those of the terms that aren't covered, which are then covered at
     /// this level. Answers the numbers of these clauses. Takes time and memory in proportion to the terms that were not covered and their
     /// arguments, however deeply they nest.

@@ -1,6 +1,6 @@
 -- How a check ends: its lines are legal, and where an operation left the numbers a search may stop.
-use Rattle.std.proofs.Common.{◌≡◌, ◌⊎◌, inl, inr, ℕ, ◌+◌, ◌*◌, ◌≤◌, false, length, List, [], ◌∷◌, ◌++◌, map, refl, sym, ap, subst, ◌∙◌, arith}
-use Rattle.std.specs.Prelude.{All, Contains, if◌then◌else◌}
+use Rattle.std.proofs.Common.{◌≡◌, ◌⊎◌, inl, inr, Err, Ok, Result, ℕ, ◌+◌, ◌*◌, ◌≤◌, false, length, List, [], ◌∷◌, ◌++◌, map, refl, sym, ap, subst, ◌∙◌, arith}
+use Rattle.std.specs.Prelude.{All, Contains, IsErrAnd, if◌then◌else◌}
 use Rattle.std.proofs.lemmas.List.Elements.{All-contains}
 use Rattle.std.proofs.lemmas.List.Sums.{sum_by-append, sum_by-cons}
 use Rattle.nz_fractions.specs.Fraction.{Operation}
@@ -312,3 +312,9 @@ pub none_spent : (e : Stop) (P : Type 0) → (e ≡ Spent → ⊥) → OnSpent e
 none_spent (Wide place) P h = tt
 none_spent Spent P h = absurd (h refl)
 none_spent Memory P h = tt
+
+-- ---- An error that is handed on
+
+pub same_error : {T E : Type 0} (r : Result T E) (e : E) → IsErrAnd r (λ (y : E). y ≡ e) → Err e ≡ r
+same_error (Ok x) e h = absurd h
+same_error (Err y) e h = ap Err (sym h)

@@ -29,14 +29,15 @@ use Rattle.nz_cform.specs.Forms.{FormState, IsCoveredWithin, covered_at}
 use Rattle.nz_cform.specs.Listings.{listed_at}
 use Rattle.nz_cform.specs.Laws.{CoversStay, RowsNameCovered}
 use Rattle.nz_sat.specs.declared.clauses.Held.{Held}
-use Rattle.nz_sat.specs.Sats.{AreHeld, HoldsMore, held_of}
+use Rattle.nz_sat.specs.Sats.{AreHeld, AreSameSince, held_of}
 use Rattle.nz_search.specs.Levels.{Level, asserted_by_level, numbers_by_level}
 use Rattle.nz_engine.specs.Levels.{IsPlaced, count_in}
-use Rattle.nz_engine.specs.Preparing.{PreparedState, AreSearched, CoversAlso, HoldsUnit, IsMadeOf, IsNumbered, IsOfForm, IsPrepared, IsSearched, unit_of}
+use Rattle.nz_engine.specs.Preparing.{PreparedState, AreSearched, CoversAlso, HoldsAlso, HoldsUnit, IsMadeOf, IsNumbered, IsOfForm, IsPrepared, IsSearched, IsSeen, unit_of}
 use Rattle.nz_engine.proofs.LevelPreservation.{none_or_some, some_of, some_within, still_searched}
 use Rattle.nz_engine.proofs.AssertionPlaces.{count_more, placed_in_all}
 use Rattle.nz_engine.specs.SearchLaws.{RowLaws}
 use Rattle.nz_engine.proofs.RowFacts.{IsRowLiteral, of_row}
+use Rattle.nz_engine.proofs.SeenClauses.{seen_held, still_seen}
 
 -- ---- Logs in which each clause stays
 
@@ -51,7 +52,7 @@ module _ (old new : LogState) (kept : Keeps old new) where
   origin_kept i live = ap (option_map (λ (e : Entry). e.origin)) (kept.clauses i live)
 
   held_kept : (i : ℕ) → IsLive old i → held_of new i ≡ held_of old i
-  held_kept i live = ap (λ n. let x : Held = record { id = i; level = n } in x) (level_kept i live)
+  held_kept i live = ap (λ n. let x : Held = record { id = i; level = n; is_learned = false } in x) (level_kept i live)
 
   still_held : (hs : List Held) → AreHeld old hs → AreHeld new hs
   still_held hs h =
@@ -254,6 +255,7 @@ module _ (ns : List Node) (levels : List Level) (roots : List (List ℕ)) (p q :
         taken = cover_taken parts own;
         leveled = cover_leveled named parts table own order;
         held = cover_held;
+        seen = c.seen;
         searched = cover_searched named parts laws table own order;
         rows = cover_rows;
         units = λ k u below at.
@@ -276,7 +278,7 @@ module _ (ns : List Node) (levels : List Level) (roots : List (List ℕ)) (p q :
 -- ---- An assertion is given
 
 module _ (ns : List Node) (levels : List Level) (roots : List (List ℕ)) (p q : PreparedState) (id t n : ℕ) (puts : Puts p.log id (given_entry q.log p.given t n) q.log)
-    (there : HasTerm q.log.atoms t) (joined : q.sat.clauses ≡ p.sat.clauses ++ held_of q.log id ∷ []) (form : q.form ≡ p.form) (given : q.given ≡ suc p.given) (numbered : q.numbered ≡ p.numbered)
+    (there : HasTerm q.log.atoms t) (joined : q.sat.clauses ≡ p.sat.clauses ++ held_of q.log id ∷ []) (sees : q.sat.seen ≡ Some q.log) (form : q.form ≡ p.form) (given : q.given ≡ suc p.given) (numbered : q.numbered ≡ p.numbered)
     (placed : IsPlaced (asserted_by_level levels) p.given t n)
     (told : told_level p.log t ≤ n) (h : IsPrepared ns levels roots p) where
   put_kept : Keeps p.log q.log
@@ -367,6 +369,7 @@ module _ (ns : List Node) (levels : List Level) (roots : List (List ℕ)) (p q :
         taken = λ u has. h.taken u (subst (λ (f : FormState). IsSome (covered_at f u)) form has);
         leveled = leveled.given p.log q.log id p.given t n puts there (subst (λ (o : Option ℕ). IsSome o) (sym (h.covers.rows.told t)) some) h.leveled;
         held = given_held;
+        seen = subst (λ (s : Option LogState). AreSameSince s q.log q.sat.clauses) (sym sees) (seen_held q.log q.sat.clauses given_held);
         searched = given_searched some boolean;
         rows = given_rows;
         units = given_units atoms;
@@ -398,6 +401,7 @@ number_counted ns levels roots p t n count is placed some h =
       taken = h.taken;
       leveled = h.leveled;
       held = h.held;
+      seen = h.seen;
       searched = h.searched;
       rows = h.rows;
       units = λ k u below at.
@@ -425,7 +429,7 @@ number_counted ns levels roots p t n count is placed some h =
 -- ---- A search has learned
 
 module _ (ns : List Node) (levels : List Level) (roots : List (List ℕ)) (p q : PreparedState) (grows : growth.Grows p.log q.log) (form : q.form ≡ p.form) (given : q.given ≡ p.given)
-    (numbered : q.numbered ≡ p.numbered) (more : HoldsMore q.log p.sat.clauses q.sat.clauses) (h : IsPrepared ns levels roots p) where
+    (numbered : q.numbered ≡ p.numbered) (more : HoldsAlso q.log p.sat.clauses q.sat.clauses) (h : IsPrepared ns levels roots p) where
   learned_kept : Keeps p.log q.log
   learned_kept = record { clauses = grows.kept; atoms = grows.atoms }
 
@@ -443,7 +447,7 @@ module _ (ns : List Node) (levels : List Level) (roots : List (List ℕ)) (p q :
   learned_rows i t row =
       let live = row_was i t row in
       subst (λ hs. Contains hs (held_of q.log i)) (sym more.joined)
-      (Contains-append_left p.sat.clauses more.learned (held_of q.log i)
+      (Contains-append_left p.sat.clauses more.also (held_of q.log i)
       (subst (Contains p.sat.clauses) (sym (held_kept p.log q.log learned_kept i live)) (h.rows i t (row.0, sym (origin_kept p.log q.log learned_kept i live) ∙ row.1, row.2))))
 
   learned_told : (u : ℕ) (ls : List (List ℕ)) (k : ℕ) → count_in ls (told_level p.log u) ≤ k → count_in ls (told_level q.log u) ≤ k
@@ -451,8 +455,8 @@ module _ (ns : List Node) (levels : List Level) (roots : List (List ℕ)) (p q :
       let same : told_level q.log u ≡ told_level p.log u = ap (λ ts. unwrap_or (slice_index_or ts u None) 0) grows.told in
       subst (λ m. count_in ls m ≤ k) (sym same) was
 
-  pub learned : AtomsOfTerms → CoversStay → AreSearched ns q.log q.form q.sat.clauses → IsLog ns (asserted_by_level levels) q.log → IsPrepared ns levels roots q
-  learned atoms covers searched order =
+  pub learned : AtomsOfTerms → CoversStay → IsSeen q → AreSearched ns q.log q.form q.sat.clauses → IsLog ns (asserted_by_level levels) q.log → IsPrepared ns levels roots q
+  learned atoms covers seen searched order =
       record {
         order = order;
         covers = subst (Covers ns q.log) (sym form) (covers.learned ns p.log q.log p.form grows h.covers);
@@ -461,10 +465,11 @@ module _ (ns : List Node) (levels : List Level) (roots : List (List ℕ)) (p q :
         taken = λ u has. h.taken u (subst (λ (f : FormState). IsSome (covered_at f u)) form has);
         leveled = grows.leveled h.leveled;
         held = more.held;
+        seen = seen;
         searched = searched;
         rows = learned_rows;
         units = λ k u below at.
-            still_units p.log q.log learned_kept atoms (asserted_by_level levels) p q more.learned refl refl h.held more.joined k u (h.units k u (omega (arith, below, given)) at);
+            still_units p.log q.log learned_kept atoms (asserted_by_level levels) p q more.also refl refl h.held more.joined k u (h.units k u (omega (arith, below, given)) at);
         numbers = λ k u below at.
             let was = h.numbers k u (omega (arith, below, numbered)) at in
             record { level = was.level; covered = ap (λ f. covered_at f u) form ∙ was.covered; behind = was.behind };
@@ -491,11 +496,15 @@ joins_grow leveled old new joins =
 
 -- and what is prepared stays so
 pub joined_prepared : AtomsOfTerms → LogsStay → LogsStayLeveled → CoversStay → (ns : List Node) (levels : List Level) (roots : List (List ℕ)) (p q : PreparedState) → JoinsAtoms p.log q.log
-    → AreAtoms q.log.atoms → q.form ≡ p.form → q.given ≡ p.given → q.numbered ≡ p.numbered → q.sat.clauses ≡ p.sat.clauses → IsPrepared ns levels roots p → IsPrepared ns levels roots q
-joined_prepared atoms stay leveled covers ns levels roots p q joins all form given numbered clauses h =
+    → AreAtoms q.log.atoms → q.form ≡ p.form → q.given ≡ p.given → q.numbered ≡ p.numbered → q.sat.clauses ≡ p.sat.clauses → q.sat.seen ≡ p.sat.seen → IsPrepared ns levels roots p
+    → IsPrepared ns levels roots q
+joined_prepared atoms stay leveled covers ns levels roots p q joins all form given numbered clauses sees h =
     let grows = joins_grow leveled p.log q.log joins in
     let kept : Keeps p.log q.log = record { clauses = grows.kept; atoms = grows.atoms } in
     let held : AreHeld q.log q.sat.clauses = subst (AreHeld q.log) (sym clauses) (still_held p.log q.log kept p.sat.clauses h.held) in
-    learned ns levels roots p q grows form given numbered (record { learned = []; joined = clauses ∙ sym (append-nil p.sat.clauses); held = held }) h atoms covers
+    let seen : IsSeen q =
+    subst (λ (s : Option LogState). AreSameSince s q.log q.sat.clauses) (sym sees)
+    (subst (AreSameSince p.sat.seen q.log) (sym clauses) (still_seen p.sat.seen p.log q.log p.sat.clauses kept.clauses h.seen)) in
+    learned ns levels roots p q grows form given numbered (record { also = []; joined = clauses ∙ sym (append-nil p.sat.clauses); held = held }) h atoms covers seen
     (subst (AreSearched ns q.log q.form) (sym clauses)
     (still_all p.log q.log kept ns p q refl refl (λ i a of. subst (λ (f : FormState). IsOfForm ns f i a) (sym form) of) p.sat.clauses h.held h.searched)) (stay.joined ns (asserted_by_level levels) p.log q.log joins all h.order)

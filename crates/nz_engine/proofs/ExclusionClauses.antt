@@ -1,5 +1,5 @@
 -- A search over what is prepared may begin where clauses for bounds that exclude each other are held too.
-use Rattle.std.proofs.Common.{◌≡◌, ℕ, List, [], ◌∷◌, ◌++◌, append-nil, map, Option, Some, None, get_or, refl, sym, ap, subst, ◌∙◌, arith}
+use Rattle.std.proofs.Common.{◌≡◌, ℕ, List, [], ◌∷◌, ◌++◌, append-nil, map, Option, Some, None, Result, Ok, Err, OnOk, get_or, refl, sym, ap, subst, ◌∙◌, arith}
 use Rattle.std.specs.Prelude.{All, Contains, IsSome}
 use Rattle.std.proofs.lemmas.List.{map-append}
 use Rattle.std.proofs.lemmas.List.Elements.{All-append, All-contains, All-from_recursion, All-map, All-weaker, Contains-append_left, Contains-get_or}
@@ -14,11 +14,11 @@ use Rattle.nz_reals.specs.Exclusions.{AddsOn, HasNeighbours, IsExclusion, IsLowe
 use Rattle.nz_reals.specs.Stands.{IsOver}
 use Rattle.nz_reals.specs.State.{Theory, known_at}
 use Rattle.nz_sat.specs.declared.clauses.Held.{Held}
-use Rattle.nz_sat.specs.Sats.{AreHeld, AreOn, HoldsMore, SatState, held_of}
+use Rattle.nz_sat.specs.Sats.{AreHeld, AreOn, AreSameSince, SatState, held_of}
 use Rattle.nz_search.specs.Levels.{Level, asserted_by_level}
 use Rattle.nz_engine.specs.declared.prepared.Prepared.TheInside.{Inside}
 use Rattle.nz_engine.specs.Checking.{IsPosed, IsReady}
-use Rattle.nz_engine.specs.Preparing.{AreJust, Excludes, PreparedState, atoms_of, ids_held}
+use Rattle.nz_engine.specs.Preparing.{AreJust, Excludes, HoldsAlso, PreparedState, atoms_of, ids_held}
 use Rattle.nz_engine.specs.SearchLaws.{SearchLaws}
 use Rattle.nz_engine.proofs.SearchAtoms.{are_named, ids_told, ids_within, named_have, named_ids, named_just, named_lits, named_searched, posed_after}
 
@@ -61,22 +61,28 @@ held_with log held ids = map-append (λ (h : Held). h.id) held (map (held_of log
 pub live_ids : (log : LogState) (held : List Held) → AreHeld log held → All (IsLive log) (ids_held held)
 live_ids log held are = All-map (IsLive log) (λ (h : Held). h.id) held (λ k d below. (are k d below).0)
 
+-- of two facts on a success comes a third
+pub on_both : {T E P Q R : Type 0} (r : Result T E) → (P → Q → R) → OnOk r P → OnOk r Q → OnOk r R
+on_both (Ok x) f p q = f p q
+on_both (Err e) f p q = tt
+
 -- The clauses that were put are held, and each two neighbouring bounds have theirs.
 pub excludes_by : (log log' : LogState) (old new : SatState Theory) (atoms cs : List ℕ) → new.theory ≡ old.theory → AddsOn atoms log log' → All (IsExclusion log' atoms) cs
-    → new.clauses ≡ old.clauses ++ map (held_of log') cs → HasNeighbours old.theory log' atoms (ids_held old.clauses ++ cs) → Excludes log old atoms log' new
-excludes_by log log' old new atoms cs theory adds all joined neighbours = record {
+    → new.clauses ≡ old.clauses ++ map (held_of log') cs → AreSameSince new.seen log' new.clauses → HasNeighbours old.theory log' atoms (ids_held old.clauses ++ cs) → Excludes log old atoms log' new
+excludes_by log log' old new atoms cs theory adds all joined seen neighbours = record {
   theory = theory;
   adds = adds;
   ids = cs;
   exclusions = all;
   joined = joined;
+  seen = seen;
   neighbours = subst (λ (t : Theory). HasNeighbours t log' atoms (ids_held new.clauses)) (sym theory)
       (subst (HasNeighbours old.theory log' atoms) (sym (ap ids_held joined ∙ held_with log' old.clauses cs)) neighbours);
 }
 
 -- Where nothing is known of any atom, no two bounds are neighbours.
-pub excludes_none : (log : LogState) (sat : SatState Theory) (atoms : List ℕ) → ((i : ℕ) → known_at sat.theory i ≡ None) → Excludes log sat atoms log sat
-excludes_none log sat atoms none =
+pub excludes_none : (log : LogState) (sat : SatState Theory) (atoms : List ℕ) → ((i : ℕ) → known_at sat.theory i ≡ None) → AreSameSince sat.seen log sat.clauses → Excludes log sat atoms log sat
+excludes_none log sat atoms none seen =
     let unknown : (l : Lit) → IsLower sat.theory l → ⊥ = λ l low.
     let both : Some low.known ≡ None = sym low.knows ∙ none l.atom in
     absurd cc in
@@ -90,6 +96,7 @@ excludes_none log sat atoms none =
       ids = [];
       exclusions = λ k d below. absurd (omega (arith, below));
       joined = sym (append-nil sat.clauses);
+      seen = seen;
       neighbours = record {
         lowers = [];
         are = record {
@@ -102,10 +109,10 @@ excludes_none log sat atoms none =
     }
 
 module _ (p : PreparedState) {atoms : List ℕ} (q : PreparedState) (x : Excludes p.log p.sat atoms q.log q.sat) (were : AreHeld p.log p.sat.clauses) where
-  holds_exclusions : HoldsMore q.log p.sat.clauses q.sat.clauses
+  holds_exclusions : HoldsAlso q.log p.sat.clauses q.sat.clauses
   holds_exclusions =
       record {
-        learned = map (held_of q.log) x.ids;
+        also = map (held_of q.log) x.ids;
         joined = x.joined;
         held = subst (AreHeld q.log) (sym x.joined)
             (All-append (λ (h : Held). IsLive q.log h.id × (level_at q.log h.id ≡ h.level)) p.sat.clauses (map (held_of q.log) x.ids) (still_held p.log q.log x.adds.keeps p.sat.clauses were)
@@ -128,7 +135,7 @@ ready_excluded laws {ns} {assumed} {first} {old} {p} {ids} {lits} r q x form giv
     let grows = x.adds.grows (ids_told laws.rows laws.atoms posed n) in
     let were = posed.standing.raised.held in
     let after : (levels : List Level) → IsPosed ns levels assumed p → IsPosed ns levels assumed q = λ levels h.
-    posed_after laws.atoms laws.covers r q form given numbered above levels grows (holds_exclusions p q x were)
+    posed_after laws.atoms laws.covers r q form given numbered above levels grows (holds_exclusions p q x were) x.seen
     (named_searched laws.rows laws.atoms h n q grows form noted (exclusions_on p q x were (are_named laws.rows laws.atoms h n).clauses)) (x.adds.sound ns (asserted_by_level levels) (ids_within laws.rows laws.atoms h n))
     (subst (λ (t : Theory). IsOver t ns) (sym x.theory)) h in
     let ids_are = named_ids laws.rows laws.atoms posed n q grows form noted in

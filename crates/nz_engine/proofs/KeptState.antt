@@ -14,7 +14,7 @@ use Rattle.nz_search.specs.Levels.{Level, added_by_level}
 use Rattle.nz_engine.specs.declared.check.Retained.{Retained}
 use Rattle.nz_engine.specs.declared.check.Retained.TheVariants as kept
 use Rattle.nz_engine.specs.Engines.{IsAtRest, IsKept, IsLow, IsReadied, IsSettled, theory_of}
-use Rattle.nz_engine.specs.Preparing.{PreparedState, CutsTo, IsPrepared, KeepsBounds}
+use Rattle.nz_engine.specs.Preparing.{PreparedState, CutsTo, IsPrepared}
 use Rattle.nz_engine.proofs.LevelPreservation.{cut_prepared, goes_on, grown, standing}
 use Rattle.nz_engine.proofs.AssertionPlaces.{GoOn, lower_or_not}
 
@@ -34,12 +34,12 @@ take_length n xs ys e long = let all = ap length (sym e) ∙ length-take n xs in
 
 -- what is cut to the last of the first levels
 pub settled : CoversStay → LogsStayLeveled → (ns : List Node) (old levels : List Level) (p q : PreparedState) (last : ℕ) → take (length levels) old ≡ levels → suc last ≡ length levels
-    → CutsTo p last levels q → KeepsBounds p.form q.form → IsReadied ns old p → IsSettled ns levels q
-settled covers leveled ns old levels p q last front end cuts keeps r =
+    → CutsTo p last levels q → IsReadied ns old p → IsSettled ns levels q
+settled covers leveled ns old levels p q last front end cuts r =
     let same : take (suc last) old ≡ levels = ap (λ n. take n old) end ∙ front in
     let few : suc last ≤ length old = take_length (suc last) old levels same (sym end) in
     let own : CutsTo p last (take (suc last) old) q = subst (λ ls. CutsTo p last ls q) (sym same) cuts in
-    let cut = cut_prepared ns old (added_by_level old ++ r.more ∷ []) p q last own r.standing.raised covers leveled keeps in
+    let cut = cut_prepared ns old (added_by_level old ++ r.more ∷ []) p q last own r.standing.raised covers leveled in
     record {
       table = r.table;
       prepared = subst (λ ls. IsPrepared ns ls (added_by_level ls) q) same (subst (λ rs. IsPrepared ns (take (suc last) old) rs q) (front_of old r.more (suc last) few) cut);

@@ -150,7 +150,7 @@ module _ (laws : SearchLaws) {ns : List Node} {assumed : List TermLit} {old : Pr
     lead_more new after l levels q may = let h = l.stands ns q (learns_at levels q may) (stands_gone levels q may) in (h.point, h.legal)
 
     -- the other atoms are named, and neighbouring bounds have their clauses
-    module _ (sat : SatState Theory) (after : WorkList Note) (l : LearnsMore p.log.atoms ids from t sat.theory gone after (Ok tt)) (clauses : sat.clauses ≡ p.sat.clauses) (log : LogState) (new : SatState Theory)
+    module _ (sat : SatState Theory) (after : WorkList Note) (l : LearnsMore p.log.atoms ids from t sat.theory gone after (Ok tt)) (clauses : sat.clauses ≡ p.sat.clauses) (seen : sat.seen ≡ p.sat.seen) (log : LogState) (new : SatState Theory)
         (x : Excludes p.log sat ids log new) (some_way : (levels : List Level) × (q : Task) × MaySearch ns levels assumed q work old) where
       pub begun_later : IsBegun ns assumed from old (record p { log = log; sat = new }) ids lits work after
       begun_later =
@@ -158,7 +158,7 @@ module _ (laws : SearchLaws) {ns : List Node} {assumed : List TermLit} {old : Pr
           let q : PreparedState = record p { log = log; sat = new } in
           let theory : new.theory ≡ sat.theory = x.theory in
           let here : IsReady ns assumed from old mid ids lits =
-          ready_with r mid refl refl clauses refl refl refl refl (λ was within. l.over ns (over ns was) within) (λ levels h. ids_within laws.rows laws.atoms h r.handed) in
+          ready_with r mid refl refl clauses seen refl refl refl refl (λ was within. l.over ns (over ns was) within) (λ levels h. ids_within laws.rows laws.atoms h r.handed) in
           let ready = ready_excluded laws here q x refl refl refl refl refl in
           let way = way_of some some_way.2.from in
           let atoms : log.atoms ≡ p.log.atoms = x.adds.keeps.atoms in

@@ -4,7 +4,8 @@ use Rattle.std.specs.Prelude.{All, Contains, IsSome, IsSomeAnd, filter, is_some,
 use Rattle.std.specs.List.{AllByRecursion}
 use Rattle.std.proofs.lemmas.Bool.{leb-true, le-leb}
 use Rattle.std.proofs.lemmas.List.{length-append, length-map, take-append-le, take-map}
-use Rattle.std.proofs.lemmas.List.Elements.{All-contains, All-contains_itself, All-from_recursion, All-weaker, Contains-append_right, recursion_from_All}
+use Rattle.std.proofs.lemmas.List.Elements.{All-contains, All-from_recursion, All-weaker, Contains-append_right, Contains-get_or, recursion_from_All}
+use Rattle.std.proofs.lemmas.Option.{slice_get_within}
 use Rattle.nz_lists.proofs.Elements.{AllByRecursion-weaker}
 use Rattle.nz_lists.proofs.Members.{has_cases, has_none}
 use Rattle.nz_lists.proofs.Options.{kept_if}
@@ -18,19 +19,20 @@ use Rattle.nz_log.specs.declared.atoms.Atom.TheVariants.{Term, AtMost}
 use Rattle.nz_log.specs.declared.lits.Lit.{Lit}
 use Rattle.nz_log.specs.Atoms.{HasTerm, lit_of, terms_of}
 use Rattle.nz_log.specs.Leveled.{IsToldWithin, LogsStayLeveled}
-use Rattle.nz_log.specs.Logs.{Origin, Entry, entry_at, IsLive, level_at, literals_at, told_of, told_level, kept_below, told_below}
+use Rattle.nz_log.specs.Logs.{Drops, LogState, Origin, Entry, entry_at, IsLive, level_at, literals_at, told_of, told_level, kept_below, told_below}
 use Rattle.nz_log.specs.Sound.{IsLog, live_at, LogsStay}
 use Rattle.nz_term.specs.TermLits.{yes}
-use Rattle.nz_cform.specs.Covering.{IsRowAt}
+use Rattle.nz_cform.specs.Covering.{Covers, IsRowAt}
 use Rattle.nz_cform.specs.Forms.{covered_at}
 use Rattle.nz_cform.specs.Listings as listings
 use Rattle.nz_cform.specs.Listings.{ListingState, listed_at}
 use Rattle.nz_cform.specs.Laws.{CoversStay}
 use Rattle.nz_sat.specs.declared.clauses.Held.{Held}
-use Rattle.nz_sat.specs.Sats.{AreHeld, held_of, held_up_to}
+use Rattle.nz_sat.specs.Sats.{AreHeld, AreSameSince, IsSameIn, held_of, held_up_to}
 use Rattle.nz_search.specs.Levels.{Level, added_by_level, asserted_by_level, numbers_by_level}
 use Rattle.nz_engine.specs.Levels.{count_in, count_of}
-use Rattle.nz_engine.specs.Preparing.{PreparedState, AreSearched, HoldsUnit, IsMadeOf, IsNumbered, IsOfForm, IsPrepared, IsSearched, IsStanding, CutsTo, KeepsBounds}
+use Rattle.nz_engine.specs.Preparing.{PreparedState, AreSearched, HasListedBounds, HoldsUnit, IsListedIn, IsMadeOf, IsNumbered, IsOfForm, IsPrepared, IsSearched, IsSeen, IsStanding, CutsTo, unit_of}
+use Rattle.nz_engine.proofs.UnlistedClauses.{left_all}
 use Rattle.nz_engine.proofs.AssertionPlaces.{GoOn, TermsGoOn, count_all, count_cut, count_more, in_all, live_cut, longer_cut, lower_or_not}
 
 pub none_or_some : {X : Type 0} (o : Option X) → (o ≡ None) ⊎ ((x : X) × (o ≡ Some x))
@@ -127,6 +129,7 @@ module _ (ns : List Node) (old new : List Level) (p : PreparedState) (on : GoOn 
         taken = h.taken;
         leveled = h.leveled;
         held = h.held;
+        seen = h.seen;
         searched = h.searched;
         rows = h.rows;
         units = goes_units;
@@ -153,6 +156,7 @@ raised ns levels more p h =
       taken = h.taken;
       leveled = h.leveled;
       held = h.held;
+      seen = h.seen;
       searched = h.searched;
       rows = h.rows;
       units = h.units;
@@ -199,6 +203,7 @@ grown terms stay covers ns more levels roots p table h =
           subst IsTaken (sym (terms ns more t (h.covers.within t n.0 n.1))) (h.taken t some);
       leveled = h.leveled;
       held = h.held;
+      seen = h.seen;
       searched = λ k d inside.
           let x = get_or p.sat.clauses k d in
           All-weaker (λ (l : Lit). IsSearched ns p.log p.form l.atom) (λ (l : Lit). IsSearched (ns ++ more) p.log p.form l.atom)
@@ -224,6 +229,9 @@ up_to : (P Q : Held → Type 0) (m : ℕ) → ((h : Held) → h.level ≤ m → 
 up_to P Q m f [] all = tt
 up_to P Q m f (h ∷ hs) all =
     filter_step Q h (held_up_to m hs) (nat_le h.level m) (λ e. f h (leb-true h.level m e) all.0) (up_to P Q m f hs all.1)
+
+up_all : (P Q : Held → Type 0) (m : ℕ) → ((h : Held) → h.level ≤ m → P h → Q h) → (hs : List Held) → All P hs → All Q (held_up_to m hs)
+up_all P Q m f hs all = All-from_recursion Q (held_up_to m hs) (up_to P Q m f hs (recursion_from_All P hs all))
 
 -- and a clause up to it is one of them
 keep_first : (h : Held) (hs : List Held) (b : Bool) → b ≡ true → Contains (cond b (h ∷ hs) hs) h
@@ -271,27 +279,76 @@ told_low : (m : ℕ) (o : Option ℕ) → (unwrap_or (told_below m o) 0 ≤ m) �
 told_low m None = (omega arith, omega arith)
 told_low m (Some n) = told_test m n (nat_le n m) refl
 
+-- in a log that is cut, the clauses up to the level are what they were
+module _ (p : PreparedState) (m : ℕ) (log : LogState) (d : Drops p.log m log) where
+  dropped_entry : (i : ℕ) → IsLive p.log i → level_at p.log i ≤ m → entry_at log i ≡ entry_at p.log i
+  dropped_entry i live low = d.entries i ∙ entry_kept m (entry_at p.log i) live low
+
+  pub dropped_live : AreHeld p.log p.sat.clauses → All (λ (x : Held). IsLive log x.id) (held_up_to m p.sat.clauses)
+  dropped_live held =
+      up_all (λ (x : Held). IsLive p.log x.id × (level_at p.log x.id ≡ x.level)) (λ (x : Held). IsLive log x.id) m
+      (λ x low k. subst (λ o. IsSome o) (sym (dropped_entry x.id k.0 (subst (λ n. n ≤ m) (sym k.1) low))) k.0)
+      p.sat.clauses held
+
+  pub dropped_there : (ns : List Node) → AreHeld p.log p.sat.clauses → AreSearched ns p.log p.form p.sat.clauses
+      → All (λ (x : Held). All (λ (l : Lit). l.atom < length log.atoms) (literals_at log x.id)) (held_up_to m p.sat.clauses)
+  dropped_there ns held searched =
+      let P = λ (x : Held). (IsLive p.log x.id × (level_at p.log x.id ≡ x.level)) × All (λ (l : Lit). IsSearched ns p.log p.form l.atom) (literals_at p.log x.id) in
+      let Within = λ (l : Lit). l.atom < length log.atoms in
+      up_all P (λ (x : Held). All Within (literals_at log x.id)) m
+      (λ x low k.
+      let same = ap (λ (o : Option Entry). elim o [ None ↦ [] | Some e ↦ e.literals ]) (dropped_entry x.id k.0.0 (subst (λ n. n ≤ m) (sym k.0.1) low)) in
+      subst (All Within) (sym same)
+      (All-weaker (λ (l : Lit). IsSearched ns p.log p.form l.atom) Within (λ l is. subst (λ (atoms : List Atom). l.atom < length atoms) (sym d.atoms) (slice_get_within p.log.atoms l.atom is.atom is.at))
+      (literals_at p.log x.id) k.1))
+      p.sat.clauses (λ k e inside. (held k e inside, searched k e inside))
+
+-- of clauses of which some are left each is as the search saw it
+left_since : (seen : Option LogState) (log : LogState) (old new : List Held) → All (Contains old) new → AreSameSince seen log old → AreSameSince seen log new
+left_since None log old [] only none = refl
+left_since None log old (x ∷ new) only none =
+    let has : Contains [] x = subst (λ (hs : List Held). Contains hs x) none (only 0 x (omega arith)) in
+    let below = has.1 in
+    absurd (omega (arith, below))
+left_since (Some s) log old new only since = left_all (IsSameIn s log) old new only since
+
 module _ (ns : List Node) (levels : List Level) (roots : List (List ℕ)) (p q : PreparedState) (m : ℕ) (c : CutsTo p m (take (suc m) levels) q) (h : IsPrepared ns levels roots p) where
   c_terms : (t : ℕ) → covered_at q.form t ≡ told_below m (covered_at p.form t)
   c_terms t = c.form.terms.levels t
 
   same_entry : (i : ℕ) → IsLive p.log i → level_at p.log i ≤ m → entry_at q.log i ≡ entry_at p.log i
-  same_entry i live low = c.log.entries i ∙ entry_kept m (entry_at p.log i) live low
+  same_entry = dropped_entry p m q.log c.log
 
   held_of_same : (i : ℕ) → IsLive p.log i → level_at p.log i ≤ m → held_of q.log i ≡ held_of p.log i
-  held_of_same i live low = ap (λ (o : Option Entry). let x : Held = record { id = i; level = elim o [ None ↦ 0 | Some e ↦ e.level ] } in x) (same_entry i live low)
+  held_of_same i live low = ap (λ (o : Option Entry). let x : Held = record { id = i; level = elim o [ None ↦ 0 | Some e ↦ e.level ]; is_learned = false } in x) (same_entry i live low)
 
   cut_held : AreHeld q.log q.sat.clauses
   cut_held =
       let P = λ (x : Held). IsLive p.log x.id × (level_at p.log x.id ≡ x.level) in
       let Q = λ (x : Held). IsLive q.log x.id × (level_at q.log x.id ≡ x.level) in
-      subst (AreHeld q.log) (sym c.clauses)
-      (All-from_recursion Q (held_up_to m p.sat.clauses)
-      (up_to P Q m
+      left_all Q (held_up_to m p.sat.clauses) q.sat.clauses c.clauses.only
+      (up_all P Q m
       (λ x low k.
       let same = same_entry x.id k.0 (subst (λ n. n ≤ m) (sym k.1) low) in
       (subst (λ o. IsSome o) (sym same) k.0, ap (λ (o : Option Entry). elim o [ None ↦ 0 | Some e ↦ e.level ]) same ∙ k.1))
-      p.sat.clauses (recursion_from_All P p.sat.clauses h.held)))
+      p.sat.clauses h.held)
+
+  -- they are as the search saw them still
+  cut_since : (seen : Option LogState) → AreSameSince seen p.log p.sat.clauses → AreSameSince seen q.log (held_up_to m p.sat.clauses)
+  cut_since None none = ap (held_up_to m) none
+  cut_since (Some s) since =
+      let P = λ (x : Held). (level_at p.log x.id ≡ x.level) × IsSameIn s p.log x in
+      let Q = IsSameIn s q.log in
+      up_all P Q m
+      (λ x low k.
+      let same = same_entry x.id k.1.0 (subst (λ n. n ≤ m) (sym k.0) low) in
+      (subst (λ o. IsSome o) (sym same) k.1.0, ap (λ (o : Option Entry). elim o [ None ↦ [] | Some e ↦ e.literals ]) same ∙ k.1.1))
+      p.sat.clauses (λ k d inside. ((h.held k d inside).1, since k d inside))
+
+  cut_seen : IsSeen q
+  cut_seen =
+      subst (λ (s : Option LogState). AreSameSince s q.log q.sat.clauses) (sym c.seen)
+      (left_since p.sat.seen q.log (held_up_to m p.sat.clauses) q.sat.clauses c.clauses.only (cut_since p.sat.seen h.seen))
 
   -- a term that a clause below the level names is covered still
   cut_covered : (x : Held) → IsLive p.log x.id → level_at p.log x.id ≤ m → (l : Lit) → Contains (literals_at p.log x.id) l → (t : ℕ) → slice_get p.log.atoms l.atom ≡ Some (Term t)
@@ -311,35 +368,62 @@ module _ (ns : List Node) (levels : List Level) (roots : List (List ℕ)) (p q :
           let told : IsToldWithin p.log e.level t = (subst (λ (a : Atom). AllByRecursion (IsToldWithin p.log e.level) (terms_of a)) one names.terms).0 in
           subst (λ (o : Option ℕ). IsSome o) (sym (c_terms t)) (subst (λ (o : Option ℕ). IsSome (told_below m o)) (h.covers.rows.told t) (told_stays (told_of p.log t) e.level few told))
 
-  cut_of : KeepsBounds p.form q.form → (x : Held) → IsLive p.log x.id → level_at p.log x.id ≤ m → (l : Lit) → Contains (literals_at p.log x.id) l → (a : Atom) → slice_get p.log.atoms l.atom ≡ Some a
-      → IsOfForm ns p.form l.atom a → IsOfForm ns q.form l.atom a
-  cut_of keeps x live low l has (Term t) at of = (cut_covered x live low l has t at, of.1)
-  cut_of keeps x live low l has (AtMost b) at of = keeps l.atom of
+  cut_of : (x : Held) → IsLive p.log x.id → level_at p.log x.id ≤ m → (l : Lit) → Contains (literals_at p.log x.id) l → IsListedIn q.log q.form.bounds l → (a : Atom)
+      → slice_get p.log.atoms l.atom ≡ Some a → IsOfForm ns p.form l.atom a → IsOfForm ns q.form l.atom a
+  cut_of x live low l has listed (Term t) at of = (cut_covered x live low l has t at, of.1)
+  cut_of x live low l has listed (AtMost b) at of = listed b (ap (λ (atoms : List Atom). slice_get atoms l.atom) c.log.atoms ∙ at)
 
-  cut_searched : KeepsBounds p.form q.form → AreSearched ns q.log q.form q.sat.clauses
-  cut_searched keeps =
-      let P = λ (x : Held). (IsLive p.log x.id × (level_at p.log x.id ≡ x.level)) × All (λ (l : Lit). IsSearched ns p.log p.form l.atom) (literals_at p.log x.id) in
-      let Q = λ (x : Held). All (λ (l : Lit). IsSearched ns q.log q.form l.atom) (literals_at q.log x.id) in
-      subst (AreSearched ns q.log q.form) (sym c.clauses)
-      (All-from_recursion Q (held_up_to m p.sat.clauses)
-      (up_to P Q m
+  -- what is searched for is on a bound that was listed, if on any
+  were_listed : (l : Lit) → IsSearched ns p.log p.form l.atom → IsListedIn q.log p.form.bounds l
+  were_listed l s b at =
+      let both : Some s.atom ≡ Some (AtMost b) = sym s.at ∙ ap (λ (atoms : List Atom). slice_get atoms l.atom) (sym c.log.atoms) ∙ at in
+      let one : s.atom ≡ AtMost b = cc in
+      subst (IsOfForm ns p.form l.atom) one s.of
+
+  -- a clause up to the level, as it was
+  record WasSearched (x : Held) : Type 0 where
+    live : IsLive p.log x.id
+    low : level_at p.log x.id ≤ m
+    same : literals_at q.log x.id ≡ literals_at p.log x.id
+    searched : All (λ (l : Lit). IsSearched ns p.log p.form l.atom) (literals_at p.log x.id)
+
+  were_searched : All WasSearched q.sat.clauses
+  were_searched =
+      left_all WasSearched (held_up_to m p.sat.clauses) q.sat.clauses c.clauses.only
+      (up_all (λ (x : Held). (IsLive p.log x.id × (level_at p.log x.id ≡ x.level)) × All (λ (l : Lit). IsSearched ns p.log p.form l.atom) (literals_at p.log x.id)) WasSearched m
       (λ x low k.
       let below : level_at p.log x.id ≤ m = subst (λ n. n ≤ m) (sym k.0.1) low in
-      let lits = literals_at p.log x.id in
-      let same : literals_at q.log x.id ≡ lits = ap (λ (o : Option Entry). elim o [ None ↦ [] | Some e ↦ e.literals ]) (same_entry x.id k.0.0 below) in
-      subst (All (λ (l : Lit). IsSearched ns q.log q.form l.atom)) (sym same)
-      (All-weaker (Contains lits) (λ (l : Lit). IsSearched ns q.log q.form l.atom)
-      (λ l has.
-      still_searched ns ns p q l.atom (λ a at. ap (λ (atoms : List Atom). slice_get atoms l.atom) c.log.atoms ∙ at)
-      (λ a at of. cut_of keeps x k.0.0 below l has a at of) (All-contains (λ (y : Lit). IsSearched ns p.log p.form y.atom) lits l k.1 has))
-      lits (All-contains_itself lits)))
-      p.sat.clauses (recursion_from_All P p.sat.clauses (λ k d inside. (h.held k d inside, h.searched k d inside)))))
+      record { live = k.0.0; low = below; same = ap (λ (o : Option Entry). elim o [ None ↦ [] | Some e ↦ e.literals ]) (same_entry x.id k.0.0 below); searched = k.1 })
+      p.sat.clauses (λ k d inside. (h.held k d inside, h.searched k d inside)))
 
-  cut_rows : (i t : ℕ) → IsRowAt q.log i t → Contains q.sat.clauses (held_of q.log i)
-  cut_rows i t row =
+  cut_searched : AreSearched ns q.log q.form q.sat.clauses
+  cut_searched k d inside =
+      let x = get_or q.sat.clauses k d in
+      let was = were_searched k d inside in
+      let lits = literals_at p.log x.id in
+      let before : All (IsListedIn q.log p.form.bounds) lits = All-weaker (λ (l : Lit). IsSearched ns p.log p.form l.atom) (IsListedIn q.log p.form.bounds) were_listed lits was.searched in
+      let after : All (IsListedIn q.log q.form.bounds) lits =
+      subst (All (IsListedIn q.log q.form.bounds)) was.same (c.clauses.listed k d inside (subst (All (IsListedIn q.log p.form.bounds)) (sym was.same) before)) in
+      subst (All (λ (l : Lit). IsSearched ns q.log q.form l.atom)) (sym was.same)
+      (λ j e below.
+      let l = get_or lits j e in
+      still_searched ns ns p q l.atom (λ a at. ap (λ (atoms : List Atom). slice_get atoms l.atom) c.log.atoms ∙ at)
+      (λ a at of. cut_of x was.live was.low l (Contains-get_or lits j e below) (after j e below) a at of) (was.searched j e below))
+
+  -- each bound of a row is listed
+  row_listed : Covers ns q.log q.form → (i t : ℕ) → IsRowAt q.log i t → HasListedBounds q.log q.form.bounds i
+  row_listed covers i t row j e below b at =
+      let lits = literals_at q.log i in
+      let l = get_or lits j e in
+      some_within (listed_at q.form.bounds l.atom) (level_at q.log i)
+      (covers.bounds.listed i l.atom (record { term = t; row = row; literal = l; has = Contains-get_or lits j e below; on = refl; bound = b; is_bound = at }))
+
+  cut_rows : Covers ns q.log q.form → (i t : ℕ) → IsRowAt q.log i t → Contains q.sat.clauses (held_of q.log i)
+  cut_rows covers i t row =
       let was = origin_kept m row.0 (entry_at p.log i) (ap (option_map (λ (e : Entry). e.origin)) (sym (c.log.entries i)) ∙ row.1) in
-      subst (λ x. Contains q.sat.clauses x) (sym (held_of_same i was.0 was.1))
-      (subst (λ hs. Contains hs (held_of p.log i)) (sym c.clauses) (kept_up_to m p.sat.clauses (held_of p.log i) (h.rows i t (row.0, was.2, row.2)) was.1))
+      c.clauses.stays (held_of q.log i)
+      (subst (Contains (held_up_to m p.sat.clauses)) (sym (held_of_same i was.0 was.1)) (kept_up_to m p.sat.clauses (held_of p.log i) (h.rows i t (row.0, was.2, row.2)) was.1))
+      (row_listed covers i t row)
 
   -- what is given of a kind is in the first levels
   cut_count : (of : Level → List ℕ) → count_of (map of (take (suc m) levels)) ≡ count_in (map of levels) (suc m)
@@ -360,16 +444,24 @@ module _ (ns : List Node) (levels : List Level) (roots : List (List ℕ)) (p q :
   cut_at : (of : Level → List ℕ) (k t : ℕ) → slice_get (asserted_numbers (map of (take (suc m) levels))) k ≡ Some t → slice_get (asserted_numbers (map of levels)) k ≡ Some t
   cut_at of k t at = in_all (map of levels) (suc m) k t (subst (λ ls. slice_get (asserted_numbers ls) k ≡ Some t) (sym (take-map of (suc m) levels)) at)
 
+  -- the literal of a term is on no bound
+  unit_listed : (t : ℕ) → HasTerm q.log.atoms t → All (IsListedIn q.log q.form.bounds) (unit_of q.log t)
+  unit_listed t named =
+      All-from_recursion (IsListedIn q.log q.form.bounds) (unit_of q.log t)
+      ((λ b at. let both : Some (Term t) ≡ Some (AtMost b) = sym named ∙ at in absurd cc), tt)
+
   cut_unit : (k t : ℕ) (u : HoldsUnit (asserted_by_level levels) p k t) → u.held.level ≤ m → HoldsUnit (asserted_by_level (take (suc m) levels)) q k t
   cut_unit k t u low =
       let own = All-contains (λ (x : Held). IsLive p.log x.id × (level_at p.log x.id ≡ x.level)) p.sat.clauses u.held h.held u.there in
       let same = same_entry u.held.id own.0 (subst (λ n. n ≤ m) (sym own.1) low) in
+      let named : HasTerm q.log.atoms t = subst (λ (atoms : List Atom). HasTerm atoms t) (sym c.log.atoms) u.named in
+      let literals : literals_at q.log u.held.id ≡ unit_of q.log t =
+      ap (λ (o : Option Entry). elim o [ None ↦ [] | Some e ↦ e.literals ]) same ∙ u.literals ∙ ap (λ (atoms : List Atom). lit_of atoms (yes t) ∷ []) (sym c.log.atoms) in
       record {
         held = u.held;
-        there = subst (λ hs. Contains hs u.held) (sym c.clauses) (kept_up_to m p.sat.clauses u.held u.there low);
-        named = subst (λ (atoms : List Atom). HasTerm atoms t) (sym c.log.atoms) u.named;
-        literals = ap (λ (o : Option Entry). elim o [ None ↦ [] | Some e ↦ e.literals ]) same ∙ u.literals
-            ∙ ap (λ (atoms : List Atom). lit_of atoms (yes t) ∷ []) (sym c.log.atoms);
+        there = c.clauses.stays u.held (kept_up_to m p.sat.clauses u.held u.there low) (subst (All (IsListedIn q.log q.form.bounds)) (sym literals) (unit_listed t named));
+        named = named;
+        literals = literals;
         behind = cut_behind (λ (l : Level). l.asserted) u.held.level k (omega (arith, low)) u.behind;
       }
 
@@ -408,11 +500,12 @@ module _ (ns : List Node) (levels : List Level) (roots : List (List ℕ)) (p q :
       let all = cut_count of in
       omega (arith, same, first, second, was, all)
 
-  pub cut_prepared : CoversStay → LogsStayLeveled → KeepsBounds p.form q.form → IsPrepared ns (take (suc m) levels) (take (suc m) roots) q
-  cut_prepared covers leveled keeps =
+  pub cut_prepared : CoversStay → LogsStayLeveled → IsPrepared ns (take (suc m) levels) (take (suc m) roots) q
+  cut_prepared covers leveled =
+      let covered : Covers ns q.log q.form = covers.dropped ns p.log q.log p.form q.form m c.log c.form h.covers in
       record {
         order = subst (λ ls. IsLog ns ls q.log) (take-map (λ (l : Level). l.asserted) (suc m) levels) (c.sound ns (asserted_by_level levels) h.order);
-        covers = covers.dropped ns p.log q.log p.form q.form m c.log c.form h.covers;
+        covers = covered;
         below = λ t n at.
             let was = told_parts m (covered_at p.form t) n (sym (c_terms t) ∙ at) in
             longer_cut roots m n was.1 (h.below t n was.0);
@@ -425,8 +518,9 @@ module _ (ns : List Node) (levels : List Level) (roots : List (List ℕ)) (p q :
             h.taken t (subst (λ (o : Option ℕ). IsSome o) (sym was.0) refl);
         leveled = leveled.dropped p.log q.log m c.log h.leveled;
         held = cut_held;
-        searched = cut_searched keeps;
-        rows = cut_rows;
+        seen = cut_seen;
+        searched = cut_searched;
+        rows = cut_rows covered;
         units = cut_units;
         numbers = cut_numbers;
         within = let count = c.given in omega (arith, count);
@@ -458,8 +552,11 @@ filter_all f (x ∷ xs) e y c = by_test (f x) refl e (λ k more. filter_all f xs
         ]
     by_test false t k rest = let short = filter_short f xs in absurd (omega (arith, short, k))
 
--- so what is cut to as many has all that there were
-pub all_kept : (old new : ListingState) (level : ℕ) → ((i : ℕ) → IsSome (listed_at old i) → Contains old.ids i) → listings.Cuts old level new → length new.ids ≡ length old.ids → (i : ℕ) → IsSome (listed_at old i)
+-- so what is cut to no fewer has all that there were
+pub all_kept : (old new : ListingState) (level : ℕ) → ((i : ℕ) → IsSome (listed_at old i) → Contains old.ids i) → listings.Cuts old level new → length old.ids ≤ length new.ids → (i : ℕ) → IsSome (listed_at old i)
     → IsSome (listed_at new i)
 all_kept old new level listed cuts long i some =
-    filter_all (λ k. is_some (listed_at new k)) old.ids (ap length (sym cuts.ids) ∙ long) i (listed i some)
+    let test : ℕ → Bool = λ k. is_some (listed_at new k) in
+    let short = filter_short test old.ids in
+    let count : length (filter test old.ids) ≡ length new.ids = ap length (sym cuts.ids) in
+    filter_all test old.ids (omega (arith, short, count, long)) i (listed i some)

@@ -26,5 +26,7 @@ pub mod SaidAtoms
 pub mod SearchAtoms
 pub mod SearchEntry
 pub mod SearchRuns
+pub mod SeenClauses
 pub mod TermsByLevel
 pub mod TheoryAtoms
+pub mod UnlistedClauses

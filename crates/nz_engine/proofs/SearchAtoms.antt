@@ -52,11 +52,11 @@ use Rattle.nz_reals.specs.State.{Theory}
 use Rattle.nz_reals.specs.Sums.{AreNonzero}
 use Rattle.nz_sat.specs.Numbers.{AreNotedIn, IsAtomAt, atom_literal}
 use Rattle.nz_sat.specs.Sats as sat
-use Rattle.nz_sat.specs.Sats.{AreNamed, AreOn, HoldsMore, IsAsked, IsSatisfied, IsTheoryMet, truth_of}
+use Rattle.nz_sat.specs.Sats.{AreNamed, AreOn, IsAsked, IsSatisfied, IsTheoryMet, truth_of}
 use Rattle.nz_search.specs.Levels.{Level, added_by_level, asserted_by_level}
 use Rattle.nz_engine.specs.Checking.{AreHanded, AreLearnable, HasFound, HaveAtoms, IsLearnable, IsNonzero, IsPosed, IsReady, MayBeNamed, MayBegin, MayLearnMore, terms_named, truth_in, IsPlainAtom, AreCoveredAmong}
 use Rattle.nz_engine.specs.Preparing as prepared
-use Rattle.nz_engine.specs.Preparing.{AreJust, PreparedState, AreSearched, IsMadeOf, IsOfForm, IsPrepared, IsSearched, atoms_of, boolean_terms, ids_held}
+use Rattle.nz_engine.specs.Preparing.{AreJust, PreparedState, AreSearched, HoldsAlso, IsMadeOf, IsOfForm, IsPrepared, IsSearched, IsSeen, atoms_of, boolean_terms, ids_held}
 use Rattle.nz_engine.specs.SearchLaws.{RowLaws, SearchLaws}
 use Rattle.nz_engine.proofs.LevelPreservation.{some_of, some_within, still_searched}
 use Rattle.nz_engine.proofs.AtomNotes.{listed_part}
@@ -554,14 +554,14 @@ module _ (own : AtomsOfTerms) (covers : CoversStay) (ns : List Node) (levels : L
       }
 
   -- a search has learned
-  pub posed_on : growth.Grows p.log q.log → HoldsMore q.log p.sat.clauses q.sat.clauses → AreSearched ns q.log q.form q.sat.clauses → (IsLog ns (asserted_by_level levels) p.log → IsLog ns (asserted_by_level levels) q.log)
+  pub posed_on : growth.Grows p.log q.log → HoldsAlso q.log p.sat.clauses q.sat.clauses → IsSeen q → AreSearched ns q.log q.form q.sat.clauses → (IsLog ns (asserted_by_level levels) p.log → IsLog ns (asserted_by_level levels) q.log)
       → (IsOver p.sat.theory ns → IsOver q.sat.theory ns) → IsPosed ns levels assumed p → IsPosed ns levels assumed q
-  posed_on grows more on sound over h = posed_with (λ roots r. learned ns levels roots p q grows form given numbered more r own covers on (sound h.standing.raised.order)) over h
+  posed_on grows more seen on sound over h = posed_with (λ roots r. learned ns levels roots p q grows form given numbered more r own covers seen on (sound h.standing.raised.order)) over h
 
   -- atoms have joined
   pub posed_joined : LogsStay → LogsStayLeveled → JoinsAtoms p.log q.log → AreAtoms q.log.atoms → q.sat ≡ p.sat → IsPosed ns levels assumed p → IsPosed ns levels assumed q
   posed_joined stay leveled joins all same h =
-      posed_with (λ roots r. joined_prepared own stay leveled covers ns levels roots p q joins all form given numbered (ap (λ (s : sat.SatState Theory). s.clauses) same) r)
+      posed_with (λ roots r. joined_prepared own stay leveled covers ns levels roots p q joins all form given numbered (ap (λ (s : sat.SatState Theory). s.clauses) same) (ap (λ (s : sat.SatState Theory). s.seen) same) r)
       (subst (λ (s : sat.SatState Theory). IsOver s.theory ns) (sym same)) h
 
 -- a search may go on where atoms have joined
@@ -599,18 +599,19 @@ ready_as {ns} {assumed} {first} {old} {p} {q} {ids} {xs} {lits} {ls} view same_i
 
 -- and may again when it has learned
 pub posed_after : AtomsOfTerms → CoversStay → {ns : List Node} {assumed : List TermLit} {first : ℕ} {old p : PreparedState} {ids : List ℕ} {lits : List Lit} → IsReady ns assumed first old p ids lits → (q : PreparedState)
-    → q.form ≡ p.form → q.given ≡ p.given → q.numbered ≡ p.numbered → q.above ≡ p.above → (levels : List Level) → growth.Grows p.log q.log → HoldsMore q.log p.sat.clauses q.sat.clauses
-    → AreSearched ns q.log q.form q.sat.clauses → (IsLog ns (asserted_by_level levels) p.log → IsLog ns (asserted_by_level levels) q.log) → (IsOver p.sat.theory ns → IsOver q.sat.theory ns) → IsPosed ns levels assumed p
+    → q.form ≡ p.form → q.given ≡ p.given → q.numbered ≡ p.numbered → q.above ≡ p.above → (levels : List Level) → growth.Grows p.log q.log → HoldsAlso q.log p.sat.clauses q.sat.clauses
+    → IsSeen q → AreSearched ns q.log q.form q.sat.clauses → (IsLog ns (asserted_by_level levels) p.log → IsLog ns (asserted_by_level levels) q.log) → (IsOver p.sat.theory ns → IsOver q.sat.theory ns) → IsPosed ns levels assumed p
     → IsPosed ns levels assumed q
-posed_after own covers {ns} {assumed} {first} {old} {p} r q form given numbered above levels grows more on sound over h = posed_on own covers ns levels assumed p q form given numbered above grows more on sound over h
+posed_after own covers {ns} {assumed} {first} {old} {p} r q form given numbered above levels grows more seen on sound over h =
+    posed_on own covers ns levels assumed p q form given numbered above grows more seen on sound over h
 
 -- Another theory stands in place of the one.
-module _ (ns : List Node) (levels : List Level) (p q : PreparedState) (log : q.log ≡ p.log) (form : q.form ≡ p.form) (clauses : q.sat.clauses ≡ p.sat.clauses) (given : q.given ≡ p.given)
+module _ (ns : List Node) (levels : List Level) (p q : PreparedState) (log : q.log ≡ p.log) (form : q.form ≡ p.form) (clauses : q.sat.clauses ≡ p.sat.clauses) (seen : q.sat.seen ≡ p.sat.seen) (given : q.given ≡ p.given)
     (numbered : q.numbered ≡ p.numbered) where
   with_theory : (roots : List (List ℕ)) → IsPrepared ns levels roots p → IsPrepared ns levels roots q
   with_theory roots h =
-      subst (λ (s : PreparedState). IsPrepared ns levels roots (record q { log = s.log; form = s.form; sat = record q.sat { clauses = s.sat.clauses }; given = s.given; numbered = s.numbered }))
-      (λ i. record p { log = sym log i; form = sym form i; sat = record p.sat { clauses = sym clauses i }; given = sym given i; numbered = sym numbered i })
+      subst (λ (s : PreparedState). IsPrepared ns levels roots (record q { log = s.log; form = s.form; sat = record q.sat { clauses = s.sat.clauses; seen = s.sat.seen }; given = s.given; numbered = s.numbered }))
+      (λ i. record p { log = sym log i; form = sym form i; sat = record p.sat { clauses = sym clauses i; seen = sym seen i }; given = sym given i; numbered = sym numbered i })
       (record {
         order = h.order;
         covers = h.covers;
@@ -619,6 +620,7 @@ module _ (ns : List Node) (levels : List Level) (p q : PreparedState) (log : q.l
         taken = h.taken;
         leveled = h.leveled;
         held = h.held;
+        seen = h.seen;
         searched = h.searched;
         rows = h.rows;
         units = λ k t below at. let u = h.units k t below at in record { held = u.held; there = u.there; named = u.named; literals = u.literals; behind = u.behind };
@@ -631,17 +633,17 @@ module _ (ns : List Node) (levels : List Level) (p q : PreparedState) (log : q.l
 
 -- A search may begin over it, and may be handed the same.
 pub ready_with : {ns : List Node} {assumed : List TermLit} {first : ℕ} {old p : PreparedState} {ids : List ℕ} {lits : List Lit} → IsReady ns assumed first old p ids lits → (q : PreparedState) → q.log ≡ p.log
-    → q.form ≡ p.form → q.sat.clauses ≡ p.sat.clauses → q.given ≡ p.given → q.numbered ≡ p.numbered → q.above ≡ p.above → q.noted ≡ p.noted → (IsOver p.sat.theory ns → All (IsAtomAt ns p.log.atoms) ids → IsOver q.sat.theory ns)
+    → q.form ≡ p.form → q.sat.clauses ≡ p.sat.clauses → q.sat.seen ≡ p.sat.seen → q.given ≡ p.given → q.numbered ≡ p.numbered → q.above ≡ p.above → q.noted ≡ p.noted → (IsOver p.sat.theory ns → All (IsAtomAt ns p.log.atoms) ids → IsOver q.sat.theory ns)
     → ((levels : List Level) → IsPosed ns levels assumed p → All (IsAtomAt ns p.log.atoms) ids) → IsReady ns assumed first old q ids lits
-ready_with {ns} {assumed} {first} {old} {p} {ids} {lits} r q log form clauses given numbered above noted over within =
+ready_with {ns} {assumed} {first} {old} {p} {ids} {lits} r q log form clauses seen given numbered above noted over within =
     let after : (levels : List Level) → IsPosed ns levels assumed p → IsPosed ns levels assumed q = λ levels h.
     record {
       table = h.table;
       over = over h.over (within levels h);
       more = h.more;
       standing = record {
-        raised = with_theory ns levels p q log form clauses given numbered (added_by_level levels ++ h.more ∷ []) h.standing.raised;
-        plain = λ e. with_theory ns levels p q log form clauses given numbered (added_by_level levels) (h.standing.plain (sym above ∙ e));
+        raised = with_theory ns levels p q log form clauses seen given numbered (added_by_level levels ++ h.more ∷ []) h.standing.raised;
+        plain = λ e. with_theory ns levels p q log form clauses seen given numbered (added_by_level levels) (h.standing.plain (sym above ∙ e));
       };
       all = record { given = h.all.given ∙ sym given; numbered = h.all.numbered ∙ sym numbered };
       assumed_covered = subst (λ f. All (λ (l : TermLit). IsSome (covered_at f l.term)) assumed) (sym form) h.assumed_covered;

@@ -91,14 +91,14 @@ module _ (laws : SearchLaws) {ns : List Node} {assumed : List TermLit} {first : 
           plain_under assumed after gone n ns q (search_after ns before) ((b.noted.unbegun ns).begun ∙ ap (λ (s : Search). s.begun) (sym (first_none ns before none))) (plain_anew (Ok tt) b levels q may)
 
       -- neighbouring bounds have their clauses, and a search may run that goes under what is assumed
-      pub begun_search : sat.clauses ≡ p.sat.clauses → (log : LogState) (new : SatState Theory) → Excludes p.log sat ids log new → (gone : WorkList Note) → NotesUnder assumed after gone
+      pub begun_search : sat.clauses ≡ p.sat.clauses → sat.seen ≡ p.sat.seen → (log : LogState) (new : SatState Theory) → Excludes p.log sat ids log new → (gone : WorkList Note) → NotesUnder assumed after gone
           → IsBegun ns assumed first old (record p { log = log; sat = new }) ids lits before gone
-      begun_search clauses log new x gone n =
+      begun_search clauses seen log new x gone n =
           let mid : PreparedState = record p { sat = sat } in
           let q : PreparedState = record p { log = log; sat = new } in
           let theory : new.theory ≡ sat.theory = x.theory in
           let here : IsReady ns assumed first old mid ids lits =
-          ready_with r mid refl refl clauses refl refl refl refl (λ over within. b.over ns over within) (λ levels h. ids_within laws.rows laws.atoms h r.handed) in
+          ready_with r mid refl refl clauses seen refl refl refl refl (λ over within. b.over ns over within) (λ levels h. ids_within laws.rows laws.atoms h r.handed) in
           record {
             laws = laws;
             ready = ready_excluded laws here q x refl refl refl refl refl;

@@ -23,12 +23,12 @@ use Rattle.nz_reals.specs.State.{Theory}
 use Rattle.nz_sat.specs.Conflicts.{Refutes}
 use Rattle.nz_sat.specs.Numbers.{AreNotedIn, IsAtomAt, noted_atoms}
 use Rattle.nz_sat.specs.Sats as sat
-use Rattle.nz_sat.specs.Sats.{AreNamed, AreOn, HoldsLearned, HoldsMore, IsAsked, IsSameSearch, IsSatisfied, IsTheoryMet, SatState}
+use Rattle.nz_sat.specs.Sats.{AreNamed, AreOn, AreSameSince, HoldsLearned, HoldsMore, IsAsked, IsSameSearch, IsSatisfied, IsTheoryMet, SatState}
 use Rattle.nz_search.specs.Asked.{NamesParts}
 use Rattle.nz_search.specs.Levels.{Level, asserted_by_level}
 use Rattle.nz_engine.specs.Checking.{HasFound, HoldsNamed, IsBegun, IsPosed, IsUnderWay, MaySearch, EndsWith, IsPlain, IsPlainAtom, Works}
 use Rattle.nz_engine.specs.Engines.{literals_in}
-use Rattle.nz_engine.specs.Preparing.{BeganExcluded, IsSearched, PreparedState, ids_held}
+use Rattle.nz_engine.specs.Preparing.{BeganExcluded, IsSearched, IsSeen, PreparedState, ids_held}
 use Rattle.nz_engine.proofs.RefutedAssumptions.{refuted_by}
 use Rattle.nz_engine.proofs.SearchAtoms.{are_consistent, are_named, found_of, ids_still, ids_told, ids_within, is_asked, named_have, named_ids, named_lits, named_searched, posed_after}
 use Rattle.nz_engine.proofs.AtomNotes.{ends_stopped}
@@ -36,6 +36,7 @@ use Rattle.nz_engine.proofs.HeldClauses.{named_learned, noted_stay}
 use Rattle.nz_engine.proofs.MoreAtoms.{named_as}
 use Rattle.nz_engine.proofs.PartsNamed.{parts_named}
 use Rattle.nz_engine.proofs.SearchEntry.{covered_still}
+use Rattle.nz_engine.proofs.SeenClauses.{seen_held}
 use Rattle.nz_reals.specs.Knowing.{of_stays}
 use Rattle.nz_spec.specs.clauses.Literal.{StandOnce}
 use Rattle.nz_log.specs.declared.atoms.Atom.{Atom}
@@ -66,6 +67,9 @@ module _ {ns : List Node} {assumed : List TermLit} {first : ℕ} {old p : Prepar
   pub search_told_terms : AreToldAtoms p.log ids
   search_told_terms = ids_told b.laws.rows b.laws.atoms b.ready.some.1 b.ready.handed
 
+  pub search_since : IsSeen p
+  search_since = b.ready.some.1.standing.raised.seen
+
   pub search_consistent : AreConsistent assumed → sat.AreConsistent lits
   search_consistent apart = are_consistent b.laws.rows b.laws.atoms b.ready.some.1 b.ready.handed apart
 
@@ -81,18 +85,19 @@ module _ {ns : List Node} {assumed : List TermLit} {first : ℕ} {old p : Prepar
     own : ids ≡ q.noted
     own = named_ids b.laws.rows b.laws.atoms b.ready.some.1 b.ready.handed q grows refl refl
 
-    posed_then : HoldsMore log p.sat.clauses new.clauses → AreOn log ids new.clauses
+    posed_then : HoldsMore log p.sat.clauses new.clauses → new.seen ≡ Some log → AreOn log ids new.clauses
         → ((ns : List Node) (levels : List (List ℕ)) → IsOver p.sat.theory ns → All (IsAtomAt ns p.log.atoms) ids → IsLog ns levels p.log → IsLog ns levels log)
         → ((ns : List Node) → IsOver p.sat.theory ns → IsOver new.theory ns) → (levels : List Level) → IsPosed ns levels assumed old → IsPosed ns levels assumed q
-    posed_then held on sound over levels posed =
+    posed_then held sees on sound over levels posed =
         let begun = b.ready.posed levels posed in
-        posed_after b.laws.atoms b.laws.covers b.ready q refl refl refl refl levels grows held (named_searched b.laws.rows b.laws.atoms begun b.ready.handed q grows refl refl on)
+        let seen : IsSeen q = subst (λ (s : Option LogState). AreSameSince s log new.clauses) (sym sees) (seen_held log new.clauses held.held) in
+        posed_after b.laws.atoms b.laws.covers b.ready q refl refl refl refl levels grows (record { also = held.learned; joined = held.joined; held = held.held }) seen (named_searched b.laws.rows b.laws.atoms begun b.ready.handed q grows refl refl on)
         (sound ns (asserted_by_level levels) begun.over (ids_within b.laws.rows b.laws.atoms begun b.ready.handed)) (over ns) begun
 
-    pub search_posed : HoldsMore log p.sat.clauses new.clauses → AreOn log ids new.clauses
+    pub search_posed : HoldsMore log p.sat.clauses new.clauses → new.seen ≡ Some log → AreOn log ids new.clauses
         → ((ns : List Node) (levels : List (List ℕ)) → IsOver p.sat.theory ns → All (IsAtomAt ns p.log.atoms) ids → IsLog ns levels p.log → IsLog ns levels log)
         → ((ns : List Node) → IsOver p.sat.theory ns → IsOver new.theory ns) → OnOk result ((levels : List Level) → IsPosed ns levels assumed old → IsPosed ns levels assumed q)
-    search_posed held on sound over = on_ok result (posed_then held on sound over)
+    search_posed held sees on sound over = on_ok result (posed_then held sees on sound over)
 
     pub search_refuted : IfOk result (λ o. IfSome o (λ id. IsLive log id × Refutes lits (literals_at log id))) → IfOk result (λ o. IfSome o (λ id. AreNegations assumed (literals_in log id)))
     search_refuted h =

@@ -6,6 +6,7 @@ use Rattle.nz_spec.specs.terms.Table.{Node, term_in}
 use Rattle.nz_spec.specs.terms.Taken.{IsTaken}
 use Rattle.nz_spec.specs.terms.Order.{listing_order}
 use Rattle.nz_spec.specs.search.Decide.{asserted_numbers}
+use Rattle.nz_lin.specs.declared.bound.Bound.{Bound}
 use Rattle.nz_log.specs.declared.atoms.Atom.{Atom}
 use Rattle.nz_log.specs.declared.atoms.Atom.TheVariants.{Term, AtMost}
 use Rattle.nz_log.specs.declared.lits.Lit.{Lit}
@@ -18,12 +19,12 @@ use Rattle.nz_term.specs.TermLits.{yes}
 use Rattle.nz_cform.specs.Covering.{AreAdded, Covers, IsRowAt, Keeps}
 use Rattle.nz_cform.specs.Forms as form
 use Rattle.nz_cform.specs.Forms.{FormState, Cuts, covered_at, empty_form}
-use Rattle.nz_cform.specs.Listings.{listed_at}
+use Rattle.nz_cform.specs.Listings.{ListingState, listed_at}
 use Rattle.nz_reals.specs.Exclusions.{AddsOn, HasNeighbours, IsExclusion}
 use Rattle.nz_reals.specs.Stands.{HasTold, IsOf}
 use Rattle.nz_reals.specs.State.{Theory}
 use Rattle.nz_sat.specs.declared.clauses.Held.{Held}
-use Rattle.nz_sat.specs.Sats.{SatState, AreHeld, HoldsMore, held_of, held_up_to}
+use Rattle.nz_sat.specs.Sats.{SatState, AreHeld, AreSameSince, HoldsMore, held_of, held_up_to}
 use Rattle.nz_search.specs.Levels.{Level, added_by_level, asserted_by_level, numbers_by_level}
 use Rattle.nz_engine.specs.declared.levels.Kind.{Kind}
 use Rattle.nz_engine.specs.declared.levels.Kind.TheVariants.{Asserted, Number}
@@ -44,7 +45,7 @@ abbrev pub nothing_prepared : Theory → PreparedState
 nothing_prepared theory = record {
   log = empty_log;
   form = empty_form;
-  sat = record { clauses = []; truths = []; theory = theory };
+  sat = record { clauses = []; truths = []; theory = theory; seen = None };
   given = 0;
   numbered = 0;
   above = false;
@@ -120,6 +121,10 @@ pub record IsNumbered (levels : List (List ℕ)) (p : PreparedState) (k t : ℕ)
   pub covered : covered_at p.form t ≡ Some level
   pub behind : count_in levels level ≤ k
 
+-- the clauses that are held are as the search saw them
+abbrev pub IsSeen : PreparedState → Type 0
+IsSeen p = AreSameSince p.sat.seen p.log p.sat.clauses
+
 -- The clauses are in order over the levels of assertions. What is covered is taken, and made of roots by level: of what was added, and in a level above of
 -- what is assumed. The search holds each clause of a table, and of so many assertions that each is true, and so many numbers are covered; where a term is
 -- covered, all that was added in lower levels is among them. Each clause that is held is on the atoms of covered Boolean terms and on listed bounds.
@@ -131,6 +136,7 @@ pub record IsPrepared (ns : List Node) (levels : List Level) (roots : List (List
   pub taken : (t : ℕ) → IsSome (covered_at p.form t) → IsTaken (term_in ns t)
   pub leveled : IsLeveled p.log
   pub held : AreHeld p.log p.sat.clauses
+  pub seen : IsSeen p
   pub searched : AreSearched ns p.log p.form p.sat.clauses
   pub rows : (i t : ℕ) → IsRowAt p.log i t → Contains p.sat.clauses (held_of p.log i)
   pub units : (k t : ℕ) → k < p.given → slice_get (asserted_numbers (asserted_by_level levels)) k ≡ Some t → HoldsUnit (asserted_by_level levels) p k t
@@ -171,6 +177,12 @@ pub record IsAssumable (ns : List Node) (levels : List Level) (more : List ℕ) 
 
 -- ---- Changes
 
+-- The clauses that were held still are, then others.
+pub record HoldsAlso (log : LogState) (old new : List Held) : Type 0 where
+  pub also : List Held
+  pub joined : new ≡ old ++ also
+  pub held : AreHeld log new
+
 -- A term is covered, with what is listed with it, at a level that no level told is above; the search holds the clauses that were put.
 pub record CoversAlso (ns : List Node) (old : PreparedState) (t level : ℕ) (new : PreparedState) : Type 0 where
   pub covers : Covers ns new.log new.form
@@ -181,6 +193,7 @@ pub record CoversAlso (ns : List Node) (old : PreparedState) (t level : ℕ) (ne
   pub ids : List ℕ
   pub added : AreAdded old.log ids new.log
   pub joined : new.sat.clauses ≡ old.sat.clauses ++ map (held_of new.log) ids
+  pub seen : IsSeen new
   pub told : (u : ℕ) → told_level new.log u ≤ level
   pub sound : (levels : List (List ℕ)) → IsLog ns levels old.log → IsLog ns levels new.log
   pub given : new.given ≡ old.given
@@ -212,6 +225,7 @@ pub record Excludes (log : LogState) (old : SatState Theory) (atoms : List ℕ) 
   pub ids : List ℕ
   pub exclusions : All (IsExclusion log' atoms) ids
   pub joined : new.clauses ≡ old.clauses ++ map (held_of log') ids
+  pub seen : AreSameSince new.seen log' new.clauses
   pub neighbours : HasNeighbours new.theory log' atoms (ids_held new.clauses)
 
 -- When the search began, and the theory had been told nothing, each two neighbouring bounds of one form had their clause among those held, unless their sum
@@ -226,12 +240,28 @@ pub record BeganExcluded (ns : List Node) (new : PreparedState) : Type 0 where
   pub grown : Grows log new.log
   pub learned : HoldsMore new.log held new.sat.clauses
 
--- What is above a level is taken back, and the counts are no more than what stands in these levels. The theory stays.
+-- a literal is on no bound, or on one that is listed
+abbrev pub IsListedIn : LogState → ListingState → Lit → Type 0
+IsListedIn log bounds l = (b : Bound) → slice_get log.atoms l.atom ≡ Some (AtMost b) → IsSome (listed_at bounds l.atom)
+
+-- each bound that the clause of a number has is listed
+abbrev pub HasListedBounds : LogState → ListingState → ℕ → Type 0
+HasListedBounds log bounds id = All (IsListedIn log bounds) (literals_at log id)
+
+-- Of these clauses those are left of which each bound is listed, and perhaps others; of none that is left was each listed before and isn't now.
+pub record Forgets (log : LogState) (before after : ListingState) (old new : List Held) : Type 0 where
+  pub only : All (Contains old) new
+  pub stays : (h : Held) → Contains old h → HasListedBounds log after h.id → Contains new h
+  pub listed : All (λ (h : Held). HasListedBounds log before h.id → HasListedBounds log after h.id) new
+
+-- What is above a level is taken back, and clauses over bounds that are listed no more are forgotten. The counts are no more than what stands in these
+-- levels. The theory stays.
 pub record CutsTo (old : PreparedState) (level : ℕ) (levels : List Level) (new : PreparedState) : Type 0 where
   pub log : Drops old.log level new.log
   pub sound : (ns : List Node) (levels : List (List ℕ)) → IsLog ns levels old.log → IsLog ns (take (suc level) levels) new.log
   pub form : Cuts old.form level new.form
-  pub clauses : new.sat.clauses ≡ held_up_to level old.sat.clauses
+  pub clauses : Forgets new.log old.form.bounds new.form.bounds (held_up_to level old.sat.clauses) new.sat.clauses
+  pub seen : new.sat.seen ≡ old.sat.seen
   pub theory : new.sat.theory ≡ old.sat.theory
   pub given : new.given ≡ min old.given (count_of (asserted_by_level levels))
   pub numbered : new.numbered ≡ min old.numbered (count_of (numbers_by_level levels))

@@ -41,14 +41,14 @@ use std::alloc::Global;
 use std::mem;
 
 /// What is kept from check to check: all that was prepared, or the theory alone.
-#[derive(Debug, Drop)]
+#[derive(Drop)]
 pub enum Retained {
     Prepared(Prepared),
     Theory(Reals),
 }
 
 /// What a check comes to: its answer, and what is kept.
-#[derive(Debug, Drop)]
+#[derive(Drop)]
 pub struct CheckOutcome {
     pub verdict: Verdict,
     pub prepared: Prepared,
@@ -64,6 +64,7 @@ pub fn take_kept(alloc: Global, kept: &mut Retained) -> Retained
 
 /// What is prepared up to the last of these levels. Takes no memory.
 fn cut_to(mut prepared: Prepared, levels: &Levels) -> Retained
+    requires kept { (ns : List Node) × (old : List Level) × IsReadied ns old prepared }
     ensures low { (ns : List Node) (old : List Level) → take (length levels.now) old ≡ levels.now → IsReadied ns old prepared → IsLow ns levels.now result }
     ensures theory { theory_of result ≡ prepared.sat.theory }
 {
@@ -71,12 +72,8 @@ fn cut_to(mut prepared: Prepared, levels: &Levels) -> Retained
     logs_stay_leveled();
     match levels.len().checked_sub(1) {
         Some(last) => {
-            // What was learned may have bounds that are listed no more: then the clauses are made anew, over the same theory.
-            if prepared.cut(last, levels) {
-                Retained::Prepared(prepared)
-            } else {
-                Retained::Theory(prepared.take_theory())
-            }
+            prepared.cut(last, levels);
+            Retained::Prepared(prepared)
         }
         None => Retained::Theory(prepared.take_theory()),
     }
@@ -84,6 +81,7 @@ fn cut_to(mut prepared: Prepared, levels: &Levels) -> Retained
 
 /// What is prepared, if anything is, up to the last of these levels. Takes no memory.
 pub fn cut_kept(kept: Retained, levels: &Levels) -> Retained
+    requires kept { (ns : List Node) × (old : List Level) × IsKept ns old kept }
     ensures low { (ns : List Node) (old : List Level) → take (length levels.now) old ≡ levels.now → IsKept ns old kept → IsLow ns levels.now result }
     ensures theory { theory_of result ≡ theory_of kept }
 {
@@ -95,6 +93,7 @@ pub fn cut_kept(kept: Retained, levels: &Levels) -> Retained
 
 /// What is prepared, without what is covered for assumed literals alone. Takes no memory.
 pub fn lowered(kept: Retained, levels: &Levels) -> Retained
+    requires kept { (ns : List Node) × IsKept ns levels.now kept }
     ensures low { (ns : List Node) → IsKept ns levels.now kept → IsLow ns levels.now result }
     ensures theory { theory_of result ≡ theory_of kept }
 {
@@ -112,6 +111,7 @@ pub fn lowered(kept: Retained, levels: &Levels) -> Retained
 
 /// What is prepared for these levels, or nothing yet.
 fn begun(alloc: Global, kept: Retained, levels: &Levels) -> Result<Prepared, Memory>
+    requires kept { (ns : List Node) × IsKept ns levels.now kept }
     ensures stands { IfOk result (λ p. (front ns : List Node) → IsFrontOfTable front ns → IsKept front levels.now kept → IsPrepared ns levels.now (added_by_level levels.now) p) }
     ensures theory { IfOk result (λ p. p.sat.theory ≡ theory_of kept) }
 {

@@ -1,19 +1,23 @@
 //! What an engine keeps from check to check.
-ghost use Rattle.std.specs.Prelude.{◌≡◌, ◌++◌, All, map, IfOk, OnOk, true};
+ghost use Rattle.std.specs.Prelude.{◌≡◌, ℕ, ◌++◌, All, List, map, IfOk, OnOk};
+ghost use Rattle.nz_spec.specs.terms.Table.{Node};
 ghost use Rattle.nz_log.specs.Logs.{IsLive};
 ghost use Rattle.nz_log.specs.Spelling.{AreStepsOf};
-ghost use Rattle.nz_sat.specs.Sats.{held_of};
-ghost use Rattle.nz_engine.specs.Preparing.{CutsTo, KeepsBounds, nothing_prepared};
+ghost use Rattle.nz_sat.specs.Sats.{AreSameSince, held_of};
+ghost use Rattle.nz_search.specs.Levels.{Level};
+ghost use Rattle.nz_engine.specs.Preparing.{CutsTo, IsPrepared, nothing_prepared};
 
 mod added;
 mod assumptions;
 pub mod atoms;
 mod exclusions;
+mod listed;
 mod search;
 mod theory;
 mod values;
 
 use crate::levels::{Kind, Levels};
+use crate::prepared::listed::forget_unlisted;
 use nz_base::Memory;
 use nz_cform::ClauseForm;
 use nz_log::{AtomId, ClauseId, Log, Step};
@@ -25,7 +29,7 @@ use std::mem;
 
 /// The clauses of what was added and of all that it is made of, in a log, each held by a search, at the level in which it was added. What is assumed may
 /// be covered above all levels, for one check.
-#[derive(Debug, Drop)]
+#[derive(Drop)]
 pub struct Prepared {
     alloc: Global,
     log: Log,
@@ -80,11 +84,11 @@ impl Prepared {
         self.above
     }
 
-    /// Takes back what stands above a level, up to which these levels go. Answers whether each bound is listed still: a clause that was learned may
-    /// have bounds that only clauses of higher levels have besides. Takes no memory.
-    pub fn cut(&mut self, level: usize, levels: &Levels) -> bool
+    /// Takes back what stands above a level, up to which these levels go, and forgets the clauses over bounds that are listed no more: one that was
+    /// learned may have bounds that only clauses of higher levels have besides. Takes no memory.
+    pub fn cut(&mut self, level: usize, levels: &Levels)
+        requires prepared { (ns : List Node) × (old : List Level) × (roots : List (List ℕ)) × IsPrepared ns old roots self.old }
         ensures cuts { CutsTo self.old level levels.now self.new }
-        ensures keeps { result ≡ true → KeepsBounds self.old.form self.new.form }
     {
         let count = self.form.bounds().len();
         self.log.drop_above(level);
@@ -93,7 +97,9 @@ impl Prepared {
         self.given = levels.count_up_to(Kind::Asserted, self.given);
         self.numbered = levels.count_up_to(Kind::Number, self.numbered);
         self.above = false;
-        self.form.bounds().len() == count
+        if self.form.bounds().len() < count {
+            forget_unlisted(&mut self.sat, &self.log, &self.form);
+        }
     }
 
     /// The derivation of a clause.
@@ -119,6 +125,8 @@ fn take_theory(alloc: Global, sat: &mut Sat<Reals>) -> Reals
 /// Holds these clauses too.
 fn hold(sat: &mut Sat<Reals>, log: &Log, clauses: &[ClauseId]) -> Result<(), Memory>
     requires live { All (λ id. IsLive log.now id) clauses.now }
+    requires since { AreSameSince sat.old.seen log.now sat.old.clauses }
+    ensures since { OnOk result (AreSameSince sat.new.seen log.now sat.new.clauses) }
     ensures held { OnOk result (sat.new.clauses ≡ sat.old.clauses ++ map (held_of log.now) clauses.now) }
     ensures theory { sat.new.theory ≡ sat.old.theory }
 {

@@ -31,12 +31,12 @@ use Rattle.nz_sat.specs.declared.trail.Assigned.{Assigned}
 use Rattle.nz_sat.specs.Clauses.{HasReasonOf, HasTrue, IsAssumed, IsImplied, IsReasonOneOf}
 use Rattle.nz_sat.specs.Conflicts.{AreUnmarked, is_marked}
 use Rattle.nz_sat.specs.Numbers.{numbered}
-use Rattle.nz_sat.specs.Sats.{AreHeld, HoldsLearned, held_of, ids}
+use Rattle.nz_sat.specs.Sats.{AreHeld, HoldsLearned, learned_of, ids}
 use Rattle.nz_log.specs.Codes.{code_of}
 use Rattle.nz_sat.specs.Searching.{AreFirst, Carries, IsSearch, KeepsFirst, Learns, after_learned, learned_line}
 use Rattle.nz_sat.specs.Theories.{AreLast, EndsLegally, IsTrailOn, TellsTrail, TheoryState, bounds_on, is_bound_at, told_literal, told_lits, told_on}
 use Rattle.nz_sat.specs.Trails.{EachBehind, GoesOn, IsFrontOf, IsNext, IsTrail, IsTrueOn, TrailState, assigned, below, depth, implied, is_decision, literals_on}
-use Rattle.nz_sat.specs.Watched.{AreWatched, HasClause, watch_state}
+use Rattle.nz_sat.specs.Watched.{AreWatched, HoldsAs, lone_ids, watch_state}
 use Rattle.nz_sat.proofs.SearchSteps.{StaysAt, cut_stands, told_taken}
 use Rattle.nz_sat.proofs.Clausal.{free_missing, truth_found}
 use Rattle.nz_sat.proofs.TrailGrowth.{held_live, learned_grown}
@@ -104,7 +104,7 @@ module _ (log log' : LogState) (held : List Held) (s : state.Search) (work : Wor
   lits = literals_at log' l.clause
 
   abbrev held' : List Held
-  held' = held ++ held_of log' l.clause ∷ []
+  held' = held ++ learned_of log' l.clause ∷ []
 
   back : l.keep < depth es
   back = goes_back log' s.trail h.search.on.order l h.learned
@@ -127,7 +127,7 @@ module _ (log log' : LogState) (held : List Held) (s : state.Search) (work : Wor
   old_literals i has = literals_kept log log' h.grows i (held_live log held h.search.are_held i has)
 
   ids_more : ids held' ≡ ids held ++ l.clause ∷ []
-  ids_more = map-append (λ (x : Held). x.id) held (held_of log' l.clause ∷ [])
+  ids_more = map-append (λ (x : Held). x.id) held (learned_of log' l.clause ∷ [])
 
   each_held : (P : ℕ → Type 0) → ((i : ℕ) → Contains (ids held) i → P i) → P l.clause → All P (ids held')
   each_held P f last = subst (All P) (sym ids_more) (All-push P (ids held) l.clause (all_from P (ids held) f) last)
@@ -263,7 +263,7 @@ module _ (log log' : LogState) (held : List Held) (s : state.Search) (work : Wor
   -- ---- The search
 
   module _ (s' : state.Search) (atoms : s'.atoms ≡ s.atoms) (size : s'.trail.size ≡ s.trail.size) (entries : s'.trail.entries ≡ after_learned es l) (bounds : s'.bounds ≡ record s.bounds { told = min s.bounds.told (length front) })
-      (p : Propagation) (looked : p ≡ record s.propagation { head = min s.propagation.head (length front) }) (holds : Holds log' l.clause (watched_pair l) p s'.propagation) (marks : length s'.seen.items ≡ length s.seen.items) (unmarked : AreUnmarked s'.seen.items)
+      (p : Propagation) (looked : p ≡ record s.propagation { head = min s.propagation.head (length front) }) (holds : Holds log' (learned_of log' l.clause) (watched_pair l) p s'.propagation) (marks : length s'.seen.items ≡ length s.seen.items) (unmarked : AreUnmarked s'.seen.items)
       (are_held : AreHeld log' held') (ordered : IsTrail s'.trail) (room : unit_count work.lines < work.limit) where
     after_on : All (λ (e : Assigned). Contains s.atoms e.literal.atom) (after_learned es l) → IsTrailOn log' s'.atoms s'.bounds s'.trail
     after_on on_trail =
@@ -287,11 +287,11 @@ module _ (log log' : LogState) (held : List Held) (s : state.Search) (work : Wor
         })
 
     -- the clauses are those from before, and the new one
-    before_has : (i : ℕ) → HasClause s.propagation i → HasClause p i
-    before_has i has = subst (λ (x : Propagation). HasClause x i) (sym looked) has
+    before_has : (g : Held) → HoldsAs s.propagation g → HoldsAs p g
+    before_has g has = subst (λ (x : Propagation). HoldsAs x g) (sym looked) has
 
-    had_before : (i : ℕ) → HasClause p i → HasClause s.propagation i
-    had_before i has = subst (λ (x : Propagation). HasClause x i) looked has
+    had_before : (g : Held) → HoldsAs p g → HoldsAs s.propagation g
+    had_before g has = subst (λ (x : Propagation). HoldsAs x g) looked has
 
     abbrev after : TrailState
     after = record { entries = after_learned es l; size = s.trail.size }
@@ -308,13 +308,12 @@ module _ (log log' : LogState) (held : List Held) (s : state.Search) (work : Wor
 
     after_lone : AreFirst log' s'
     after_lone =
-        subst (λ (xs : List Assigned). All (λ (i : ℕ). HasTrue (below 0 xs) (literals_at log' i)) s'.propagation.lone.items) (sym entries)
+        subst (λ (xs : List Assigned). All (λ (i : ℕ). HasTrue (below 0 xs) (literals_at log' i)) (lone_ids s'.propagation)) (sym entries)
         (after_true log' s.trail h.search.on.order l h.learned (subst IsTrail after_trail ordered) p s'.propagation holds
-        (subst (λ (x : Propagation). All (λ (i : ℕ). HasTrue (below 0 es) (literals_at log' i)) x.lone.items) (sym looked) (first_grown log log' s h.grows h.search.watched h.first)))
+        (subst (λ (x : Propagation). All (λ (i : ℕ). HasTrue (below 0 es) (literals_at log' i)) (lone_ids x)) (sym looked) (first_grown log log' s h.grows h.search.watched h.first)))
 
     after_search : IsSearch log' held' s'
     after_search =
-        let more : (i : ℕ) → Contains (ids held ++ l.clause ∷ []) i → Contains (ids held') i = λ i has. subst (λ (is : List ℕ). Contains is i) (sym ids_more) has in
         let N : ℕ → Type 0 = λ i. All (λ (m : Lit). Contains s.atoms m.atom) (literals_at log' i) in
         let named : All N (ids held') =
         each_held N
@@ -324,13 +323,14 @@ module _ (log log' : LogState) (held : List Held) (s : state.Search) (work : Wor
         let on_trail = after_each (λ (e : Assigned). Contains s.atoms e.literal.atom) h.search.on.on_trail (learned_named log log' held s work falsified l h l.literal h.learned.has) in
         record {
           are_held = are_held;
-          covered = λ i has.
-              All-contains (HasClause s'.propagation) (ids held') i
-              (each_held (HasClause s'.propagation) (λ j old. holds.kept j (before_has j (h.search.covered j old))) holds.has) has;
-          only = λ i has.
-              elim (holds.only i has) [
-                | inl old ↦ more i (Contains-append_left (ids held) (l.clause ∷ []) i (h.search.only i (had_before i old)))
-                | inr same ↦ subst (Contains (ids held')) same (more l.clause (Contains-push (ids held) l.clause))
+          covered = λ g has.
+              All-contains (HoldsAs s'.propagation) held' g
+              (All-push (HoldsAs s'.propagation) held (learned_of log' l.clause)
+              (all_from (HoldsAs s'.propagation) held (λ d old. holds.kept d (before_has d (h.search.covered d old)))) holds.has) has;
+          only = λ g has.
+              elim (holds.only g has) [
+                | inl old ↦ Contains-append_left held (learned_of log' l.clause ∷ []) g (h.search.only g (had_before g old))
+                | inr same ↦ subst (Contains held') same (Contains-push held (learned_of log' l.clause))
               ];
           named = subst (λ (us : List ℕ). All (λ (i : ℕ). All (λ (m : Lit). Contains us m.atom) (literals_at log' i)) (ids held')) (sym atoms) named;
           within = subst (All (λ (t : ℕ). t < s'.trail.size)) (sym atoms) (subst (λ (n : ℕ). All (λ (t : ℕ). t < n) s.atoms) (sym size) h.search.within);

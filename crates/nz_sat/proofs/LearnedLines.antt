@@ -33,7 +33,7 @@ use Rattle.nz_sat.specs.Clauses.{IsAssumed, IsFalsified, IsOpen, by_true, by_two
 use Rattle.nz_log.specs.Growth.{Grows}
 use Rattle.nz_sat.specs.Conflicts.{HasTwoLast, IsLearned, IsLearnable, StaysSound}
 use Rattle.nz_sat.specs.Numbers.{atom_literal, numbered}
-use Rattle.nz_sat.specs.Sats.{AreOn, HoldsLearned, HoldsMore, IsAsked, held_of, ids}
+use Rattle.nz_sat.specs.Sats.{AreOn, HoldsLearned, HoldsMore, IsAsked, learned_of, ids}
 use Rattle.nz_sat.specs.Searching.{Advances, AreFirst, IsConflict, IsSearch, StaysInOrder, WasNoted, WereOpen, learned_line}
 use Rattle.nz_sat.specs.Theories.{EndsLegally, Keeps, TellsTrail, TheoryState, told_lits}
 use Rattle.nz_sat.specs.Trails.{EachBehind, IsFreeOn, IsFrontOf, IsNext, below, depth, is_decision, level_on}
@@ -269,12 +269,12 @@ module _ (log log' : LogState) (held : List Held) (s : state.Search) (work : Wor
     line_legal on x lead = line_lead on ns q work (learned_line s.atoms log' l) x x lead (may_learn, refl)
 
   -- with its line, where it is held
-  pub line_learned : (held' : List Held) → held' ≡ held ++ held_of log' l.clause ∷ [] → HoldsLearned log' s.atoms held work
+  pub line_learned : (held' : List Held) → held' ≡ held ++ learned_of log' l.clause ∷ [] → HoldsLearned log' s.atoms held work
       → HoldsLearned log' s.atoms held' (with_line work (learned_line s.atoms log' l))
   line_learned held' all_held before ns =
       let Old : List (ℕ × Bool) → Type 0 = λ d. (i : ℕ) × Contains (ids held) i × (map (numbered s.atoms) (literals_at log' i) ≡ d) in
       let New : List (ℕ × Bool) → Type 0 = λ d. (i : ℕ) × Contains (ids held') i × (map (numbered s.atoms) (literals_at log' i) ≡ d) in
-      let more : ids held' ≡ ids held ++ l.clause ∷ [] = ap ids all_held ∙ map_push (λ (x : Held). x.id) held (held_of log' l.clause) in
+      let more : ids held' ≡ ids held ++ l.clause ∷ [] = ap ids all_held ∙ map_push (λ (x : Held). x.id) held (learned_of log' l.clause) in
       let has : (i : ℕ) → Contains (ids held ++ l.clause ∷ []) i → Contains (ids held') i = λ i there. subst (λ (us : List ℕ). Contains us i) (sym more) there in
       subst (λ (r : Search). All New r.learned) (sym (search_more ns work (learned_line s.atoms log' l ∷ [])))
       (All-push New (search_after ns work).learned (map (numbered s.atoms) lits)
@@ -282,7 +282,7 @@ module _ (log log' : LogState) (held : List Held) (s : state.Search) (work : Wor
       (l.clause, has l.clause (Contains-push (ids held) l.clause), refl))
 
   -- a step that adds it
-  pub line_advances : {A : Type 0} → (m m' : TheoryState) → Keeps m m' → (held' : List Held) → HoldsMore log' held held' → held' ≡ held ++ held_of log' l.clause ∷ []
+  pub line_advances : {A : Type 0} → (m m' : TheoryState) → Keeps m m' → (held' : List Held) → HoldsMore log' held held' → held' ≡ held ++ learned_of log' l.clause ∷ []
       → (AreOn log' s.atoms held → AreOn log' s.atoms held')
       → (work' : WorkList Note) → work' ≡ with_line work (learned_line s.atoms log' l) → (result : Result A Stop)
       → EndsLegally m m' log s.atoms (told_lits s.bounds es) es work (with_line work (learned_line s.atoms log' l)) result → Advances m m' s es log log' held held' work work' result

@@ -2,19 +2,21 @@
 use Rattle.std.proofs.Common.{◌≡◌, ℕ, ◌*◌, ◌<◌, ◌≤◌, ◌⊎◌, if◌then◌else◌, Bool, inl, inr, List, [], ◌∷◌, ◌++◌, length, min, take, Option, Some, None, refl, sym, ap, subst, ◌∙◌, arith}
 use Rattle.std.specs.Prelude.{All, Contains, IfSome, option_map}
 use Rattle.std.proofs.lemmas.Bool.Decides.{eqb_tells}
-use Rattle.std.proofs.lemmas.List.{append-nil}
+use Rattle.std.proofs.lemmas.List.{append-nil, map_push}
 use Rattle.std.proofs.lemmas.List.Elements.{All-push, All-weaker}
 use Rattle.nz_log.specs.declared.lits.Lit.{Lit}
 use Rattle.nz_log.specs.Logs.{LogState, literals_at}
 use Rattle.nz_sat.specs.declared.analyze.Learned.{Learned}
+use Rattle.nz_sat.specs.declared.clauses.Held.{Held}
 use Rattle.nz_sat.specs.declared.propagation.Propagation.{Propagation}
 use Rattle.nz_sat.specs.declared.trail.Assigned.{Assigned}
 use Rattle.nz_sat.specs.Clauses.{HasTrue, IsUsable}
 use Rattle.nz_sat.specs.Conflicts.{IsBeside, IsLearned}
 use Rattle.nz_log.specs.Codes.{code_of}
+use Rattle.nz_sat.specs.Sats.{ids, learned_of}
 use Rattle.nz_sat.specs.Searching.{after_learned}
 use Rattle.nz_sat.specs.Trails.{EachBehind, GoesOn, IsFalseOn, IsFreeOn, IsNext, IsTrail, IsTrueOn, TrailState, below, depth, implied, level_on}
-use Rattle.nz_sat.specs.Watched.{AreWatched, HasClause, MayHold, watch_state}
+use Rattle.nz_sat.specs.Watched.{AreWatched, HoldsAs, MayHold, lone_ids, watch_state}
 use Rattle.nz_sat.proofs.Backward.{false_whole}
 use Rattle.nz_sat.proofs.Clausal.{truth_missing}
 use Rattle.nz_sat.proofs.Levels.{below_depth, below_free, below_join, below_none, below_twice}
@@ -32,18 +34,18 @@ abbrev pub watched_pair : Learned → Option (Lit × Lit)
 watched_pair l = pair_of l.literal l.beside
 
 -- What comes of the clauses where one more is held, with these two literals watched.
-pub record Holds (log : LogState) (id : ℕ) (pair : Option (Lit × Lit)) (p q : Propagation) : Type 0 where
-  pub watched : (t : TrailState) → AreWatched log (watch_state p t) → MayHold log t p.head id pair → AreWatched log (watch_state q t)
-  pub has : HasClause q id
-  pub kept : (i : ℕ) → HasClause p i → HasClause q i
-  pub only : (i : ℕ) → HasClause q i → HasClause p i ⊎ (id ≡ i)
-  pub lone : pair ≡ None → q.lone.items ≡ p.lone.items ++ id ∷ []
+pub record Holds (log : LogState) (one : Held) (pair : Option (Lit × Lit)) (p q : Propagation) : Type 0 where
+  pub watched : (t : TrailState) → AreWatched log (watch_state p t) → MayHold log t p.head one pair → AreWatched log (watch_state q t)
+  pub has : HoldsAs q one
+  pub kept : (h : Held) → HoldsAs p h → HoldsAs q h
+  pub only : (h : Held) → HoldsAs q h → HoldsAs p h ⊎ (one ≡ h)
+  pub lone : pair ≡ None → q.lone.items ≡ p.lone.items ++ one ∷ []
   pub no_more_lone : IfSome pair (λ (x : Lit × Lit). q.lone ≡ p.lone)
 
 -- those that have no two literals stay, but for the new one
-lone_items : (log : LogState) (id : ℕ) (pair : Option (Lit × Lit)) (p q : Propagation) → Holds log id pair p q → IfSome pair (λ (x : Lit × Lit). q.lone.items ≡ p.lone.items)
-lone_items log id None p q h = tt
-lone_items log id (Some x) p q h = ap (λ v. v.items) h.no_more_lone
+lone_items : (log : LogState) (one : Held) (pair : Option (Lit × Lit)) (p q : Propagation) → Holds log one pair p q → IfSome pair (λ (x : Lit × Lit). lone_ids q ≡ lone_ids p)
+lone_items log one None p q h = tt
+lone_items log one (Some x) p q h = ap (λ v. ids v.items) h.no_more_lone
 
 module _ (log : LogState) (t : TrailState) (order : IsTrail t) (l : Learned) (learned : IsLearned log t.entries l) where
   abbrev es : List Assigned
@@ -125,7 +127,7 @@ module _ (log : LogState) (t : TrailState) (order : IsTrail t) (l : Learned) (le
     pair_free k less m has level x (inr same) =
         subst (IsFreeOn (below k es)) same (below_free t.size es order k m (learned.falsified m has) (omega (arith, less, level)))
 
-    holds_pair : (head : ℕ) (o : Option Lit) → IsBeside es lits l.literal l.level o → MayHold log after head l.clause (pair_of l.literal o)
+    holds_pair : (head : ℕ) (o : Option Lit) → IsBeside es lits l.literal l.level o → MayHold log after head (learned_of log l.clause) (pair_of l.literal o)
     holds_pair head None h = record { usable = usable; lone = λ a b has_a has_b. h.1 a has_a ∙ sym (h.1 b has_b) }
     holds_pair head (Some m) h =
         record {
@@ -142,7 +144,7 @@ module _ (log : LogState) (t : TrailState) (order : IsTrail t) (l : Learned) (le
               cc;
         }
 
-    pub may_hold : (head : ℕ) → MayHold log after head l.clause (watched_pair l)
+    pub may_hold : (head : ℕ) → MayHold log after head (learned_of log l.clause) (watched_pair l)
     may_hold head = holds_pair head l.beside learned.beside
 
     pair_within : (n : ℕ) → 2 * t.size ≤ n → (o : Option Lit) → IsBeside es lits l.literal l.level o
@@ -179,7 +181,9 @@ module _ (log : LogState) (t : TrailState) (order : IsTrail t) (l : Learned) (le
   first_pair ordered us us' (Some m) h more same first = subst (All (IsTrueFirst (after_learned es l))) (sym same) (first_kept us first)
 
   -- also of the clause itself, where it has no two literals
-  pub after_true : EachBehind (IsNext t.size) (after_learned es l) → (p q : Propagation) → Holds log l.clause (watched_pair l) p q → All (IsTrueFirst es) p.lone.items
-      → All (IsTrueFirst (after_learned es l)) q.lone.items
+  pub after_true : EachBehind (IsNext t.size) (after_learned es l) → (p q : Propagation) → Holds log (learned_of log l.clause) (watched_pair l) p q → All (IsTrueFirst es) (lone_ids p)
+      → All (IsTrueFirst (after_learned es l)) (lone_ids q)
   after_true ordered p q h first =
-      first_pair ordered p.lone.items q.lone.items l.beside learned.beside h.lone (lone_items log l.clause (watched_pair l) p q h) first
+      let more : watched_pair l ≡ None → lone_ids q ≡ lone_ids p ++ l.clause ∷ [] =
+      λ none. ap ids (h.lone none) ∙ map_push (λ (x : Held). x.id) p.lone.items (learned_of log l.clause) in
+      first_pair ordered (lone_ids p) (lone_ids q) l.beside learned.beside more (lone_items log (learned_of log l.clause) (watched_pair l) p q h) first

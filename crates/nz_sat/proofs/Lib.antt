@@ -7,7 +7,10 @@ pub mod Chains
 pub mod Clausal
 pub mod ConflictChains
 pub mod DeadEnds
+pub mod Departures
+pub mod HeldNumbers
 pub mod Holding
+pub mod KeptClauses
 pub mod LearnedClauses
 pub mod LearnedLines
 pub mod LearnedWatches
@@ -18,6 +21,7 @@ pub mod LogGrowth
 pub mod Marks
 pub mod Propagations
 pub mod Removals
+pub mod Retaining
 pub mod Rewatching
 pub mod SearchLines
 pub mod SearchRuns

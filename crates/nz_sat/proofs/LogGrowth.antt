@@ -1,6 +1,7 @@
 -- Logs that grow, and what they keep of a search.
 use Rattle.std.proofs.Common.{ℕ, List, [], get_or, Option, Some, None, refl, sym, ap, subst, ◌∙◌, All, Contains, IsSome, slice_get, ◌≡◌, Bool, true, false, ◌∷◌, map}
-use Rattle.std.proofs.lemmas.List.Elements.{All-contains, All-weaker, All-head, All-tail}
+use Rattle.std.proofs.lemmas.List.{append-nil}
+use Rattle.std.proofs.lemmas.List.Elements.{All-contains, All-nil, All-weaker, All-head, All-tail}
 use Rattle.nz_spec.specs.search.Search.{Task, signed_literal}
 use Rattle.nz_spec.specs.search.Work.{WorkList}
 use Rattle.nz_spec.specs.terms.Table.{Node, term_in}
@@ -14,7 +15,7 @@ use Rattle.nz_search.specs.Standing.{search_after}
 use Rattle.nz_sat.specs.declared.clauses.Held.{Held}
 use Rattle.nz_sat.specs.declared.trail.Assigned.{Assigned}
 use Rattle.nz_sat.specs.Numbers.{IsAtomAt, atom_literal}
-use Rattle.nz_sat.specs.Sats.{AreHeld, AreOn, IsAsked}
+use Rattle.nz_sat.specs.Sats.{AreHeld, AreOn, HoldsMore, IsAsked}
 use Rattle.nz_sat.specs.Searching.{StaysInOrder}
 use Rattle.nz_sat.specs.Theories.{StaysSoundOver}
 use Rattle.nz_spec.specs.clauses.Literal.{Literal, term_literal}
@@ -103,6 +104,10 @@ grows_far a b c g h =
       rows = λ i e at row. g.rows i e (sym (h.kept i (h.rows i e at row)) ∙ at) row;
       leveled = λ l. h.leveled (g.leveled l);
     }
+
+-- where none were learned
+pub holds_none : (log : LogState) (held : List Held) → AreHeld log held → HoldsMore log held held
+holds_none log held live = record { learned = []; joined = sym (append-nil held); are_learned = All-nil (λ (h : Held). h.is_learned ≡ true); held = live }
 
 -- clauses that are held still are
 pub held_on : (a b : LogState) (held : List Held) → Grows a b → AreHeld a held → AreHeld b held

@@ -24,14 +24,15 @@ use Rattle.nz_sat.specs.Numbers.{numbered}
 use Rattle.nz_sat.specs.Sats.{ids}
 use Rattle.nz_sat.specs.Searching.{AreFirst, Assumes, Carries, Follows, IsSearch, KeepsFirst, MayAssume, MayFollow, PropagatedOrFalsified}
 use Rattle.nz_sat.specs.Theories.{TellsTrail, bounds_on, told_literal, told_on}
-use Rattle.nz_sat.specs.Watched.{AreWatched, HasClause, KeepsClauses, watch_state}
+use Rattle.nz_sat.specs.Watched.{AreWatched, HasClause, KeepsClauses, lone_ids, watch_state}
+use Rattle.nz_sat.proofs.HeldNumbers.{ids_only}
 use Rattle.nz_sat.proofs.AtomTrails.{trail_goes, trail_push}
 use Rattle.nz_sat.proofs.Clausal.{either_sign, other_lit, sign_again, slice_get_behind, truth_found}
 use Rattle.nz_sat.proofs.Levels.{below_join}
 use Rattle.nz_sat.proofs.TrailEntries.{assigned_missing, assigned_one, assigned_place}
 use Rattle.nz_sat.proofs.TrailGrowth.{goes_assumed, goes_true, held_live, lowest_level}
 use Rattle.nz_sat.proofs.VisitedClauses.{goes_depth, no_decision}
-use Rattle.nz_sat.proofs.WatchedTrails.{first_entry_watched, first_on, had_kept, kept_has, true_more}
+use Rattle.nz_sat.proofs.WatchedTrails.{first_entry_watched, first_on, had_as, kept_as, true_more}
 
 -- ---- The trail goes on
 
@@ -106,8 +107,8 @@ goes_search log held s t p h v all keeps watched =
     (has_found t.entries (length es + k) e (place k d inside))) in
     record {
       are_held = h.are_held;
-      covered = λ i has. kept_has s.propagation p i keeps (h.covered i has);
-      only = λ i has. h.only i (had_kept s.propagation p i keeps has);
+      covered = λ g has. kept_as s.propagation p g keeps (h.covered g has);
+      only = λ g has. h.only g (had_as s.propagation p g keeps has);
       named = h.named;
       within = subst (λ (n : ℕ). All (λ (u : ℕ). u < n) s.atoms) (sym size) h.within;
       watched = watched;
@@ -125,11 +126,11 @@ module _ (log : LogState) (held : List Held) (s : Search) (t : TrailState) (p : 
 
   follows_one : (told : Option ℕ) → (told ≡ None → p.head ≡ length t.entries) → IfSome told (λ id. HasClause p id × IsFalsified t.entries (literals_at log id)) → Follows log held s followed told
   follows_one told all falsified =
-      let search = goes_search log held s t p may.search v may.search.only keeps watched in
+      let search = goes_search log held s t p may.search v (ids_only held s.propagation may.search.only) keeps watched in
       let so : (o : Option ℕ) → (o ≡ None → p.head ≡ length t.entries) → IfSome o (λ id. HasClause p id × IsFalsified t.entries (literals_at log id)) → PropagatedOrFalsified log held followed o =
       λ o. elim o as (λ x. (x ≡ None → p.head ≡ length t.entries) → IfSome x (λ id. HasClause p id × IsFalsified t.entries (literals_at log id)) → PropagatedOrFalsified log held followed x) [
         | None ↦ λ a f. a refl
-        | Some id ↦ λ a f. (search.only id f.0, f.1)
+        | Some id ↦ λ a f. (ids_only held p search.only id f.0, f.1)
       ] in
       record {
         may = record { search = search; first = first_on log s followed v.goes_on keeps.lone may.first };
@@ -226,7 +227,7 @@ module _ (log : LogState) (held : List Held) (assumed : List Lit) (l : Lit) (s :
     put_first =
         All-weaker (λ (i : ℕ). HasTrue (below 0 s.trail.entries) (literals_at log i)) (λ (i : ℕ). HasTrue (below 0 (s.trail.entries ++ entry ∷ [])) (literals_at log i))
         (λ i h. subst (λ (xs : List Assigned). HasTrue xs (literals_at log i)) (sym (below_join 0 s.trail.entries (entry ∷ [])))
-        (true_more (below 0 s.trail.entries) (below 0 (entry ∷ [])) (literals_at log i) h)) s.propagation.lone.items may.ready.first
+        (true_more (below 0 s.trail.entries) (below 0 (entry ∷ [])) (literals_at log i) h)) (lone_ids s.propagation) may.ready.first
 
     pub assume_goes : (told : Option ℕ) → among (ids held) → (told ≡ None → p.head ≡ length t.entries)
         → IfSome told (λ id. HasClause p id × IsFalsified t.entries (literals_at log id))
@@ -242,5 +243,5 @@ module _ (log : LogState) (held : List Held) (assumed : List Lit) (l : Lit) (s :
           kept = λ m h. goes_true (s.trail.entries ++ entry ∷ []) t.entries v.goes_on m (truth_found s.trail.entries (entry ∷ []) m.atom m.sign h);
           holds = λ none. goes_true (s.trail.entries ++ entry ∷ []) t.entries v.goes_on l put_true;
           ready = λ none. record { first = first_on log put (record s { trail = t; propagation = p }) v.goes_on keeps.lone put_first; all = looked none };
-          falsified = IfSome_then told falsified (λ id q. (held_live log held may.search.are_held id (search.only id q.0), λ m has. inl (q.1 m has)));
+          falsified = IfSome_then told falsified (λ id q. (held_live log held may.search.are_held id (ids_only held p search.only id q.0), λ m has. inl (q.1 m has)));
         }

@@ -11,7 +11,7 @@ use Rattle.nz_log.specs.Logs.{LogState, literals_at}
 use Rattle.nz_sat.specs.declared.clauses.WatchedClause.{WatchedClause}
 use Rattle.nz_sat.specs.declared.trail.Assigned.{Assigned}
 use Rattle.nz_sat.specs.declared.watches.Watch.{Watch}
-use Rattle.nz_sat.specs.Clauses.{HasTrue, IsHeldIn, IsUsable, IsWatchedIn, other_in, with_watch}
+use Rattle.nz_sat.specs.Clauses.{HasTrue, IsHeldIn, IsUsable, IsWatchedIn, held_as, other_in, with_watch}
 use Rattle.nz_log.specs.Codes.{code_of}
 use Rattle.nz_sat.specs.Lists.{AreOnce, HasKey, TakesOut}
 use Rattle.nz_sat.specs.Trails.{IsFalseOn, IsTrail, below}
@@ -26,6 +26,7 @@ use Rattle.nz_sat.proofs.SetPlaces.{push_at}
 -- what another watch makes of a clause in which a literal is watched
 pub record IsTurned (h turned : WatchedClause) (l next other : Lit) : Type 0 where
   pub id : turned.id ≡ h.id
+  pub held : held_as turned ≡ held_as h
   pub now : (m : Lit) → IsWatchedIn turned m → (m ≡ next) ⊎ (m ≡ other)
   pub has_next : IsWatchedIn turned next
   pub has_other : IsWatchedIn turned other
@@ -39,6 +40,7 @@ either_way : (b : Bool) (h : WatchedClause) (l next : Lit) → h.first ≢ h.sec
 either_way true h l next differ is_first is_second =
     record {
       id = refl;
+      held = refl;
       now = λ m watched. elim watched [ inl e ↦ inl (sym e) | inr e ↦ inr (sym e) ];
       has_next = inl refl;
       has_other = inr refl;
@@ -50,6 +52,7 @@ either_way true h l next differ is_first is_second =
 either_way false h l next differ is_first is_second =
     record {
       id = refl;
+      held = refl;
       now = λ m watched. elim watched [ inl e ↦ inr (sym e) | inr e ↦ inl (sym e) ];
       has_next = inr refl;
       has_other = inl refl;
@@ -308,9 +311,9 @@ module _ (s : LogState) (old : State) (w : AreWatched s old) (l next other : Lit
     pub hold_same : HoldSame old.held held'
     hold_same k = elim (cases_eq k m.watch.key) [
       | inl e ↦
-          ap (λ (n : ℕ). option_map (λ (h : WatchedClause). h.id) (held' n)) e ∙ ap (option_map (λ (h : WatchedClause). h.id)) changed ∙ ap Some turning.id
-          ∙ sym (ap (λ (n : ℕ). option_map (λ (h : WatchedClause). h.id) (old.held n)) e ∙ ap (option_map (λ (h : WatchedClause). h.id)) m.held)
-      | inr n ↦ ap (option_map (λ (h : WatchedClause). h.id)) (others k n)
+          ap (λ (n : ℕ). option_map held_as (held' n)) e ∙ ap (option_map held_as) changed ∙ ap Some turning.held
+          ∙ sym (ap (λ (n : ℕ). option_map held_as (old.held n)) e ∙ ap (option_map held_as) m.held)
+      | inr n ↦ ap (option_map held_as) (others k n)
     ]
 
     -- what is false on a front and watched now was watched before, since the other literal isn't false

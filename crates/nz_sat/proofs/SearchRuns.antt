@@ -1,7 +1,7 @@
 -- A search from its start to its end: what is assumed, and one turn of decision and conflicts.
 use Rattle.std.proofs.Common.{◌≡◌, ℕ, ◌+◌, ◌<◌, if◌then◌else◌, List, [], ◌∷◌, length, take, map, get_or, Option, None, refl, sym, ap, subst, ◌∙◌, arith, Result, Ok, Err, ◌≢◌, ◌≤◌, Bool, true, ◌++◌, Some, inr}
 use Rattle.std.specs.Prelude.{All, Contains, IfOk, IfSome, filter, unwrap_or, nat_lt, slice_get}
-use Rattle.std.proofs.lemmas.List.{get_or-map, length-map, take-append-le, append-nil, map_push}
+use Rattle.std.proofs.lemmas.List.{get_or-map, length-map, take-append-le, map_push}
 use Rattle.std.proofs.lemmas.List.Elements.{All-contains, All-cons, All-filter, All-map, All-nil, All-push, filter-append}
 use Rattle.std.proofs.lemmas.List.Sums.{length-filter, sum_by_push}
 use Rattle.std.proofs.lemmas.Option.{IfSome_then, slice_get-get_or, same_Some, slice_get_within}
@@ -23,9 +23,10 @@ use Rattle.nz_sat.specs.Conflicts.{Refutes, StaysSound}
 use Rattle.nz_sat.specs.Searching.{Advances, AreFirst, AssumesAll, Carries, Decides, IsLookedThrough, IsNoted, IsReady, IsSearch, KeepsFirst, Runs, Settles, SettlesOn, StaysInOrder, Steps, assumed_entries}
 use Rattle.nz_sat.specs.Theories.{EndsLegally, TheoryState, bounds_on, told_literal, told_lits, told_on}
 use Rattle.nz_sat.specs.Trails.{IsTrueOn, TrailState, assigned, below, decided, depth, is_decision, literals_on, with_entry}
+use Rattle.nz_sat.specs.Watched.{lone_ids}
 use Rattle.nz_sat.proofs.SearchSteps.{Reaches, log_reaches, reaches_step, reaches_then, steps_behind}
 use Rattle.nz_sat.proofs.Propagations.{carries_far}
-use Rattle.nz_sat.proofs.LogGrowth.{order_over, grows_none}
+use Rattle.nz_sat.proofs.LogGrowth.{order_over, grows_none, holds_none}
 use Rattle.nz_sat.proofs.ToldTrails.{stands_so, keeps_none}
 use Rattle.nz_sat.proofs.TrailEntries.{assigned_at}
 use Rattle.std.proofs.lemmas.Bool.Decides.{Decides-ltb}
@@ -85,7 +86,7 @@ module _ (log : LogState) (held : List Held) (s : Search) (h : IsSearch log held
   decided_first l true_before = subst (λ (xs : List Assigned). IsTrueOn xs l) (sym below_zero) true_before
 
   decided_true : AreFirst log s → AreFirst log (record s { trail = with_entry s.trail entry })
-  decided_true = subst (λ (xs : List Assigned). All (λ (i : ℕ). HasTrue xs (literals_at log i)) s.propagation.lone.items) (sym below_zero)
+  decided_true = subst (λ (xs : List Assigned). All (λ (i : ℕ). HasTrue xs (literals_at log i)) (lone_ids s.propagation)) (sym below_zero)
 
   -- ---- The line
 
@@ -167,7 +168,7 @@ module _ (log : LogState) (held : List Held) (s : Search) (h : IsSearch log held
         keeps = keeps_none m;
         grows = grows_none log;
         sound = λ ns levels known within order. order;
-        holds_more = record { learned = []; joined = sym (append-nil held); held = h.are_held };
+        holds_more = holds_none log held h.are_held;
         named = λ on. on;
         learned = decided_learned work;
         adds = adds_line work line tt;

@@ -1,9 +1,9 @@
 -- What the steps of a search keep, one after another.
-use Rattle.std.proofs.Common.{◌≡◌, ℕ, ◌≤◌, Bool, List, [], ◌++◌, length, min, take, drop, map, Option, inl, inr, sym, ap, subst, ◌∙◌, arith, append_assoc, All, filter, Result, Ok, Err}
+use Rattle.std.proofs.Common.{◌≡◌, true, ℕ, ◌≤◌, Bool, List, [], ◌++◌, length, min, take, drop, map, Option, inl, inr, sym, ap, subst, ◌∙◌, arith, append_assoc, All, filter, Result, Ok, Err}
 use Rattle.std.proofs.Math.Nat.{min-eq_left, min-eq_right}
 use Rattle.std.proofs.lemmas.Bool.Decides.{leb_tells}
 use Rattle.std.proofs.lemmas.List.{append-nil, length-map, map-append, take-append-drop, take-append-le, take-map, take-take, take_all}
-use Rattle.std.proofs.lemmas.List.Elements.{filter-append}
+use Rattle.std.proofs.lemmas.List.Elements.{All-append, filter-append}
 use Rattle.nz_spec.specs.simplex.Bland.{Point}
 use Rattle.nz_spec.specs.terms.Form.{Part}
 use Rattle.nz_spec.specs.search.Legal.{Lead}
@@ -32,7 +32,7 @@ use Rattle.nz_sat.specs.Sats.{AreHeld, AreOn, HoldsLearned, HoldsMore, IsAsked}
 use Rattle.nz_sat.specs.Searching.{Advances, StaysInOrder, Steps}
 use Rattle.nz_sat.specs.Theories.{AddsLines, EndsLegally, IsOfSearch, Keeps, StandsAt, TellsTrail, TheoryState, told_lits, told_on}
 use Rattle.nz_sat.specs.Trails.{IsFrontOf}
-use Rattle.nz_sat.proofs.LogGrowth.{asked_on, atoms_stay, grows_far, held_on, on_kept}
+use Rattle.nz_sat.proofs.LogGrowth.{asked_on, atoms_stay, grows_far, held_on, holds_none, on_kept}
 use Rattle.nz_sat.proofs.SearchLines.{adds_far, adds_none, adds_same}
 use Rattle.nz_sat.proofs.ToldTrails.{keeps_far, keeps_none, stands_by}
 use Rattle.nz_sat.proofs.TrailGrowth.{learned_grown}
@@ -164,6 +164,7 @@ reaches_then {m = m} {m₁ = m₁} {m₂ = m₂} {s = s} {mid = mid} {a = a} {b 
       holds_more = record {
         learned = p.holds_more.learned ++ q.holds_more.learned;
         joined = q.holds_more.joined ∙ ap (λ (xs : List Held). xs ++ q.holds_more.learned) p.holds_more.joined ∙ append_assoc h p.holds_more.learned q.holds_more.learned;
+        are_learned = All-append (λ (x : Held). x.is_learned ≡ true) p.holds_more.learned q.holds_more.learned p.holds_more.are_learned q.holds_more.are_learned;
         held = q.holds_more.held;
       };
       named = λ on. subst (λ (us : List ℕ). AreOn c us h₂) same (q.named (subst (λ (us : List ℕ). AreOn b us h₁) (sym same) (p.named on)));
@@ -185,7 +186,7 @@ log_reaches m s es a b held work h g sound result ends =
       keeps = keeps_none m;
       grows = g;
       sound = sound;
-      holds_more = record { learned = []; joined = sym (append-nil held); held = held_on a b held g h };
+      holds_more = holds_none b held (held_on a b held g h);
       named = on_kept a b s.atoms held g h;
       learned = learned_grown a b s.atoms held g h work;
       adds = adds_none work;

@@ -1,6 +1,5 @@
 -- What a search knows after the theory was asked.
-use Rattle.std.proofs.Common.{◌≡◌, ℕ, ◌<◌, ◌≤◌, Bool, List, [], length, map, min, inl, inr, Option, None, Some, refl, sym, ap, subst, ◌∙◌, arith, All, Contains, IfOk, IfSome, Result, Ok, Err}
-use Rattle.std.proofs.lemmas.List.{append-nil}
+use Rattle.std.proofs.Common.{◌≡◌, ℕ, ◌<◌, ◌≤◌, Bool, List, length, map, min, inl, inr, Option, None, Some, refl, sym, ap, subst, ◌∙◌, arith, All, Contains, IfOk, IfSome, Result, Ok, Err}
 use Rattle.std.proofs.lemmas.Result.{IfOk-weaker}
 use Rattle.nz_spec.specs.search.Search as legal
 use Rattle.nz_spec.specs.search.Work.{WorkList}
@@ -23,7 +22,7 @@ use Rattle.nz_sat.specs.Theories.{AddsLines, Consults, EndsLegally, IsMet, IsOfT
 use Rattle.nz_sat.specs.Trails.{GoesOn, IsTrueOn, below, depth, literals_on, IsFalseOn, IsFrontOf, level_on}
 use Rattle.nz_sat.proofs.SearchSteps.{Reaches, advances_same, ends_memory, log_reaches, reaches_step, reaches_then, stands_legal, steps_behind}
 use Rattle.nz_sat.proofs.Propagations.{carries_far, goes_first, goes_tells, goes_told}
-use Rattle.nz_sat.proofs.LogGrowth.{atoms_stay, grows_far, grows_none, held_on, on_kept, order_over}
+use Rattle.nz_sat.proofs.LogGrowth.{atoms_stay, grows_far, grows_none, held_on, holds_none, on_kept, order_over}
 use Rattle.nz_sat.proofs.TrailGrowth.{goes_assumed, held_live, learned_grown}
 use Rattle.nz_sat.proofs.Levels.{below_twice, below_depth, below_false, below_front, found_below}
 use Rattle.nz_sat.proofs.SearchLines.{adds_keep, adds_units, adds_wider, learned_kept}
@@ -34,7 +33,7 @@ use Rattle.nz_sat.specs.Clauses.{HasReasonOf, IsAssumed, IsFalsified}
 use Rattle.nz_sat.proofs.LearnedClauses.{all_from, false_level}
 use Rattle.nz_sat.proofs.Marks.{false_entry, level_found}
 use Rattle.nz_sat.specs.Sats.{HoldsLearned, ids}
-use Rattle.nz_sat.specs.Watched.{HasClause, watch_state}
+use Rattle.nz_sat.specs.Watched.{HoldsAs, watch_state}
 use Rattle.nz_sat.proofs.WatchedTrails.{cut_watched, first_cut, first_grown, grown_watched}
 use Rattle.nz_sat.proofs.AtomTrails.{literals_kept, trail_cut, trail_grown}
 
@@ -86,8 +85,8 @@ cut_search log held s s' h rest size k cut looked bounds =
     subst (IsSearch log held) (sym rest)
     (record {
       are_held = h.are_held;
-      covered = λ i has. subst (λ (p : Propagation). HasClause p i) (sym looked) (h.covered i has);
-      only = λ i has. h.only i (subst (λ (p : Propagation). HasClause p i) looked has);
+      covered = λ g has. subst (λ (p : Propagation). HoldsAs p g) (sym looked) (h.covered g has);
+      only = λ g has. h.only g (subst (λ (p : Propagation). HoldsAs p g) looked has);
       named = h.named;
       within = subst (λ (n : ℕ). All (λ (t : ℕ). t < n) s.atoms) (sym size) h.within;
       watched = cut_watched log s.propagation s'.propagation s.trail s'.trail k h.on.order cut size looked h.watched;
@@ -240,7 +239,7 @@ consult_advances m m' log log' held s s' b work work' result h h' rest g c =
       keeps = c.keeps;
       grows = c.grows;
       sound = subst (λ (us : List ℕ). StaysInOrder m.over us log log') atoms (order_over m.over s'.atoms s'.trail.entries h'.on.on_trail log log' c.sound);
-      holds_more = record { learned = []; joined = sym (append-nil held); held = held_on log log' held c.grows h.are_held };
+      holds_more = holds_none log' held (held_on log log' held c.grows h.are_held);
       named = on_kept log log' s.atoms held c.grows h.are_held;
       learned = λ before. learned_added log' s.atoms held work work' c.adds (learned_grown log log' s.atoms held c.grows h.are_held work before);
       adds = adds_wider work work' c.adds;
@@ -406,7 +405,7 @@ back_refuted {m = m} {m' = m'} {start = start} {cut = cut} {log = log} {log' = l
       grows = grows_far log log' new p.grows grows;
       sound = λ ns levels known within order.
           more ns levels (p.keeps.over ns known) (atoms_stay log.atoms log'.atoms p.grows.atoms ns start.atoms within) (p.sound ns levels known within order);
-      holds_more = record { learned = p.holds_more.learned; joined = p.holds_more.joined; held = held_on log' new held' grows p.holds_more.held };
+      holds_more = record { learned = p.holds_more.learned; joined = p.holds_more.joined; are_learned = p.holds_more.are_learned; held = held_on log' new held' grows p.holds_more.held };
       named = λ on. on_kept log' new start.atoms held' grows p.holds_more.held (p.named on);
       learned = λ before. learned_grown log' new start.atoms held' grows p.holds_more.held work' (p.learned before);
       adds = p.adds;

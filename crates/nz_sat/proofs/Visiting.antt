@@ -8,16 +8,17 @@ use Rattle.std.proofs.lemmas.Option.{get_or_from_slice_get, same_Some, slice_get
 use Rattle.nz_log.specs.declared.lits.Lit.{Lit}
 use Rattle.nz_log.specs.Lits.{negated_lit}
 use Rattle.nz_log.specs.Logs.{LogState, literals_at}
+use Rattle.nz_sat.specs.declared.clauses.Held.{Held}
 use Rattle.nz_sat.specs.declared.clauses.WatchedClause.{WatchedClause}
 use Rattle.nz_sat.specs.declared.propagate.Visit.{Visit}
 use Rattle.nz_sat.specs.declared.propagate.Visit.TheVariants.{Stays, Moved, Falsified}
 use Rattle.nz_sat.specs.declared.propagation.Propagation.{Propagation}
 use Rattle.nz_sat.specs.declared.trail.Assigned.{Assigned}
 use Rattle.nz_sat.specs.declared.watches.Watch.{Watch}
-use Rattle.nz_sat.specs.Clauses.{AreFalseBut, HasTrue, IsHeldIn, IsWatchedIn, Visits, other_in}
+use Rattle.nz_sat.specs.Clauses.{AreFalseBut, HasTrue, IsHeldIn, IsWatchedIn, Visits, held_as, other_in}
 use Rattle.nz_sat.specs.Lists.{AreOnce, HasKey, HasKeyFrom, TakesOut, list_of}
 use Rattle.nz_sat.specs.Trails.{EachBehind, GoesOn, IsFalseOn, IsNext, IsTrueOn, TrailState, truth_on}
-use Rattle.nz_sat.specs.Watched.{AreListed, AreWatched, ComesOf, GoesAhead, HasClause, HoldSame, IsConflictIn, IsLastOf, IsWatch, KeepsClauses, MayRewatch, Settles, State, watch_state}
+use Rattle.nz_sat.specs.Watched.{AreListed, AreWatched, ComesOf, GoesAhead, HasClause, HoldSame, IsConflictIn, IsLastOf, IsWatch, KeepsClauses, MayRewatch, Settles, State, held_at, watch_state}
 use Rattle.nz_sat.proofs.Clausal.{sign_again, truth_found, truth_missing}
 use Rattle.nz_sat.proofs.LiteralNumbers.{lit_cases}
 use Rattle.nz_sat.proofs.Rewatching.{turned}
@@ -63,10 +64,8 @@ next_ahead s old new l i watch at stay held long still now =
       less = let inside : i < length (old.lists l) = slice_get_within (old.lists l) i watch at in omega (arith, inside, long);
     }
 
-same_id : (o p : Option WatchedClause) (g h : WatchedClause) → o ≡ Some g → p ≡ Some h → option_map (λ (x : WatchedClause). x.id) p ≡ option_map (λ (x : WatchedClause). x.id) o
-    → h.id ≡ g.id
-same_id o p g h one two same =
-    same_Some h.id g.id (sym (ap (option_map (λ (x : WatchedClause). x.id)) two) ∙ same ∙ ap (option_map (λ (x : WatchedClause). x.id)) one)
+same_id : (o p : Option WatchedClause) (g h : WatchedClause) → o ≡ Some g → p ≡ Some h → option_map held_as p ≡ option_map held_as o → h.id ≡ g.id
+same_id o p g h one two same = ap (λ (x : Held). x.id) (same_Some (held_as h) (held_as g) (sym (ap (option_map held_as) two) ∙ same ∙ ap (option_map held_as) one))
 
 -- the clause of the place has left the list
 pub moved_ahead : (s : LogState) (old new : State) (l : Lit) (i : ℕ) (watch : Watch) → slice_get (old.lists l) i ≡ Some watch → AreWatched s old → AreWatched s new
@@ -347,7 +346,7 @@ false_more es e l falls =
     ] refl
 
 pub head_more : (s : LogState) (p : Propagation) (t : TrailState) (e : Assigned) → AreWatched s (watch_state p t) → slice_get t.entries p.head ≡ Some e
-    → ((key : ℕ) (h : WatchedClause) → slice_get p.clauses.items key ≡ Some h → IsWatchedIn h (negated_lit e.literal) → HasTrue t.entries (literals_at s h.id))
+    → ((key : ℕ) (h : WatchedClause) → held_at p key ≡ Some h → IsWatchedIn h (negated_lit e.literal) → HasTrue t.entries (literals_at s h.id))
     → AreWatched s (watch_state (record p { head = p.head + 1 }) t)
 head_more s p t e w at visited =
     let inside : p.head < length t.entries = slice_get_within t.entries p.head e at in

@@ -1,6 +1,6 @@
 -- Watched clauses as the trail goes on and back, and the log grows.
 use Rattle.std.proofs.Common.{◌≡◌, ℕ, ◌+◌, ◌*◌, ◌<◌, ◌≤◌, Bool, true, false, if◌then◌else◌, inl, inr, List, [], ◌∷◌, ◌++◌, length, take, min, Option, Some, None, refl, sym, ap, subst, ◌∙◌, arith}
-use Rattle.std.specs.Prelude.{All, Contains, option_map, slice_get}
+use Rattle.std.specs.Prelude.{All, Contains, option_map}
 use Rattle.std.proofs.lemmas.Bool.Decides.{leb_tells}
 use Rattle.std.proofs.lemmas.List.{append-nil, length-append, length_push, take-append-le, take_all}
 use Rattle.std.proofs.lemmas.List.Elements.{All-cons, All-contains, All-nil, All-weaker}
@@ -14,14 +14,15 @@ use Rattle.nz_sat.specs.declared.clauses.WatchedClause.{WatchedClause}
 use Rattle.nz_sat.specs.declared.propagation.Propagation.{Propagation}
 use Rattle.nz_sat.specs.declared.search.Search.{Search}
 use Rattle.nz_sat.specs.declared.trail.Assigned.{Assigned}
-use Rattle.nz_sat.specs.Clauses.{HasTrue, IsHeldIn, IsLoneIn, IsOpen, IsSettledBy, IsUsable, by_true, by_two}
+use Rattle.nz_sat.specs.Clauses.{HasTrue, IsHeldIn, IsLoneIn, IsOpen, IsSettledBy, IsUsable, by_true, by_two, held_as}
 use Rattle.nz_sat.specs.Sats.{ids}
 use Rattle.nz_sat.specs.Searching.{AreFirst, AreOpen, IsReady, IsSearch, WereOpen}
 use Rattle.nz_sat.specs.Trails.{AreUpTo, EachBehind, GoesOn, IsFalseOn, IsFreeOn, IsNext, IsTrail, IsTrueOn, TrailState, below, decided, depth, is_decision, truth_on, with_entry}
-use Rattle.nz_sat.specs.Watched.{AreListed, AreSettledBy, AreWatched, HasClause, HoldSame, IsWatchedAt, KeepsClauses, State, watch_state}
+use Rattle.nz_sat.specs.Watched.{AreListed, AreSettledBy, AreWatched, HasClause, HoldSame, HoldsAs, IsWatchedAs, KeepsClauses, State, held_at, lone_ids, watch_state}
 use Rattle.nz_sat.proofs.AtomTrails.{literals_kept}
 use Rattle.nz_sat.proofs.Backward.{false_whole, front_place}
 use Rattle.nz_sat.proofs.Clausal.{either_sign, truth_found}
+use Rattle.nz_sat.proofs.HeldNumbers.{ids_covered}
 use Rattle.nz_sat.proofs.LearnedClauses.{all_from}
 use Rattle.nz_sat.proofs.Levels.{below_all, below_depth, below_front, below_join, below_none, below_true, below_twice}
 use Rattle.nz_sat.proofs.TrailEntries.{each_front, level_within}
@@ -100,8 +101,8 @@ module _ (s : LogState) (held : ℕ → Option WatchedClause) (head : ℕ) (es :
 
 -- the watches under another trail
 watched_on : (s : LogState) (p : Propagation) (t t' : TrailState) → t'.size ≡ t.size → p.head ≤ length t'.entries
-    → AreSettledBy (take p.head t'.entries) t'.entries s (slice_get p.clauses.items)
-    → ((k : ℕ) → k < depth t'.entries → AreSettledBy (below k t'.entries) (below k t'.entries) s (slice_get p.clauses.items))
+    → AreSettledBy (take p.head t'.entries) t'.entries s (held_at p)
+    → ((k : ℕ) → k < depth t'.entries → AreSettledBy (below k t'.entries) (below k t'.entries) s (held_at p))
     → AreWatched s (watch_state p t) → AreWatched s (watch_state p t')
 watched_on s p t t' size within settled were_settled w =
     let state = watch_state p t in
@@ -117,7 +118,7 @@ watched_on s p t t' size within settled were_settled w =
 pub goes_watched : (s : LogState) (p : Propagation) (t t' : TrailState) → GoesOn t.entries t'.entries → t'.size ≡ t.size → AreWatched s (watch_state p t) → AreWatched s (watch_state p t')
 goes_watched s p t t' g size w =
     let es = t.entries in
-    let held = slice_get p.clauses.items in
+    let held = held_at p in
     let long = ap length g.joined ∙ length-append es g.more in
     watched_on s p t t' size (omega (arith, w.within, long))
     (subst (λ (xs : List Assigned). AreSettledBy (take p.head xs) xs s held) (sym g.joined) (settled_more s held p.head es w.within g.more w.settled))
@@ -132,7 +133,7 @@ pub first_entry_watched : (s : LogState) (p : Propagation) (t : TrailState) (e :
     → AreWatched s (watch_state p (with_entry t e))
 first_entry_watched s p t e none w =
     watched_on s p t (with_entry t e) refl (omega (arith, w.within, length_push t.entries e))
-    (settled_more s (slice_get p.clauses.items) p.head t.entries w.within (e ∷ []) w.settled)
+    (settled_more s (held_at p) p.head t.entries w.within (e ∷ []) w.settled)
     (λ k less. absurd (omega (arith, less, none)))
     w
 
@@ -145,7 +146,7 @@ pub decided_watched : (s : LogState) (p : Propagation) (t : TrailState) (l : Lit
 decided_watched s p t l order all w =
     let es = t.entries in
     let e = decided es l in
-    let held = slice_get p.clauses.items in
+    let held = held_at p in
     watched_on s p t (with_entry t e) refl (omega (arith, w.within, length_push es e))
     (settled_more s held p.head es w.within (e ∷ []) w.settled)
     (λ k less.
@@ -168,7 +169,7 @@ pub cut_watched : (s : LogState) (p q : Propagation) (t t' : TrailState) (k : �
     → q ≡ record p { head = min p.head (length t'.entries) } → AreWatched s (watch_state p t) → AreWatched s (watch_state q t')
 cut_watched s p q t t' k order cut size is w =
     let es = t.entries in
-    let held = slice_get p.clauses.items in
+    let held = held_at p in
     let r : Propagation = record p { head = min p.head (length t'.entries) } in
     let w' : AreWatched s (watch_state r t') =
     elim (leb_tells (depth es) k) [
@@ -184,7 +185,7 @@ cut_watched s p q t t' k order cut size is w =
           record {
             room = subst (λ (n : ℕ). 2 * n ≤ length p.watches.lists.items) (sym size) w.room;
             listed = subst (λ (n : ℕ). AreListed s n held (watch_state p t).lists) (sym size) w.listed;
-            lone = subst (λ (n : ℕ). All (IsLoneIn s n) p.lone.items) (sym size) w.lone;
+            lone = subst (λ (n : ℕ). All (IsLoneIn s n) (lone_ids p)) (sym size) w.lone;
             within = omega arith;
             settled =
                 subst (λ (xs : List Assigned). AreSettledBy (take r.head xs) xs s held) (sym cut)
@@ -265,35 +266,43 @@ pub clauses_stay : (p : Propagation) → KeepsClauses p p
 clauses_stay p = record { watched = λ key. refl; lone = refl; room = refl }
 
 -- the same clauses stand under the keys of another list
-watched_there : (old new : ℕ → Option WatchedClause) → HoldSame old new → (i : ℕ) → IsWatchedAt old i → IsWatchedAt new i
-watched_there old new same i w =
-    let one : option_map (λ (h : WatchedClause). h.id) (new w.key) ≡ Some i = same w.key ∙ ap (option_map (λ (h : WatchedClause). h.id)) w.at ∙ ap Some w.is in
-    elim (new w.key) as (λ o. new w.key ≡ o → option_map (λ (h : WatchedClause). h.id) o ≡ Some i → IsWatchedAt new i) [
+watched_there : (old new : ℕ → Option WatchedClause) → HoldSame old new → (h : Held) → IsWatchedAs old h → IsWatchedAs new h
+watched_there old new same h w =
+    let one : option_map held_as (new w.key) ≡ Some h = same w.key ∙ ap (option_map held_as) w.at ∙ ap Some w.is in
+    elim (new w.key) as (λ o. new w.key ≡ o → option_map held_as o ≡ Some h → IsWatchedAs new h) [
       | None ↦ λ at is. cc
-      | Some h ↦ λ at is. record { key = w.key; clause = h; at = at; is = same_Some h.id i is }
+      | Some c ↦ λ at is. record { key = w.key; clause = c; at = at; is = same_Some (held_as c) h is }
     ] refl one
 
-pub kept_has : (p q : Propagation) (i : ℕ) → KeepsClauses p q → HasClause p i → HasClause q i
-kept_has p q i k (inl w) = inl (watched_there (slice_get p.clauses.items) (slice_get q.clauses.items) k.watched i w)
-kept_has p q i k (inr has) = inr (subst (λ v. Contains v.items i) (sym k.lone) has)
+-- by their levels and flags
+pub kept_as : (p q : Propagation) (h : Held) → KeepsClauses p q → HoldsAs p h → HoldsAs q h
+kept_as p q h k (inl w) = inl (watched_there (held_at p) (held_at q) k.watched h w)
+kept_as p q h k (inr has) = inr (subst (λ v. Contains v.items h) (sym k.lone) has)
 
+pub had_as : (p q : Propagation) (h : Held) → KeepsClauses p q → HoldsAs q h → HoldsAs p h
+had_as p q h k (inl w) = inl (watched_there (held_at q) (held_at p) (λ key. sym (k.watched key)) h w)
+had_as p q h k (inr has) = inr (subst (λ v. Contains v.items h) k.lone has)
+
+-- by their numbers
 pub had_kept : (p q : Propagation) (i : ℕ) → KeepsClauses p q → HasClause q i → HasClause p i
-had_kept p q i k (inl w) = inl (watched_there (slice_get q.clauses.items) (slice_get p.clauses.items) (λ key. sym (k.watched key)) i w)
-had_kept p q i k (inr has) = inr (subst (λ v. Contains v.items i) k.lone has)
+had_kept p q i k (inl w) =
+    let there = watched_there (held_at q) (held_at p) (λ key. sym (k.watched key)) (held_as w.clause) (record { key = w.key; clause = w.clause; at = w.at; is = refl }) in
+    inl (record { key = there.key; clause = there.clause; at = there.at; is = ap (λ (h : Held). h.id) there.is ∙ w.is })
+had_kept p q i k (inr has) = inr (subst (λ v. Contains (ids v.items) i) k.lone has)
 
 -- ---- Each clause is open
 
 module _ (log : LogState) (held : List Held) (s : Search) (h : IsSearch log held s) where
   -- by those that are watched, and those of which a literal is true under no decision
-  each_open : (es : List Assigned) → AreSettledBy es es log (slice_get s.propagation.clauses.items) → All (λ (i : ℕ). HasTrue es (literals_at log i)) s.propagation.lone.items
+  each_open : (es : List Assigned) → AreSettledBy es es log (held_at s.propagation) → All (λ (i : ℕ). HasTrue es (literals_at log i)) (lone_ids s.propagation)
       → AreOpen log held es
   each_open es settled first =
       all_from (λ (i : ℕ). IsOpen es (literals_at log i)) (ids held)
-      (λ i has. elim (h.covered i has) [
+      (λ i has. elim (ids_covered held s.propagation h.covered i has) [
         | inl w ↦
             subst (λ (j : ℕ). IsOpen es (literals_at log j)) w.is
             (open_watched log s.trail.size es w.clause (h.watched.listed.clauses w.key w.clause w.at) (settled w.key w.clause w.at))
-        | inr lone ↦ open_true es (literals_at log i) (All-contains (λ (j : ℕ). HasTrue es (literals_at log j)) s.propagation.lone.items i first lone)
+        | inr lone ↦ open_true es (literals_at log i) (All-contains (λ (j : ℕ). HasTrue es (literals_at log j)) (lone_ids s.propagation) i first lone)
       ])
 
 -- what is true under no decision is true
@@ -307,8 +316,8 @@ pub all_open : (log : LogState) (held : List Held) (s : Search) → IsSearch log
 all_open log held s h ready =
     let es = s.trail.entries in
     let whole : take s.propagation.head es ≡ es = take_all s.propagation.head es (omega (arith, ready.all)) in
-    each_open log held s h es (subst (λ (xs : List Assigned). AreSettledBy xs es log (slice_get s.propagation.clauses.items)) whole h.watched.settled)
-    (first_true log s.trail.size es s.propagation.lone.items h.on.order ready.first)
+    each_open log held s h es (subst (λ (xs : List Assigned). AreSettledBy xs es log (held_at s.propagation)) whole h.watched.settled)
+    (first_true log s.trail.size es (lone_ids s.propagation) h.on.order ready.first)
 
 pub were_open : (log : LogState) (held : List Held) (s : Search) → IsSearch log held s → AreFirst log s → WereOpen log held s.trail.entries
 were_open log held s h first k less =
@@ -318,15 +327,15 @@ were_open log held s h first k less =
     let order : EachBehind (IsNext size) (below k es) = each_front (IsNext size) (below k es) front.more (subst (EachBehind (IsNext size)) front.joined h.on.order) in
     let same : below 0 (below k es) ≡ below 0 es = below_twice 0 k (omega arith) es in
     each_open log held s h (below k es) (h.watched.were_settled k less)
-    (first_true log size (below k es) s.propagation.lone.items order
-    (subst (λ (xs : List Assigned). All (λ (i : ℕ). HasTrue xs (literals_at log i)) s.propagation.lone.items) (sym same) first))
+    (first_true log size (below k es) (lone_ids s.propagation) order
+    (subst (λ (xs : List Assigned). All (λ (i : ℕ). HasTrue xs (literals_at log i)) (lone_ids s.propagation)) (sym same) first))
 
 -- ---- What is true under no decision
 
 -- of the same clauses
-lone_same : (log : LogState) (s s' : Search) → s'.propagation.lone ≡ s.propagation.lone → All (λ (i : ℕ). HasTrue (below 0 s'.trail.entries) (literals_at log i)) s.propagation.lone.items
+lone_same : (log : LogState) (s s' : Search) → s'.propagation.lone ≡ s.propagation.lone → All (λ (i : ℕ). HasTrue (below 0 s'.trail.entries) (literals_at log i)) (lone_ids s.propagation)
     → AreFirst log s'
-lone_same log s s' lone first = subst (λ v. All (λ (i : ℕ). HasTrue (below 0 s'.trail.entries) (literals_at log i)) v.items) (sym lone) first
+lone_same log s s' lone first = subst (λ v. All (λ (i : ℕ). HasTrue (below 0 s'.trail.entries) (literals_at log i)) (ids v.items)) (sym lone) first
 
 pub first_on : (log : LogState) (s s' : Search) → GoesOn s.trail.entries s'.trail.entries → s'.propagation.lone ≡ s.propagation.lone → AreFirst log s → AreFirst log s'
 first_on log s s' g lone first =
@@ -334,17 +343,17 @@ first_on log s s' g lone first =
     let longer : below 0 s'.trail.entries ≡ below 0 es ++ below 0 g.more = ap (below 0) g.joined ∙ below_join 0 es g.more in
     lone_same log s s' lone
     (All-weaker (λ (i : ℕ). HasTrue (below 0 es) (literals_at log i)) (λ (i : ℕ). HasTrue (below 0 s'.trail.entries) (literals_at log i))
-    (λ i x. subst (λ (xs : List Assigned). HasTrue xs (literals_at log i)) (sym longer) (true_more (below 0 es) (below 0 g.more) (literals_at log i) x)) s.propagation.lone.items first)
+    (λ i x. subst (λ (xs : List Assigned). HasTrue xs (literals_at log i)) (sym longer) (true_more (below 0 es) (below 0 g.more) (literals_at log i) x)) (lone_ids s.propagation) first)
 
 pub first_cut : (log : LogState) (s s' : Search) (k : ℕ) → s'.trail.entries ≡ below k s.trail.entries → s'.propagation.lone ≡ s.propagation.lone → AreFirst log s → AreFirst log s'
 first_cut log s s' k cut lone first =
     let same : below 0 s'.trail.entries ≡ below 0 s.trail.entries = ap (below 0) cut ∙ below_twice 0 k (omega arith) s.trail.entries in
-    lone_same log s s' lone (subst (λ (xs : List Assigned). All (λ (i : ℕ). HasTrue xs (literals_at log i)) s.propagation.lone.items) (sym same) first)
+    lone_same log s s' lone (subst (λ (xs : List Assigned). All (λ (i : ℕ). HasTrue xs (literals_at log i)) (lone_ids s.propagation)) (sym same) first)
 
 pub first_grown : (log log' : LogState) (s : Search) → Grows log log' → AreWatched log (watch_state s.propagation s.trail) → AreFirst log s → AreFirst log' s
 first_grown log log' s g w first =
     let es = below 0 s.trail.entries in
-    let us = s.propagation.lone.items in
+    let us = lone_ids s.propagation in
     all_from (λ (i : ℕ). HasTrue es (literals_at log' i)) us
     (λ i has.
     true_kept log log' g es i (All-contains (IsLoneIn log s.trail.size) us i w.lone has).usable.live (All-contains (λ (j : ℕ). HasTrue es (literals_at log j)) us i first has))

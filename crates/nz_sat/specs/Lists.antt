@@ -48,3 +48,11 @@ pub record TakesOut (i : ℕ) (old new : List Watch) : Type 0 where
   pub from : (j : ℕ) (w : Watch) → slice_get new j ≡ Some w → (k : ℕ) × (k ≢ i) × (slice_get old k ≡ Some w)
   pub stays : (j : ℕ) (w : Watch) → j ≢ i → slice_get old j ≡ Some w → (k : ℕ) × (slice_get new k ≡ Some w) × IsAfter i j k
   pub once : AreOnce old → AreOnce new
+
+-- The watch of a clause is taken out.
+pub record LeavesKey (key : ℕ) (old new : List Watch) : Type 0 where
+  pub place : ℕ
+  pub watch : Watch
+  pub at : slice_get old place ≡ Some watch
+  pub is : watch.key ≡ key
+  pub taken : TakesOut place old new

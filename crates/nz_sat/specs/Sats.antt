@@ -1,5 +1,5 @@
 -- A search over clauses of a log, as its callers see it.
-use Rattle.std.specs.Prelude.{◌≡◌, ℕ, ◌++◌, Bool, All, Contains, List, [], map, filter, nat_le, Option, Some, None, IsSome, option_map, slice_index_or}
+use Rattle.std.specs.Prelude.{◌≡◌, ◌==◌, ℕ, ◌++◌, Bool, true, false, not, All, Contains, List, [], map, filter, nat_le, Option, Some, None, IsSome, option_map, slice_index_or}
 use Rattle.nz_spec.specs.terms.Table.{Node, IsTable}
 use Rattle.nz_spec.specs.search.Decide.{asserted_terms}
 use Rattle.nz_spec.specs.search.Search.{Task, Search}
@@ -14,13 +14,16 @@ use Rattle.nz_search.specs.declared.note.Note.{Note}
 use Rattle.nz_search.specs.Standing.{search_after}
 use Rattle.nz_search.specs.Theories.{IsBoundIn}
 use Rattle.nz_sat.specs.declared.clauses.Held.{Held}
+use Rattle.nz_sat.specs.declared.clauses.Part.{Part}
+use Rattle.nz_sat.specs.declared.clauses.Part.TheVariants.{But, UpTo}
 use Rattle.nz_sat.specs.Numbers.{IsAtomAt, numbered}
 
--- The clauses, by the numbers of atoms in the log the truths that the last search left, and the theory.
+-- The clauses, by the numbers of atoms in the log the truths that the last search left, the theory, and the log as it was seen last.
 pub record SatState (T : Type 0) : Type 0 where
   pub clauses : List Held
   pub truths : List (Option Bool)
   pub theory : T
+  pub seen : Option LogState
 
 -- ---- Truths
 
@@ -63,13 +66,43 @@ ids held = map (λ (h : Held). h.id) held
 abbrev pub AreHeld : LogState → List Held → Type 0
 AreHeld log held = All (λ (h : Held). IsLive log h.id × (level_at log h.id ≡ h.level)) held
 
--- a clause, with its level
+-- a clause is live in a log, with the literals that it had in another one
+abbrev pub IsSameIn : (seen log : LogState) → Held → Type 0
+IsSameIn seen log h = IsLive log h.id × (literals_at log h.id ≡ literals_at seen h.id)
+
+-- each clause is so since the log was seen; before, there is none
+abbrev pub AreSameSince : Option LogState → LogState → List Held → Type 0
+AreSameSince None log held = held ≡ []
+AreSameSince (Some seen) log held = All (IsSameIn seen log) held
+
+-- a clause that is added, with its level
 abbrev pub held_of : LogState → ℕ → Held
-held_of log id = record { id = id; level = level_at log id }
+held_of log id = record { id = id; level = level_at log id; is_learned = false }
+
+-- a clause that the search learned, with its level
+abbrev pub learned_of : LogState → ℕ → Held
+learned_of log id = record { id = id; level = level_at log id; is_learned = true }
+
+-- each clause is one that the search learned
+abbrev pub AreLearned : List Held → Type 0
+AreLearned held = All (λ (h : Held). h.is_learned ≡ true) held
 
 -- those at or below a level
 abbrev pub held_up_to : ℕ → List Held → List Held
 held_up_to level held = filter (λ (h : Held). nat_le h.level level) held
+
+-- those of other numbers
+abbrev pub held_but : ℕ → List Held → List Held
+held_but id held = filter (λ (h : Held). not (h.id == id)) held
+
+-- whether a clause stays where some go
+abbrev pub is_in : Part → Held → Bool
+is_in (UpTo level) h = nat_le h.level level
+is_in (But id) h = not (h.id == id)
+
+-- those that stay
+abbrev pub held_part : Part → List Held → List Held
+held_part part held = filter (λ (h : Held). is_in part h) held
 
 -- each literal of a clause is on one of these atoms
 abbrev pub AreOn : LogState → List ℕ → List Held → Type 0
@@ -79,6 +112,7 @@ AreOn log atoms held = All (λ (h : Held). All (λ (l : Lit). Contains atoms l.a
 pub record HoldsMore (log : LogState) (old new : List Held) : Type 0 where
   pub learned : List Held
   pub joined : new ≡ old ++ learned
+  pub are_learned : AreLearned learned
   pub held : AreHeld log new
 
 -- each clause that a list says was learned is held, with the same literals by the numbers of these atoms

@@ -21,14 +21,14 @@ use Rattle.nz_sat.specs.Conflicts.{AreUnmarked, IsFalsifiedUnder}
 use Rattle.nz_sat.specs.Numbers.{IsAtomAt, number_of, numbered}
 use Rattle.nz_sat.specs.Sats.{AreConsistent, AreHeld, AreOn, HoldsLearned, HoldsMore, ids}
 use Rattle.nz_sat.specs.Theories.{AddsLines, EndsLegally, IsMet, IsOfSearch, IsTrailOn, Keeps, TellsTrail, TheoryState, told_lits}
-use Rattle.nz_sat.specs.Watched.{AreWatched, HasClause, watch_state}
+use Rattle.nz_sat.specs.Watched.{AreWatched, HoldsAs, lone_ids, watch_state}
 
 -- Each clause that is held is one by which literals are made true, and no other; clauses are over its atoms, which have their places in each table;
 -- its trail is over them, and the reasons on it are clauses that are held. Two literals of each clause are watched, where it has two.
 pub record IsSearch (log : LogState) (held : List Held) (s : Search) : Type 0 where
   pub are_held : AreHeld log held
-  pub covered : (i : ℕ) → Contains (ids held) i → HasClause s.propagation i
-  pub only : (i : ℕ) → HasClause s.propagation i → Contains (ids held) i
+  pub covered : (h : Held) → Contains held h → HoldsAs s.propagation h
+  pub only : (h : Held) → HoldsAs s.propagation h → Contains held h
   pub named : All (λ (i : ℕ). All (λ (l : Lit). Contains s.atoms l.atom) (literals_at log i)) (ids held)
   pub within : All (λ (t : ℕ). t < s.trail.size) s.atoms
   pub watched : AreWatched log (watch_state s.propagation s.trail)
@@ -47,7 +47,7 @@ WereOpen log held es = (k : ℕ) → k < depth es → AreOpen log held (below k 
 
 -- each clause that has no two different literals has a literal that is true under no decision
 abbrev pub AreFirst : LogState → Search → Type 0
-AreFirst log s = All (λ (i : ℕ). HasTrue (below 0 s.trail.entries) (literals_at log i)) s.propagation.lone.items
+AreFirst log s = All (λ (i : ℕ). HasTrue (below 0 s.trail.entries) (literals_at log i)) (lone_ids s.propagation)
 
 -- each entry of the trail was looked at
 abbrev pub IsLookedThrough : Search → Type 0

@@ -5,6 +5,11 @@ use Rattle.std.specs.declared.alloc.Global.{Global}
 use Rattle.nz_spec.specs.clauses.Literal.{are_same_sign}
 use Rattle.nz_log.specs.declared.lits.Lit.{Lit}
 use Rattle.nz_log.specs.Codes.{code_of}
+use Rattle.std.specs.declared.snapshot.Snapshot.{Snapshot}
+use Rattle.nz_log.specs.Logs.{LogState}
+use Rattle.nz_sat.specs.declared.clauses.Held.{Held}
+use Rattle.nz_sat.specs.declared.kept.Kept.{Kept}
+use Rattle.nz_sat.specs.Watched.{IsKept}
 use Rattle.nz_sat.specs.declared.trail.Assigned.{Assigned}
 use Rattle.nz_sat.specs.Trails.{TrailState, IsTrail, assigned, truth_on}
 
@@ -28,3 +33,12 @@ pub record IsTabled (entries : Vec Assigned Global) (by_atom : List (Option Assi
   pub valued : (l : Lit) → slice_index_or values (code_of l) None ≡ value_on entries.items l
   pub vacant : length entries.items + sum_by vacancy by_atom ≡ length by_atom
   pub room : length by_atom ≤ vec_capacity entries
+
+-- the log that was seen
+abbrev pub log_of : Option (Snapshot LogState) → Option LogState
+log_of seen = option_map (λ (s : Snapshot LogState). s.value) seen
+
+-- What is kept of clauses is so in the log that was seen; where none was seen, nothing is kept.
+abbrev pub IsKeptSince : Option LogState → List Held → Kept → Type 0
+IsKeptSince None held k = (log : LogState) → IsKept log held k
+IsKeptSince (Some log) held k = IsKept log held k

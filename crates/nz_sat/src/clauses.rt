@@ -1,14 +1,65 @@
 //! The clauses of a search.
 ghost use Rattle.std.specs.Prelude.{◌≡◌};
-ghost use Rattle.nz_sat.specs.Clauses.{other_in, with_watch};
+ghost use Rattle.nz_log.specs.Logs.{IsLive};
+ghost use Rattle.nz_sat.specs.Clauses.{held_as, other_in, watched_as, with_watch};
+ghost use Rattle.nz_sat.specs.Sats.{held_of, is_in, learned_of};
 
-use nz_log::{ClauseId, Lit};
+use nz_log::{ClauseId, Lit, Log};
 
 /// A clause of a search, with its level.
 #[derive(Clone, Copy, Debug, PartialEq, Eq)]
 pub struct Held {
     pub id: ClauseId,
     pub level: usize,
+    /// Whether the search learned it itself.
+    pub is_learned: bool,
+}
+
+impl Held {
+    /// A clause of the log that is added.
+    pub(crate) fn added(log: &Log, id: ClauseId) -> Held
+        requires live { IsLive log.now id }
+        ensures held { result ≡ held_of log.now id }
+    {
+        Held {
+            id,
+            level: log.level(id),
+            is_learned: false,
+        }
+    }
+
+    /// A clause of the log that the search learned.
+    pub(crate) fn learned(log: &Log, id: ClauseId) -> Held
+        requires live { IsLive log.now id }
+        ensures held { result ≡ learned_of log.now id }
+    {
+        Held {
+            id,
+            level: log.level(id),
+            is_learned: true,
+        }
+    }
+}
+
+/// Which clauses stay where some go.
+#[derive(Clone, Copy, Debug)]
+pub enum Part {
+    /// Those at or below a level.
+    UpTo(usize),
+    /// All but those of this number.
+    But(ClauseId),
+}
+
+impl Part {
+    /// Whether a clause stays.
+    pub fn has(self, held: Held) -> bool
+        ensures has { result ≡ is_in self held }
+    {
+        match self {
+            Part::UpTo(level) => held.level <= level,
+            Part::But(id) => held.id != id,
+        }
+    }
 }
 
 /// A clause of a log, with the two literals that are watched: while neither is false it is open.
@@ -16,11 +67,38 @@ pub struct Held {
 pub struct WatchedClause {
     /// Its number in the log.
     pub id: ClauseId,
+    pub level: usize,
+    /// Whether the search learned it itself.
+    pub is_learned: bool,
     pub first: Lit,
     pub second: Lit,
 }
 
 impl WatchedClause {
+    /// A clause of which these two literals are watched.
+    pub(crate) fn of(held: Held, first: Lit, second: Lit) -> WatchedClause
+        ensures clause { result ≡ watched_as held (first, second) }
+    {
+        WatchedClause {
+            id: held.id,
+            level: held.level,
+            is_learned: held.is_learned,
+            first,
+            second,
+        }
+    }
+
+    /// The clause, as it is held.
+    pub(crate) fn held(&self) -> Held
+        ensures held { result ≡ held_as self.now }
+    {
+        Held {
+            id: self.id,
+            level: self.level,
+            is_learned: self.is_learned,
+        }
+    }
+
     /// The watched literal beside this one.
     pub fn other(&self, literal: Lit) -> Lit
         ensures other { result ≡ other_in self.now literal }

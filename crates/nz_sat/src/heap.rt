@@ -17,14 +17,28 @@ pub struct Heap {
 }
 
 impl Heap {
-    /// An empty heap for atoms below a number, each with the key 0.
-    pub fn new(alloc: Global, size: usize) -> Result<Heap, Memory> {
-        Ok(Heap {
-            atoms: vec![in alloc; 0; size]?,
+    /// An empty heap for no atoms. Takes no memory.
+    pub fn new(alloc: Global) -> Heap {
+        Heap {
+            atoms: Vec::new(alloc),
             count: 0,
-            keys: vec![in alloc; 0; size]?,
-            places: vec![in alloc; None; size]?,
-        })
+            keys: Vec::new(alloc),
+            places: Vec::new(alloc),
+        }
+    }
+
+    /// Makes room for atoms below a number. New ones have the key 0, and aren't in the heap.
+    ///
+    /// # Errors
+    ///
+    /// `Memory`. Then there may be room for some more.
+    pub fn fit(&mut self, size: usize) -> Result<(), Memory> {
+        if self.places.len() < size {
+            self.atoms.resize(size, 0)?;
+            self.keys.resize(size, 0)?;
+            self.places.resize(size, None)?;
+        }
+        Ok(())
     }
 
     /// Puts an atom into the heap, where it isn't there.

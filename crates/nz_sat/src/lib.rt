@@ -7,6 +7,8 @@ mod atoms;
 mod clauses;
 mod consult;
 mod heap;
+mod kept;
+mod leaving;
 mod order;
 mod propagate;
 mod propagation;

@@ -24,18 +24,30 @@ pub struct Order {
 }
 
 impl Order {
-    /// No atom took part in a conflict, and each sign is `false`.
-    pub fn new(alloc: Global, atoms: &Atoms) -> Result<Order, Memory> {
-        let size = atoms.size();
-        let mut heap = Heap::new(alloc, size)?;
-        for atom in atoms.ids() {
-            heap.insert(*atom);
-        }
-        Ok(Order {
-            heap,
-            signs: vec![in alloc; false; size]?,
+    /// No atom. Takes no memory.
+    pub fn new(alloc: Global) -> Order {
+        Order {
+            heap: Heap::new(alloc),
+            signs: Vec::new(alloc),
             step: 16,
-        })
+        }
+    }
+
+    /// Takes in these atoms. One that is new took part in no conflict, and its sign is `false`.
+    ///
+    /// # Errors
+    ///
+    /// `Memory`. Then some may be in.
+    pub fn fit(&mut self, atoms: &Atoms) -> Result<(), Memory> {
+        let size = atoms.size();
+        self.heap.fit(size)?;
+        if self.signs.len() < size {
+            self.signs.resize(size, false)?;
+        }
+        for atom in atoms.ids() {
+            self.heap.insert(*atom);
+        }
+        Ok(())
     }
 
     /// The sign that an atom had last.

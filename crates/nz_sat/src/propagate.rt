@@ -1,18 +1,21 @@
 //! Propagation: what a clause makes true whose other literals are false.
-ghost use Rattle.std.specs.Prelude.{◌≡◌, ◌≢◌, ℕ, ◌<◌, Contains, IfNone, IfOk, IfSome, None, OnOk, length, slice_get, Some};
+ghost use Rattle.std.specs.Prelude.{◌≡◌, ◌≢◌, ℕ, ◌<◌, Contains, IfNone, IfOk, IfSome, None, OnOk, length, Some};
 ghost use Rattle.nz_log.specs.Logs.{literals_at};
 ghost use Rattle.nz_sat.specs.declared.clauses.WatchedClause.{WatchedClause};
 ghost use Rattle.nz_sat.specs.declared.propagate.Visit.TheVariants.{Moved};
 ghost use Rattle.nz_sat.specs.Clauses.{AreFalseBut, HasTrue, IsFalsified, IsWatchedIn, Visits};
 ghost use Rattle.nz_sat.specs.Lists.{TakesOut, list_of};
 ghost use Rattle.nz_sat.specs.Trails.{IsFalseOn, IsTrail};
-ghost use Rattle.nz_sat.specs.Watched.{AreWatched, ComesOf, HasClause, IsConflictIn, IsLastOf, KeepsClauses, MayRewatch, Settles, watch_state};
+ghost use Rattle.nz_sat.specs.Watched.{AreWatched, ComesOf, HasClause, IsConflictIn, IsLastOf, KeepsClauses, MayRewatch, Settles, held_at, watch_state};
+ghost use Rattle.slab.specs.Slab.{ContainsKey, Updates};
 
+use crate::clauses::WatchedClause;
 use crate::propagation::{Propagation, watch};
 use crate::trail::Trail;
 use nz_base::Memory;
 use nz_log::laws::tells_lits;
 use nz_log::{ClauseId, Lit, Log};
+use slab::Slab;
 
 /// What came of a look at a clause in which a false literal is watched.
 enum Visit {
@@ -65,7 +68,7 @@ impl Propagation {
         ensures keeps { KeepsClauses self.old self.new }
         ensures head { self.new.head ≡ self.old.head }
         // What comes true later leaves no clause behind in which the literal is watched.
-        ensures visited { IfOk result (λ o. IfNone o ((key : ℕ) (h : WatchedClause) → slice_get self.new.clauses.items key ≡ Some h → IsWatchedIn h literal → HasTrue trail.new.entries (literals_at log.now h.id))) }
+        ensures visited { IfOk result (λ o. IfNone o ((key : ℕ) (h : WatchedClause) → held_at self.new key ≡ Some h → IsWatchedIn h literal → HasTrue trail.new.entries (literals_at log.now h.id))) }
         ensures falsified { IfOk result (λ o. IfSome o (IsConflictIn log.now (watch_state self.new trail.new))) }
     {
         let mut i = 0;
@@ -144,7 +147,7 @@ impl Propagation {
         self.watches.remove(literal, i);
         let key = key as usize;
         let clause = self.clauses[key].with(literal, next);
-        self.clauses[key] = clause;
+        replace(&mut self.clauses, key, clause);
         Ok(Visit::Moved)
     }
 
@@ -166,6 +169,14 @@ impl Propagation {
             }
         }
     }
+}
+
+/// Puts another clause under a key that has one.
+fn replace(clauses: &mut Slab<WatchedClause>, key: usize, clause: WatchedClause)
+    requires there { ContainsKey clauses.old key }
+    ensures updates { Updates clauses.old clauses.new key (Some clause) }
+{
+    clauses[key] = clause;
 }
 
 /// A literal of these that isn't false, beside this one.

@@ -1,5 +1,5 @@
 //! The search as its callers see it.
-ghost use Rattle.std.specs.Prelude.{◌≡◌, ℕ, ◌≤◌, ◌∷◌, ◌++◌, [], All, List, nat_le, None, IfErr, IfOk, IfSome, OnErr, OnOk};
+ghost use Rattle.std.specs.Prelude.{◌≡◌, ℕ, ◌≤◌, ◌∷◌, ◌++◌, [], All, List, None, Some, IfErr, IfOk, IfSome, OnErr, OnOk};
 ghost use Rattle.nz_spec.specs.search.Places.{AreAllTold};
 ghost use Rattle.nz_spec.specs.search.Search.{Task};
 ghost use Rattle.nz_spec.specs.terms.Table.{Node};
@@ -15,25 +15,33 @@ ghost use Rattle.nz_search.specs.Standing.{Ends, Stands, search_after};
 ghost use Rattle.nz_log.specs.Growth.{Grows};
 ghost use Rattle.nz_sat.specs.Conflicts.{Refutes};
 ghost use Rattle.nz_sat.specs.Numbers.{AreNotedIn, IsAtomAt, noted_atoms};
-ghost use Rattle.nz_sat.specs.Sats.{AreConsistent, AreHeld, AreNamed, AreOn, HasBegun, HoldsLearned, HoldsMore, IsAsked, IsSameSearch, IsSatisfied, IsTheoryMet, held_of, held_up_to, literal_truth};
+ghost use Rattle.nz_sat.specs.Sats.{AreConsistent, AreHeld, AreNamed, AreOn, AreSameSince, HasBegun, HoldsLearned, HoldsMore, IsAsked, IsSameSearch, IsSatisfied, IsTheoryMet, held_but, held_of, held_part, held_up_to, is_in, literal_truth};
+ghost use Rattle.nz_sat.specs.Trails.{AreTruthsOn};
 
-use crate::clauses::Held;
+use crate::clauses::{Held, Part};
+use crate::kept::Kept;
 use crate::search::Search;
+use crate::trail::Trail;
 use nz_base::{Memory, Work};
 use nz_log::{AtomId, ClauseId, Lit, Log};
 use nz_search::{Note, Stop, Theory};
 use std::alloc::Global;
 use std::marker::Model;
+use std::mem;
+use std::snapshot::Snapshot;
 
-/// A search over clauses of a log, and a theory. A contract sees its clauses, each with its level, the truths that the last search left, and the
-/// theory.
-#[derive(Debug, Drop)]
+/// A search over clauses of a log, and a theory. A contract sees its clauses, each with its level, the truths that the last search left, the
+/// theory, and the log as it was seen last.
+#[derive(Drop)]
 pub struct Sat<T> {
     clauses: Vec<Held>,
     // By the numbers of atoms.
     truths: Vec<Option<bool>>,
     /// What it was told last are the bounds that are true.
     pub theory: T,
+    // Of the clauses, as they were in the log that was seen last.
+    kept: Kept,
+    seen: Option<Snapshot<Log>>,
 }
 
 impl<T> Model for Sat<T> {
@@ -41,22 +49,28 @@ impl<T> Model for Sat<T> {
 
     ghost Value = { SatState T };
 
-    ghost view = { λ s. record { clauses = s.clauses.items; truths = s.truths.items; theory = s.theory } };
+    ghost use Rattle.nz_sat.specs.Stored.{IsKeptSince, log_of};
+
+    ghost view = { λ s. record { clauses = s.clauses.items; truths = s.truths.items; theory = s.theory; seen = log_of s.seen } };
+
+    ghost invariant = { λ s. IsKeptSince (log_of s.seen) s.clauses.items s.kept };
 }
 
 impl<T: Theory> Sat<T> {
     /// A search over no clause, with no truth. Takes no memory.
     pub fn new(alloc: Global, theory: T) -> Sat<T>
-        ensures empty { result ≡ record { clauses = []; truths = []; theory = theory } }
+        ensures empty { result ≡ record { clauses = []; truths = []; theory = theory; seen = None } }
     {
         Sat {
             clauses: Vec::new(alloc),
             truths: Vec::new(alloc),
             theory,
+            kept: Kept::none(alloc),
+            seen: None,
         }
     }
 
-    /// The clauses that it holds.
+    /// The clauses that it holds, with a flag on those that it learned.
     pub fn clauses(&self) -> &[Held]
         ensures clauses { result.now ≡ self.now.clauses }
     {
@@ -70,15 +84,15 @@ impl<T: Theory> Sat<T> {
     /// `Memory`. Then the search is as before.
     pub fn add(&mut self, log: &Log, id: ClauseId) -> Result<(), Memory>
         requires live { IsLive log.now id }
+        requires since { AreSameSince self.old.seen log.now self.old.clauses }
         ensures added { OnOk result (self.new.clauses ≡ self.old.clauses ++ held_of log.now id ∷ []) }
         ensures truths { self.new.truths ≡ self.old.truths }
         ensures theory { self.new.theory ≡ self.old.theory }
+        ensures seen { OnOk result (self.new.seen ≡ Some log.now) }
         ensures unchanged { OnErr result (self.new ≡ self.old) }
     {
-        self.clauses.push(Held {
-            id,
-            level: log.level(id),
-        })?;
+        self.clauses.push(Held::added(log, id))?;
+        self.seen = Some(Snapshot::of(log));
         Ok(())
     }
 
@@ -100,6 +114,7 @@ impl<T: Theory> Sat<T> {
         work: &mut Work<Note>,
     ) -> Result<Option<ClauseId>, Stop>
         requires held { AreHeld log.old self.old.clauses }
+        requires since { AreSameSince self.old.seen log.old self.old.clauses }
         requires noted { AreNotedIn log.old.atoms work.old.lines atoms.now }
         requires named { AreNamed log.old self.old.clauses assumed.now atoms.now }
         requires told_terms { AreToldAtoms log.old atoms.now }
@@ -117,6 +132,7 @@ impl<T: Theory> Sat<T> {
         ensures no_truths { IfOk result (λ r. IfSome r (λ _. self.new.truths ≡ [])) }
         ensures stopped { OnErr result (self.new.truths ≡ []) }
         ensures grows { Grows log.old log.new }
+        ensures seen { self.new.seen ≡ Some log.new }
         ensures held { HoldsMore log.new self.old.clauses self.new.clauses }
         // Each clause that the list says was learned is held, whatever comes of it.
         ensures learned { HoldsLearned log.new atoms.now self.new.clauses work.new }
@@ -142,13 +158,15 @@ impl<T: Theory> Sat<T> {
         // No more units are used than the limit, before and after.
         let _free = work.left();
         let alloc = *self.clauses.allocator();
-        let mut search = Search::new(alloc, log, &self.clauses, atoms)?;
+        self.seen = Some(Snapshot::of(log));
+        let kept = mem::replace(&mut self.kept, Kept::none(alloc));
+        let mut search = Search::new(alloc, log, &self.clauses, atoms, kept)?;
         let refuted = search.run(log, &mut self.clauses, &mut self.theory, assumed, work);
+        self.seen = Some(Snapshot::of(log));
         let _left = work.left();
         let refuted = refuted?;
-        if refuted.is_none() {
-            self.truths = search.trail.truths(alloc)?;
-        }
+        self.truths = found_truths(alloc, &search.trail, refuted)?;
+        self.kept = search.rest(self.clauses.len());
         Ok(refuted)
     }
 
@@ -167,11 +185,48 @@ impl<T: Theory> Sat<T> {
         ensures clauses { self.new.clauses ≡ held_up_to level self.old.clauses }
         ensures truths { self.new.truths ≡ self.old.truths }
         ensures theory { self.new.theory ≡ self.old.theory }
+        ensures seen { self.new.seen ≡ self.old.seen }
     {
+        self.keep(Part::UpTo(level));
+    }
+
+    /// Takes the clause of a number out. Takes no memory.
+    pub fn forget(&mut self, id: ClauseId)
+        ensures clauses { self.new.clauses ≡ held_but id self.old.clauses }
+        ensures truths { self.new.truths ≡ self.old.truths }
+        ensures theory { self.new.theory ≡ self.old.theory }
+        ensures seen { self.new.seen ≡ self.old.seen }
+    {
+        self.keep(Part::But(id));
+    }
+
+    /// Leaves just these clauses. Takes no memory.
+    fn keep(&mut self, part: Part)
+        ensures clauses { self.new.clauses ≡ held_part part self.old.clauses }
+        ensures truths { self.new.truths ≡ self.old.truths }
+        ensures theory { self.new.theory ≡ self.old.theory }
+        ensures seen { self.new.seen ≡ self.old.seen }
+    {
+        self.kept.keep(&self.clauses, part);
         self.clauses.retain(
             |held: &Held| -> bool
-                ensures { result ≡ nat_le held.now.level level }
-            { held.level <= level },
+                ensures { result ≡ is_in part held.now }
+            { part.has(*held) },
         );
+    }
+}
+
+/// The truths of a trail where no clause was answered, and none otherwise.
+fn found_truths(
+    alloc: Global,
+    trail: &Trail,
+    refuted: Option<ClauseId>,
+) -> Result<Vec<Option<bool>>, Memory>
+    ensures truths { IfOk result (λ v. refuted ≡ None → AreTruthsOn trail.now.entries v.items) }
+    ensures no_truths { IfOk result (λ v. IfSome refuted (λ _. v.items ≡ [])) }
+{
+    match refuted {
+        None => trail.truths(alloc),
+        Some(_) => Ok(Vec::new(alloc)),
     }
 }

@@ -1,5 +1,5 @@
 //! The search: decisions, what follows from them, and what each conflict teaches.
-ghost use Rattle.std.specs.Prelude.{◌≡◌, ℕ, ◌^◌, ◌<◌, ◌≤◌, ◌+◌, ◌++◌, ◌∷◌, [], All, Contains, List, None, length, map, min, take, vec_capacity, vec_len, IfErr, IfOk, IfSome, IsSome, OnErr, OnOk};
+ghost use Rattle.std.specs.Prelude.{◌≡◌, ℕ, ◌^◌, ◌<◌, ◌+◌, ◌++◌, ◌∷◌, [], All, Contains, List, None, length, map, min, take, vec_capacity, vec_len, IfErr, IfOk, IfSome, IsSome, OnErr, OnOk};
 ghost use Rattle.nz_spec.specs.simplex.Bland.{Point};
 ghost use Rattle.nz_spec.specs.terms.Form as form;
 ghost use Rattle.nz_spec.specs.clauses.Literal as spec;
@@ -8,7 +8,7 @@ ghost use Rattle.nz_spec.specs.search.Work.{IsSpent, UnitLine, unit_count, with_
 ghost use Rattle.nz_base.specs.Entries.{entry_of};
 ghost use Rattle.nz_log.specs.declared.lits.Lit.{Lit};
 ghost use Rattle.nz_search.specs.declared.stop.Stop.TheVariants as stop;
-ghost use Rattle.nz_log.specs.Logs.{IsLive, literals_at};
+ghost use Rattle.nz_log.specs.Logs.{IsLive, LogState, literals_at};
 ghost use Rattle.nz_sat.specs.declared.clauses.Held.{Held};
 ghost use Rattle.nz_sat.specs.Clauses.{IsImplied};
 ghost use Rattle.nz_search.specs.Places.{OnWide};
@@ -16,16 +16,17 @@ ghost use Rattle.nz_log.specs.Growth.{Grows};
 ghost use Rattle.nz_sat.specs.Conflicts.{GoesBackTo, HasLast, RefutesFrom, StaysSound};
 ghost use Rattle.nz_sat.specs.Numbers.{numbered};
 ghost use Rattle.nz_log.specs.Leveled.{AreToldAtoms};
-ghost use Rattle.nz_sat.specs.Sats.{AreConsistent, AreHeld, AreOn, HoldsMore, held_of};
+ghost use Rattle.nz_sat.specs.Sats.{AreConsistent, AreHeld, AreOn, HoldsMore, learned_of};
 ghost use Rattle.nz_sat.specs.Searching.{Advances, AreFirst, Assumes, AssumesAll, ComesTo, Decides, Follows, IsConflict, IsSearch, Learns, MayAssume, MayFollow, Starts, WasNoted, after_learned, learned_line};
 ghost use Rattle.nz_sat.specs.Theories.{AddsLines, IsMet, IsOfTheory, Keeps, TellsTrail, state_of, told_lits, told_on};
 ghost use Rattle.nz_sat.specs.Trails.{EachBehind, GoesOn, IsFrontOf, IsTrail, assigned, below, depth};
-ghost use Rattle.nz_sat.specs.Watched.{AreTwoOf, AreWatched, watch_state};
+ghost use Rattle.nz_sat.specs.Watched.{AreTwoOf, AreWatched, HoldsWatched, IsKept, watch_state};
 
 use crate::analyze::{Learned, greatest_level, learned_clause, refutation};
 use crate::atoms::Atoms;
 use crate::clauses::Held;
 use crate::consult::{Bounds, consult};
+use crate::kept::Kept;
 use crate::order::Order;
 use crate::propagation::Propagation;
 use crate::redundancy::Redundancy;
@@ -55,11 +56,18 @@ pub struct Search {
 }
 
 impl Search {
-    /// A search over these clauses, with nothing decided.
-    pub fn new(alloc: Global, log: &Log, held: &[Held], atoms: &[AtomId]) -> Result<Search, Memory>
+    /// A search over these clauses, of which the first ones were kept, with nothing decided.
+    pub fn new(
+        alloc: Global,
+        log: &Log,
+        held: &[Held],
+        atoms: &[AtomId],
+        kept: Kept,
+    ) -> Result<Search, Memory>
         requires held { AreHeld log.now held.now }
         requires named { All (λ h. All (λ l. Contains atoms.now l.atom) (literals_at log.now h.id)) held.now }
         requires there { AreToldAtoms log.now atoms.now }
+        requires kept { IsKept log.now held.now kept }
         ensures search { IfOk result (λ s. IsSearch log.now held.now s) }
         ensures atoms { IfOk result (λ s. s.atoms ≡ atoms.now) }
         ensures none { IfOk result (λ s. s.trail.entries ≡ []) }
@@ -67,10 +75,15 @@ impl Search {
         let atoms = Atoms::of(alloc, atoms)?;
         let size = atoms.size();
         let bounds = Bounds::among(alloc, log, atoms.ids(), size)?;
-        let order = Order::new(alloc, &atoms)?;
-        let mut propagation = Propagation::new(alloc, size)?;
-        for clause in held {
-            propagation.hold(log, clause.id, two_of(log.clause(clause.id)))?;
+        let Kept {
+            mut propagation,
+            count,
+            mut order,
+        } = kept;
+        order.fit(&atoms)?;
+        propagation.fit(size)?;
+        for clause in &held[count..] {
+            propagation.hold(log, *clause, two_of(log.clause(clause.id)))?;
         }
         Ok(Search {
             atoms,
@@ -82,6 +95,23 @@ impl Search {
             restarts: Restarts::new(),
             bounds,
         })
+    }
+
+    /// What is kept for the next search, which holds so many clauses of those that were held.
+    pub fn rest(self, count: usize) -> Kept
+        ensures kept { (log : LogState) (held : List Held) → length held ≡ count → HoldsWatched log held self.propagation → IsKept log held result }
+    {
+        let Search {
+            mut propagation,
+            order,
+            ..
+        } = self;
+        propagation.cut(0);
+        Kept {
+            propagation,
+            count,
+            order,
+        }
     }
 
     /// Puts what the clauses alone make true on the trail. Answers a falsified clause.
@@ -380,8 +410,8 @@ impl Search {
         self.note_learned(log, held, work, learned)?;
         hold(log, held, learned.clause);
         self.go_back(theory, learned);
-        self.propagation
-            .hold(log, learned.clause, learned.watched())?;
+        let one = Held::learned(log, learned.clause);
+        self.propagation.hold(log, one, learned.watched())?;
         Ok(())
     }
 
@@ -417,20 +447,16 @@ impl Search {
     }
 }
 
-/// Adds a clause of the log to those that are held, which have room for it.
+/// Adds a learned clause of the log to those that are held, which have room for it.
 fn hold(log: &Log, held: &mut Vec<Held>, id: ClauseId)
     requires live { IsLive log.now id }
     requires held { AreHeld log.now held.old.items }
     requires room { vec_len held.old < vec_capacity held.old }
     ensures more { HoldsMore log.now held.old.items held.new.items }
-    ensures held { held.new.items ≡ held.old.items ++ held_of log.now id ∷ [] }
+    ensures held { held.new.items ≡ held.old.items ++ learned_of log.now id ∷ [] }
     ensures named { (atoms : List ℕ) → All (λ l. Contains atoms l.atom) (literals_at log.now id) → AreOn log.now atoms held.old.items → AreOn log.now atoms held.new.items }
 {
-    held.push(Held {
-        id,
-        level: log.level(id),
-    })
-    .unwrap();
+    held.push(Held::learned(log, id)).unwrap();
 }
 
 /// Two different ones of these literals, the first two, where there are any.

@@ -8,6 +8,7 @@ ghost use Rattle.nz_sat.specs.Sats.{AreConsistent};
 ghost use Rattle.nz_sat.specs.Searching.{AreFirst, IsConflict, IsNoted, IsReady, IsSearch, Runs, Satisfies, Settles, SettlesOn, Steps, TurnsOn, WasNoted, assumed_entries};
 ghost use Rattle.nz_sat.specs.Theories.{state_of, told_lits};
 ghost use Rattle.nz_sat.specs.Trails.{assigned, depth};
+ghost use Rattle.nz_sat.specs.Watched.{HoldsWatched};
 
 use crate::clauses::Held;
 use crate::search::Search;
@@ -61,6 +62,7 @@ impl Search {
             self.old self.old.trail.entries self.new log.old log.new held.old.items held.new.items work.old work.new result }
         ensures settled { IfOk result (λ r. r ≡ None → Settles log.new held.new.items self.old self.new work.old work.new) }
         ensures refuted { IfOk result (λ r. IfSome r (λ id. IsLive log.new id × ((assumed : List Lit) → All (IsAssumed assumed) self.old.trail.entries → Refutes assumed (literals_at log.new id)))) }
+        ensures left { IfOk result (λ r. IfSome r (λ _. HoldsWatched log.new held.new.items self.new.propagation)) }
     {
         let mut conflict = self.conflict(log, theory, work)?;
         while let Some(falsified) = conflict {
@@ -93,6 +95,7 @@ impl Search {
             self.old self.old.trail.entries self.new log.old log.new held.old.items held.new.items work.old work.new result }
         ensures settled { IfOk result (λ r. r ≡ None → SettlesOn log.new held.new.items self.old self.new work.old work.new) }
         ensures refuted { IfOk result (λ r. IfSome r (λ id. IsLive log.new id × ((assumed : List Lit) → All (IsAssumed assumed) self.old.trail.entries → Refutes assumed (literals_at log.new id)))) }
+        ensures left { IfOk result (λ r. IfSome r (λ _. HoldsWatched log.new held.new.items self.new.propagation)) }
     {
         legal_work_goes_on();
         log.atom_count();
@@ -120,6 +123,7 @@ impl Search {
             self.old (assumed_entries assumed.now) self.new log.old log.new held.old.items held.new.items work.old work.new result }
         ensures runs { IfOk result (λ r. r ≡ None → Runs log.new held.new.items assumed.now self.old self.new work.new) }
         ensures refuted { IfOk result (λ r. IfSome r (λ id. IsLive log.new id × Refutes assumed.now (literals_at log.new id))) }
+        ensures left { IfOk result (λ r. IfSome r (λ _. HoldsWatched log.new held.new.items self.new.propagation)) }
     {
         if let Some(falsified) = self.assume_all(log, assumed)? {
             return Ok(Some(self.refute(*held.allocator(), log, falsified)?));
@@ -148,6 +152,7 @@ impl Search {
             self.old (assumed_entries assumed.now) self.new log.old log.new held.old.items held.new.items work.old work.new result }
         ensures satisfied { IfOk result (λ r. r ≡ None → Satisfies log.new held.new.items assumed.now self.old.atoms self.new work.new) }
         ensures refuted { IfOk result (λ r. IfSome r (λ id. IsLive log.new id × Refutes assumed.now (literals_at log.new id))) }
+        ensures left { IfOk result (λ r. IfSome r (λ _. HoldsWatched log.new held.new.items self.new.propagation)) }
     {
         if let Some(refuted) = self.begin(log, held, theory, assumed, work)? {
             return Ok(Some(refuted));

@@ -1,7 +1,8 @@
 //! For each literal the clauses in which it is watched.
 ghost use Rattle.std.specs.Prelude.{◌≡◌, ◌≢◌, ℕ, ◌<◌, ◌≤◌, [], ◌∷◌, ◌++◌, length, OnOk, slice_get, Some};
 ghost use Rattle.nz_log.specs.Codes.{code_of};
-ghost use Rattle.nz_sat.specs.Lists.{Blocks, HasRoom, TakesOut, list_at, list_of};
+ghost use Rattle.nz_sat.specs.Lists.{Blocks, HasKey, HasRoom, LeavesKey, TakesOut, list_at, list_of};
+ghost use Rattle.nz_sat.specs.declared.watches.Watch.{Watch};
 
 use nz_base::Memory;
 use nz_log::Lit;
@@ -105,6 +106,31 @@ impl Watches {
         ensures others { (t : ℕ) → t ≢ code_of literal → list_at self.new.lists.items t ≡ list_at self.old.lists.items t }
     {
         self.lists[literal.code()].swap_remove(i);
+    }
+
+    /// Takes the watch of a clause out of the list of a literal.
+    pub fn leave(&mut self, literal: Lit, key: usize)
+        requires within { code_of literal < length self.old.lists.items }
+        requires there { HasKey key (list_of self.old literal) }
+        ensures size { length self.new.lists.items ≡ length self.old.lists.items }
+        ensures left { LeavesKey key (list_of self.old literal) (list_of self.new literal) }
+        ensures others { (t : ℕ) → t ≢ code_of literal → list_at self.new.lists.items t ≡ list_at self.old.lists.items t }
+    {
+        let i = self.place(literal, key);
+        self.remove(literal, i);
+    }
+
+    /// The place of a clause in the list of a literal. It looks from behind, since what came last goes first.
+    fn place(&self, literal: Lit, key: usize) -> usize
+        requires within { code_of literal < length self.now.lists.items }
+        requires there { HasKey key (list_of self.now literal) }
+        ensures at { (w : Watch) × (slice_get (list_of self.now literal) result ≡ Some w) × (w.key ≡ key) }
+    {
+        let mut i = self.count(literal) - 1;
+        while self.at(literal, i).key as usize != key {
+            i -= 1;
+        }
+        i
     }
 
     /// Puts another blocking literal beside the clause of a place in the list of a literal.

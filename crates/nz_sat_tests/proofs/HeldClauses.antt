@@ -14,7 +14,7 @@ use Rattle.nz_log.specs.Leveled.{AreToldAtoms, Names}
 use Rattle.nz_log.specs.Logs.{LogState, Entry, JoinsAtoms, entry_at, IsLive, literals_at, level_at, told_of, Puts}
 use Rattle.nz_log.specs.Growth.{Grows}
 use Rattle.nz_sat.specs.declared.clauses.Held.{Held}
-use Rattle.nz_sat.specs.Sats.{SatState, AreHeld, AreNamed, AreOn, HoldsMore, held_of}
+use Rattle.nz_sat.specs.Sats.{SatState, AreHeld, AreNamed, AreOn, AreSameSince, HoldsMore, IsSameIn, held_of}
 use Rattle.nz_sat_tests.specs.Problems.{IsPosed}
 
 -- ---- The log changes
@@ -41,19 +41,32 @@ module _ (old new : LogState) (told : (t : ℕ) → HasToldLevel old t → HasTo
   still_told atoms there = All-weaker (Names (HasToldLevel old) old.atoms) (Names (HasToldLevel new) new.atoms) still_named (map on atoms) there
 
 module _ (old new : LogState) (kept : (i : ℕ) → IsLive old i → entry_at new i ≡ entry_at old i) (told : (t : ℕ) → HasToldLevel old t → HasToldLevel new t) (stay : Stay old.atoms new.atoms) where
+  still_live : (i : ℕ) → IsLive old i → IsLive new i
+  still_live i live = subst (λ (o : Option Entry). IsSome o) (sym (kept i live)) live
+
+  same_literals : (i : ℕ) → IsLive old i → literals_at new i ≡ literals_at old i
+  same_literals i live = ap (λ (o : Option Entry). elim o [ None ↦ [] | Some e ↦ e.literals ]) (kept i live)
+
   still_held : (held : List Held) → AreHeld old held → AreHeld new held
   still_held held h =
       All-weaker (λ (x : Held). IsLive old x.id × (level_at old x.id ≡ x.level)) (λ (x : Held). IsLive new x.id × (level_at new x.id ≡ x.level))
-      (λ x k. (subst (λ (o : Option Entry). IsSome o) (sym (kept x.id k.0)) k.0, ap (λ (o : Option Entry). elim o [ None ↦ 0 | Some e ↦ e.level ]) (kept x.id k.0) ∙ k.1))
-      held h
+      (λ x k. (still_live x.id k.0, ap (λ (o : Option Entry). elim o [ None ↦ 0 | Some e ↦ e.level ]) (kept x.id k.0) ∙ k.1)) held h
+
+  still_since : (seen : Option LogState) (held : List Held) → AreSameSince seen old held → AreSameSince seen new held
+  still_since None held none = none
+  still_since (Some s) held h = All-weaker (IsSameIn s old) (IsSameIn s new) (λ x k. (still_live x.id k.0, same_literals x.id k.0 ∙ k.1)) held h
 
   still_on : (atoms : List ℕ) (held : List Held) → AreHeld old held → AreOn old atoms held → AreOn new atoms held
-  still_on atoms held h among k d inside =
-      let same = ap (λ (o : Option Entry). elim o [ None ↦ [] | Some e ↦ e.literals ]) (kept _ (h k d inside).0) in
-      subst (λ ls. All (λ (l : Lit). Contains atoms l.atom) ls) (sym same) (among k d inside)
+  still_on atoms held h among k d inside = subst (λ ls. All (λ (l : Lit). Contains atoms l.atom) ls) (sym (same_literals _ (h k d inside).0)) (among k d inside)
 
   still_posed : (sat : SatState NoNumbers) (atoms : List ℕ) → IsPosed old sat atoms → IsPosed new sat atoms
-  still_posed sat atoms h = record { held = still_held sat.clauses h.held; named = still_on atoms sat.clauses h.held h.named; told = still_told old new told stay atoms h.told }
+  still_posed sat atoms h =
+      record {
+        held = still_held sat.clauses h.held;
+        since = still_since sat.seen sat.clauses h.since;
+        named = still_on atoms sat.clauses h.held h.named;
+        told = still_told old new told stay atoms h.told;
+      }
 
 told_alike : (old new : LogState) → new.told ≡ old.told → (t : ℕ) → HasToldLevel old t → HasToldLevel new t
 told_alike old new same t h = subst (λ ts. IsSome (slice_index_or ts t None)) (sym same) h
@@ -77,6 +90,7 @@ named_posed : (log : LogState) (sat : SatState NoNumbers) (atoms : List ℕ) (a 
 named_posed log sat atoms a t is there told h =
     record {
       held = h.held;
+      since = h.since;
       named = All-weaker (λ (x : Held). All (λ (l : Lit). Contains atoms l.atom) (literals_at log x.id)) (λ (x : Held). All (λ (l : Lit). Contains (atoms ++ a ∷ []) l.atom) (literals_at log x.id))
           (λ x among. All-weaker (λ (l : Lit). Contains atoms l.atom) (λ (l : Lit). Contains (atoms ++ a ∷ []) l.atom) (λ l has. Contains-append_left atoms (a ∷ []) l.atom has) (literals_at log x.id) among)
           sat.clauses h.named;
@@ -108,32 +122,53 @@ module _ (old mid : LogState) (sat : SatState NoNumbers) (atoms : List ℕ) (t l
   pub named_placed : (new : LogState) → JoinsAtoms mid new → (a : ℕ) → a ≡ term_place new.atoms t → HasTerm new.atoms t → IsPosed old sat atoms → IsPosed new sat (atoms ++ a ∷ [])
   named_placed new joins a is there h = named_posed new sat atoms a t is there (told_alike mid new joins.told t told_here) (joined_placed new joins h)
 
+-- ---- The log as the search saw it
+
+-- where it has just seen it
+seen_again : (log : LogState) (sat : SatState NoNumbers) → sat.seen ≡ Some log → AreHeld log sat.clauses → AreSameSince sat.seen log sat.clauses
+seen_again log sat sees held =
+    subst (λ (s : Option LogState). AreSameSince s log sat.clauses) (sym sees)
+    (All-weaker (λ (x : Held). IsLive log x.id × (level_at log x.id ≡ x.level)) (IsSameIn log log) (λ x k. (k.0, refl)) sat.clauses held)
+
+-- where it holds the same clauses, and saw the same log
+pub since_same : (log : LogState) (old new : SatState NoNumbers) → new.clauses ≡ old.clauses → new.seen ≡ old.seen → AreSameSince old.seen log old.clauses
+    → AreSameSince new.seen log new.clauses
+since_same log old new clauses sees since =
+    subst (λ (s : Option LogState). AreSameSince s log new.clauses) (sym sees) (subst (AreSameSince old.seen log) (sym clauses) since)
+
 -- ---- The search holds a clause more
 
 pub held_posed : (log : LogState) (old new : SatState NoNumbers) (atoms : List ℕ) (id : ℕ) → IsLive log id → All (λ (l : Lit). Contains atoms l.atom) (literals_at log id)
-    → new.clauses ≡ old.clauses ++ held_of log id ∷ [] → IsPosed log old atoms → IsPosed log new atoms
-held_posed log old new atoms id live among more h =
+    → new.clauses ≡ old.clauses ++ held_of log id ∷ [] → new.seen ≡ Some log → IsPosed log old atoms → IsPosed log new atoms
+held_posed log old new atoms id live among more sees h =
     let H : Held → Type 0 = λ x. IsLive log x.id × (level_at log x.id ≡ x.level) in
     let N : Held → Type 0 = λ x. All (λ (l : Lit). Contains atoms l.atom) (literals_at log x.id) in
+    let held = subst (AreHeld log) (sym more) (All-append H old.clauses (held_of log id ∷ []) h.held (All-from_recursion H (held_of log id ∷ []) ((live, refl), tt))) in
     record {
-      held = subst (AreHeld log) (sym more) (All-append H old.clauses (held_of log id ∷ []) h.held (All-from_recursion H (held_of log id ∷ []) ((live, refl), tt)));
+      held = held;
+      since = seen_again log new sees held;
       named = subst (AreOn log atoms) (sym more) (All-append N old.clauses (held_of log id ∷ []) h.named (All-from_recursion N (held_of log id ∷ []) (among, tt)));
       told = h.told;
     }
 
 -- where there was memory for it
 pub add_posed : {A E : Type 0} (log : LogState) (old new : SatState NoNumbers) (atoms : List ℕ) (id : ℕ) (r : Result A E) → IsLive log id
-    → All (λ (l : Lit). Contains atoms l.atom) (literals_at log id) → OnOk r (new.clauses ≡ old.clauses ++ held_of log id ∷ []) → OnErr r (new ≡ old)
+    → All (λ (l : Lit). Contains atoms l.atom) (literals_at log id) → OnOk r (new.clauses ≡ old.clauses ++ held_of log id ∷ []) → OnOk r (new.seen ≡ Some log) → OnErr r (new ≡ old)
     → IsPosed log old atoms → IsPosed log new atoms
-add_posed log old new atoms id (Ok x) live among more same h = held_posed log old new atoms id live among more h
-add_posed log old new atoms id (Err x) live among more same h = subst (λ s. IsPosed log s atoms) (sym same) h
+add_posed log old new atoms id (Ok x) live among more sees same h = held_posed log old new atoms id live among more sees h
+add_posed log old new atoms id (Err x) live among more sees same h = subst (λ s. IsPosed log s atoms) (sym same) h
 
 -- ---- A search
 
 pub searched_posed : (log log' : LogState) (old new : SatState NoNumbers) (atoms : List ℕ) → AreToldAtoms log atoms → Grows log log' → HoldsMore log' old.clauses new.clauses
-    → AreOn log' atoms new.clauses → IsPosed log' new atoms
-searched_posed log log' old new atoms told grows more among =
-    record { held = more.held; named = among; told = still_told log log' (told_alike log log' grows.told) grows.atoms atoms told }
+    → new.seen ≡ Some log' → AreOn log' atoms new.clauses → IsPosed log' new atoms
+searched_posed log log' old new atoms told grows more sees among =
+    record {
+      held = more.held;
+      since = seen_again log' new sees more.held;
+      named = among;
+      told = still_told log log' (told_alike log log' grows.told) grows.atoms atoms told;
+    }
 
 -- what a search asks of its clauses and of what is assumed
 pub posed_named : (log : LogState) (sat : SatState NoNumbers) (atoms : List ℕ) (assumed : List Lit) → IsPosed log sat atoms → All (λ (l : Lit). Contains atoms l.atom) assumed → StandOnce atoms

@@ -8,16 +8,17 @@ use Rattle.nz_log.specs.Logs.{LogState}
 use Rattle.nz_search.specs.declared.note.Note.{Note}
 use Rattle.nz_search.specs.declared.theory.NoNumbers.{NoNumbers}
 use Rattle.nz_search.specs.Standing.{search_after}
-use Rattle.nz_sat.specs.Sats.{SatState, AreHeld, AreOn}
+use Rattle.nz_sat.specs.Sats.{SatState, AreHeld, AreOn, AreSameSince}
 
 pub record HeldState : Type 0 where
   pub log : LogState
   pub sat : SatState NoNumbers
   pub atoms : List ℕ
 
--- The search holds clauses of the log over these atoms. A level was told of each term that they name.
+-- The search holds clauses of the log over these atoms, with the literals that they had when it saw the log last. A level was told of each term that the atoms name.
 pub record IsPosed (log : LogState) (sat : SatState NoNumbers) (atoms : List ℕ) : Type 0 where
   pub held : AreHeld log sat.clauses
+  pub since : AreSameSince sat.seen log sat.clauses
   pub named : AreOn log atoms sat.clauses
   pub told : AreToldAtoms log atoms
 

@@ -191,6 +191,7 @@ impl Held {
 /// Takes back what the theory of a search was told.
 fn begin_anew(sat: &mut Sat<NoNumbers>)
     ensures clauses { sat.new.clauses ≡ sat.old.clauses }
+    ensures seen { sat.new.seen ≡ sat.old.seen }
     ensures none { sat.new.theory.told ≡ 0 }
 {
     sat.theory = NoNumbers::new();

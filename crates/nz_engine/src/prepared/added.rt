@@ -11,7 +11,7 @@ ghost use Rattle.nz_cform.specs.Stops as form;
 ghost use Rattle.nz_search.specs.Levels.{Level, added_by_level, asserted_by_level, numbers_by_level};
 ghost use Rattle.nz_engine.specs.declared.levels.Kind.TheVariants as kind;
 ghost use Rattle.nz_engine.specs.Checking.{AreTakenAt, IsRootStop, IsTermStop};
-ghost use Rattle.nz_engine.specs.Preparing.{CoversAlso, IsAllAdded, IsNext, IsPrepared};
+ghost use Rattle.nz_engine.specs.Preparing.{CoversAlso, IsAllAdded, IsNext, IsPrepared, IsSeen};
 
 use super::{Prepared, hold};
 use crate::levels::{Kind, Levels, Placed};
@@ -33,6 +33,7 @@ impl Prepared {
         requires companions { HasCompanions terms.now }
         requires told { (t : ℕ) → told_level self.old.log t ≤ level }
         requires covers { Covers terms.now self.old.log self.old.form }
+        requires seen { IsSeen self.old }
         ensures covered { OnOk result (CoversAlso terms.now self.old term level self.new) }
         ensures above { self.new.above ≡ self.old.above }
         ensures noted { self.new.noted ≡ self.old.noted }
@@ -55,6 +56,7 @@ impl Prepared {
         requires companions { HasCompanions terms.now }
         requires told { (t : ℕ) → told_level self.old.log t ≤ level }
         requires covers { Covers terms.now self.old.log self.old.form }
+        requires seen { IsSeen self.old }
         ensures stands { OnOk result ((levels : List Level) → IsNext levels self.old kind.Asserted term level → IsPrepared terms.now levels (added_by_level levels) self.old → IsPrepared terms.now levels (added_by_level levels) self.new) }
         ensures given { OnOk result (self.new.given ≡ suc self.old.given) }
         ensures numbered { OnOk result (self.new.numbered ≡ self.old.numbered) }
@@ -86,6 +88,7 @@ impl Prepared {
         requires companions { HasCompanions terms.now }
         requires told { (t : ℕ) → told_level self.old.log t ≤ level }
         requires covers { Covers terms.now self.old.log self.old.form }
+        requires seen { IsSeen self.old }
         ensures stands { OnOk result ((levels : List Level) → IsNext levels self.old kind.Number term level → IsPrepared terms.now levels (added_by_level levels) self.old → IsPrepared terms.now levels (added_by_level levels) self.new) }
         ensures given { OnOk result (self.new.given ≡ self.old.given) }
         ensures numbered { OnOk result (self.new.numbered ≡ suc self.old.numbered) }

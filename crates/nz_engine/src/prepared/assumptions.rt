@@ -8,7 +8,7 @@ ghost use Rattle.nz_cform.specs.Covering.{Covers};
 ghost use Rattle.nz_cform.specs.Forms.{covered_at};
 ghost use Rattle.nz_engine.specs.Checking.{AreCovered, AreTakenAt, IsRootStop, IsTermStop, terms_named};
 ghost use Rattle.nz_search.specs.Levels.{Level};
-ghost use Rattle.nz_engine.specs.Preparing.{Extends, IsAllAdded, IsAssumable, IsMadeOf, IsStanding};
+ghost use Rattle.nz_engine.specs.Preparing.{Extends, IsAllAdded, IsAssumable, IsMadeOf, IsSeen, IsStanding};
 
 use super::Prepared;
 use crate::levels::Levels;
@@ -28,6 +28,7 @@ impl Prepared {
         requires companions { HasCompanions terms.now }
         requires told { (t : ℕ) → told_level self.old.log t ≤ level }
         requires covers { Covers terms.now self.old.log self.old.form }
+        requires seen { IsSeen self.old }
         ensures stands { OnOk result ((levels : List Level) (more : List ℕ) → IsAssumable terms.now levels more term level self.old → IsStanding terms.now levels more self.new) }
         ensures covered { OnOk result (IsSome (covered_at self.new.form term)) }
         ensures made { OnOk result ((t : ℕ) → IsSome (covered_at self.new.form t) → IsSome (covered_at self.old.form t) ⊎ IsMadeOf terms.now (term ∷ []) t) }

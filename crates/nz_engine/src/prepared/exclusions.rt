@@ -1,7 +1,7 @@
 //! Clauses for neighbouring bounds, which exclude each other.
 ghost use Rattle.std.specs.Prelude.{◌≡◌, map, IfOk, OnOk};
 ghost use Rattle.nz_reals.specs.Stands.{IsOf};
-ghost use Rattle.nz_sat.specs.Sats.{AreHeld};
+ghost use Rattle.nz_sat.specs.Sats.{AreHeld, AreSameSince};
 ghost use Rattle.nz_engine.specs.Preparing.{Excludes};
 
 use super::hold;
@@ -31,6 +31,7 @@ pub(super) fn exclude(
 ) -> Result<(), Memory>
     requires of { IsOf sat.old.theory log.old.atoms atoms.now }
     requires held { AreHeld log.old sat.old.clauses }
+    requires since { AreSameSince sat.old.seen log.old sat.old.clauses }
     ensures excludes { OnOk result (Excludes log.old sat.old atoms.now log.new sat.new) }
 {
     if sat.theory.knows_none() {

@@ -134,6 +134,7 @@ pub(super) fn begin_anew(
     requires no_steps { work.old.lines ≡ [] }
     ensures begins { BeginsAnew log.now.atoms atoms.now sat.old.theory sat.new.theory work.old work.new result }
     ensures clauses { sat.new.clauses ≡ sat.old.clauses }
+    ensures seen { sat.new.seen ≡ sat.old.seen }
 {
     let truths = truths_for(alloc, &sat.theory, log, atoms, sat.clauses())?;
     arrange(&mut sat.theory, log, atoms, &truths)?;
@@ -147,6 +148,7 @@ pub(super) fn untell(sat: &mut Sat<Reals>)
     ensures of { (atoms : List Atom) (ids : List ℕ) → IsOf sat.old.theory atoms ids → IsOf sat.new.theory atoms ids }
     ensures at { (ns : List Node) (fs : List (List Part)) (ls : List Literal) (x : Point) → IsAt sat.old.theory ns fs ls x → IsAt sat.new.theory ns fs [] x }
     ensures clauses { sat.new.clauses ≡ sat.old.clauses }
+    ensures seen { sat.new.seen ≡ sat.old.seen }
 {
     sat.theory.undo(0);
 }
@@ -166,6 +168,7 @@ pub(super) fn learn_on(
     requires of { IsOf sat.old.theory log.now.atoms (take from atoms.now) }
     ensures learns { LearnsMore log.now.atoms atoms.now from sat.old.theory sat.new.theory work.old work.new result }
     ensures clauses { sat.new.clauses ≡ sat.old.clauses }
+    ensures seen { sat.new.seen ≡ sat.old.seen }
 {
     learn_more(alloc, &mut sat.theory, log, atoms, from, work)
 }

@@ -15,7 +15,7 @@ use Rattle.nz_engine.specs.Checking.{IsPosed, IsStop, terms_named, without_goals
 use Rattle.nz_engine.specs.Engines.{literals_in}
 use Rattle.nz_engine.specs.Lists.{MayGoOnFrom}
 use Rattle.nz_engine.proofs.AtomNotes.{stopped_lead}
-use Rattle.nz_engine.proofs.CheckEnds.{ends_stop, legal_at, model_stop, none_spent, root_stop, root_unspent, spent_of, stop_within}
+use Rattle.nz_engine.proofs.CheckEnds.{ends_stop, legal_at, model_stop, none_spent, root_stop, root_unspent, same_error, spent_of, stop_within}
 use Rattle.nz_engine.proofs.RefutedAssumptions.{dead_end}
 use Rattle.nz_engine.proofs.KeptTheory.{lead_from, none_more, on_spent_all, on_wide_all, one_more, readied_after, works_from}
 use Rattle.nz_engine.proofs.check.decide.Goals as goal
@@ -86,7 +86,7 @@ returns-in_err-refuted-clause-legal c = λ q may.
 pub returns-in_err-refuted-clause-stopped : goal.returns-in_err-refuted-clause-stopped
 returns-in_err-refuted-clause-stopped c =
     let e = c.in_err-refuted.field-0.0 in
-    let same : Err e ≡ c.from_residual-in_err-refuted.result = search (rules, c.from_residual-in_err-refuted.ensures, c.in_err-refuted.is, c.in_err-refuted.was) in
+    let same = same_error c.from_residual-in_err-refuted.result e c.from_residual-in_err-refuted.ensures.1 in
     let ns = c.args.terms.now in
     let levels = c.args.levels.now in
     let assumed = c.args.assumed.now in
@@ -101,7 +101,7 @@ returns-in_err-refuted-clause-stopped c =
 pub returns-in_err-refuted-clause-place_within : goal.returns-in_err-refuted-clause-place_within
 returns-in_err-refuted-clause-place_within c =
     let e = c.in_err-refuted.field-0.0 in
-    let same : Err e ≡ c.from_residual-in_err-refuted.result = search (rules, c.from_residual-in_err-refuted.ensures, c.in_err-refuted.is, c.in_err-refuted.was) in
+    let same = same_error c.from_residual-in_err-refuted.result e c.from_residual-in_err-refuted.ensures.1 in
     let ns = c.args.terms.now in
     let levels = c.args.levels.now in
     let assumed = c.args.assumed.now in
@@ -116,7 +116,7 @@ returns-in_err-refuted-clause-place_within c =
 pub returns-in_err-refuted-clause-spent : goal.returns-in_err-refuted-clause-spent
 returns-in_err-refuted-clause-spent c =
     let e = c.in_err-refuted.field-0.0 in
-    let same : Err e ≡ c.from_residual-in_err-refuted.result = search (rules, c.from_residual-in_err-refuted.ensures, c.in_err-refuted.is, c.in_err-refuted.was) in
+    let same = same_error c.from_residual-in_err-refuted.result e c.from_residual-in_err-refuted.ensures.1 in
     let ns = c.args.terms.now in
     let levels = c.args.levels.now in
     let assumed = c.args.assumed.now in

@@ -1,4 +1,4 @@
-use Rattle.std.proofs.Common.{rules, ◌≡◌, ◌<◌, ◌++◌, [], Err, IfErr, length, sym, subst, ◌∙◌}
+use Rattle.std.proofs.Common.{◌≡◌, ◌<◌, ◌++◌, [], IfErr, length, sym, subst, ◌∙◌}
 use Rattle.std.proofs.lemmas.List.Elements.{All-from_recursion, All-map, Contains-append_left, Contains-append_right}
 use Rattle.nz_spec.specs.search.Decide.{asserted_numbers}
 use Rattle.nz_spec.specs.terms.Taken.{IsTakenBoolean}
@@ -11,10 +11,13 @@ use Rattle.nz_engine.specs.Checking.{IsRootStop, terms_named}
 use Rattle.nz_engine.specs.Engines.{theory_of}
 use Rattle.nz_engine.proofs.KeptState.{kept_rest, over_grown}
 use Rattle.nz_engine.proofs.KeptTheory.{all_extends}
-use Rattle.nz_engine.proofs.CheckEnds.{root_more}
+use Rattle.nz_engine.proofs.CheckEnds.{root_more, same_error}
 use Rattle.nz_engine.proofs.LevelPreservation.{standing}
 use Rattle.nz_engine.proofs.SearchAtoms.{covered_by, prepared_among}
 use Rattle.nz_engine.proofs.check.posed_anew.Goals as goal
+
+pub add_terms-requires-clause-stands : goal.add_terms-requires-clause-stands
+add_terms-requires-clause-stands c = c.in_ok-prepared.ensures.stands c.requires.kept.0 c.args.terms.now c.requires.kept.1 c.requires.kept.2
 
 pub assume-requires-clause-within : goal.assume-requires-clause-within
 assume-requires-clause-within c =
@@ -48,7 +51,7 @@ returns-clause-theory c = c.assume.ensures.theory ∙ c.add_terms.ensures.theory
 
 pub returns-in_err-add_terms-clause-stop : goal.returns-in_err-add_terms-clause-stop
 returns-in_err-add_terms-clause-stop c =
-    let same : Err c.in_err-add_terms.field-0.0 ≡ c.from_residual-in_err-add_terms.result = search rules in
+    let same = same_error c.from_residual-in_err-add_terms.result c.in_err-add_terms.field-0.0 c.from_residual-in_err-add_terms.ensures.1 in
     let ns = c.args.terms.now in
     let added = asserted_numbers (added_by_level c.args.levels.now) in
     let assumed = terms_named c.args.assumed.now in
@@ -57,7 +60,7 @@ returns-in_err-add_terms-clause-stop c =
 
 pub returns-in_err-assume-clause-stop : goal.returns-in_err-assume-clause-stop
 returns-in_err-assume-clause-stop c =
-    let same : Err c.in_err-assume.field-0.0 ≡ c.from_residual-in_err-assume.result = search rules in
+    let same = same_error c.from_residual-in_err-assume.result c.in_err-assume.field-0.0 c.from_residual-in_err-assume.ensures.1 in
     let ns = c.args.terms.now in
     let added = asserted_numbers (added_by_level c.args.levels.now) in
     let assumed = terms_named c.args.assumed.now in

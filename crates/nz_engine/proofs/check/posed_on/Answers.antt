@@ -1,5 +1,5 @@
 -- What is assumed is covered beside what was.
-use Rattle.std.proofs.Common.{rules, ◌≡◌, ◌⊎◌, ℕ, ◌<◌, ◌++◌, Err, IfErr, length, sym, subst}
+use Rattle.std.proofs.Common.{◌≡◌, ◌⊎◌, ℕ, ◌<◌, ◌++◌, IfErr, length, sym, subst}
 use Rattle.std.proofs.lemmas.List.Elements.{All-from_recursion, All-map, Contains-append_right}
 use Rattle.nz_spec.specs.search.Decide.{asserted_numbers}
 use Rattle.nz_spec.specs.terms.Taken.{IsTakenBoolean}
@@ -15,7 +15,7 @@ use Rattle.nz_cform.specs.Forms.{covered_at}
 use Rattle.std.specs.Prelude.{IsSome}
 use Rattle.nz_engine.proofs.KeptState.{kept_rest}
 use Rattle.nz_engine.proofs.KeptTheory.{all_extends}
-use Rattle.nz_engine.proofs.CheckEnds.{root_more}
+use Rattle.nz_engine.proofs.CheckEnds.{root_more, same_error}
 use Rattle.nz_engine.proofs.SearchAtoms.{covered_by}
 use Rattle.nz_engine.proofs.check.posed_on.Goals as goal
 
@@ -61,7 +61,7 @@ returns-clause-extends c = subst (λ (p : PreparedState). Extends p c.assume.new
 
 pub returns-in_err-assume-clause-stop : goal.returns-in_err-assume-clause-stop
 returns-in_err-assume-clause-stop c =
-    let same : Err c.in_err-assume.field-0.0 ≡ c.from_residual-in_err-assume.result = search rules in
+    let same = same_error c.from_residual-in_err-assume.result c.in_err-assume.field-0.0 c.from_residual-in_err-assume.ensures.1 in
     let ns = c.args.terms.now in
     let added = asserted_numbers (added_by_level c.args.levels.now) in
     let named = terms_named c.args.assumed.now in

@@ -6,6 +6,11 @@ use Rattle.nz_engine.proofs.KeptState.{kept_either}
 use Rattle.nz_engine.proofs.AssertionPlaces.{added_goes_on}
 use Rattle.nz_engine.proofs.engine.EngineDecide.add.Goals as goal
 
+pub lowered-requires : goal.lowered-requires
+lowered-requires c =
+    let ns = table_of c.self.inside.seen in
+    record { kept = (ns, subst (IsKept ns c.self.inside.levels) (sym c.take_kept-kept.ensures.taken) c.self.invariant) }
+
 pub invariant_of-self : goal.invariant_of-self
 invariant_of-self c =
     let ns = table_of c.self.inside.seen in

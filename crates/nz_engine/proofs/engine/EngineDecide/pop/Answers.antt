@@ -5,6 +5,12 @@ use Rattle.nz_engine.specs.Engines.{Begins, EngineState, IsKept, table_of, theor
 use Rattle.nz_engine.proofs.KeptState.{kept_low, take_again}
 use Rattle.nz_engine.proofs.engine.EngineDecide.pop.Goals as goal
 
+pub cut_kept-requires : goal.cut_kept-requires
+cut_kept-requires c =
+    let ns = table_of c.self.inside.seen in
+    let levels = c.self.inside.levels in
+    record { kept = (ns, levels, subst (IsKept ns levels) (sym c.take_kept-kept.ensures.taken) c.self.invariant) }
+
 pub invariant_of-self : goal.invariant_of-self
 invariant_of-self c =
     let ns = table_of c.self.inside.seen in

@@ -3,10 +3,16 @@ use Rattle.std.proofs.Common.{◌≡◌, ◌+◌, refl, sym, ap, ◌∙◌, subs
 use Rattle.nz_search.specs.Levels.{added_by_level, asserted_by_level}
 use Rattle.nz_engine.specs.declared.levels.Kind.TheVariants.{Asserted}
 use Rattle.nz_engine.specs.Levels.{IsPlaced}
-use Rattle.nz_engine.specs.Preparing.{PreparedState, CoversAlso, IsPrepared}
+use Rattle.nz_engine.specs.Preparing.{PreparedState, CoversAlso, IsPrepared, IsSeen}
 use Rattle.nz_engine.proofs.AssertionPlaces.{placed_root}
 use Rattle.nz_engine.proofs.ClausePreservation.{assertion_given, covered}
+use Rattle.nz_engine.proofs.SeenClauses.{seen_put}
 use Rattle.nz_engine.proofs.prepared.Prepared.add_assertion.Goals as goal
+
+pub add-requires-clause-since : goal.add-requires-clause-since
+add-requires-clause-since c =
+    let mid = c.self-2.inside in
+    seen_put mid.sat.seen mid.log c.given.new.self mid.sat.clauses c.in_ok-clause.ensures.made (subst IsSeen (sym c.self-2.view_is) c.in_ok-cover.ensures.covered.seen)
 
 pub returns-clause-stands : goal.returns-clause-stands
 returns-clause-stands c = λ levels next h.
@@ -26,6 +32,6 @@ returns-clause-stands c = λ levels next h.
     let same : mid.given ≡ c.self.inside.given = also.given ∙ sym (ap (λ (s : PreparedState). s.given) c.self.view_is) in
     let count : c.in-Some.given ≡ c.self.inside.given + 1 = c.in-Some.ensures.1 in
     let there : IsPlaced asserted mid.given t n = subst (λ k. IsPlaced asserted k t n) (sym also.given) next.placed in
-    assertion_given ns levels roots mid new c.in_ok-clause.clause t n c.in_ok-clause.ensures.made c.in_ok-clause.ensures.there c.in_ok-add.ensures.added refl (omega (arith, same, count)) refl there (also.told t) before
+    assertion_given ns levels roots mid new c.in_ok-clause.clause t n c.in_ok-clause.ensures.made c.in_ok-clause.ensures.there c.in_ok-add.ensures.added c.in_ok-add.ensures.seen refl (omega (arith, same, count)) refl there (also.told t) before
     c.atoms_of_terms.ensures.atoms c.covers_stay.ensures.stay c.logs_stay_leveled.ensures.stay also.here c.requires.taken.boolean
     (c.in_ok-clause.ensures.sound ns asserted c.requires.within there.live before.order)

@@ -13,6 +13,7 @@ use Rattle.nz_engine.proofs.CheckEnds.{first_none, lead_none, plain_none}
 use Rattle.nz_engine.proofs.SearchEntry.{begun_search, lead_anew, learnable, plain_anew, plain_gone, stops_anew, works_anew, works_gone}
 use Rattle.nz_engine.proofs.ExclusionClauses.{prepared_in}
 use Rattle.nz_engine.proofs.SearchAtoms.{ready_as}
+use Rattle.nz_engine.proofs.SeenClauses.{since_same}
 use Rattle.nz_engine.proofs.prepared.Prepared.begin_list.Goals as goal
 
 pub returns-in_err-literals-clause-stopped : goal.returns-in_err-literals-clause-stopped
@@ -70,6 +71,12 @@ returns-in_err-begin_anew-clause-plain c =
     let after = c.begin_anew.new.work in
     let begins = subst (λ (is : List ℕ). BeginsAnew p.log.atoms is p.sat.theory sat.theory c.args.work.now after c.begin_anew.result) c.deref.ensures.value c.begin_anew.ensures.begins in
     plain_anew c.search_laws.ensures.laws p r theory sat c.args.work.now after c.requires.no_steps c.begin_anew.result begins
+
+pub exclude-requires-clause-since : goal.exclude-requires-clause-since
+exclude-requires-clause-since c =
+    let p = prepared_in c.self.inside in
+    let r = ready_as c.self.view_is (ap (λ (s : PreparedState). s.noted) c.self.view_is) refl c.in_ok-literals.ensures.ready in
+    since_same p.log p.sat c.begin_anew.new.sat c.begin_anew.ensures.clauses c.begin_anew.ensures.seen r.some.1.standing.raised.seen
 
 pub returns-in_err-exclude-clause-plain : goal.returns-in_err-exclude-clause-plain
 returns-in_err-exclude-clause-plain c =
@@ -154,7 +161,7 @@ returns-clause-begun c =
     let after = c.begin_anew.new.work in
     let begins = subst (λ (is : List ℕ). BeginsAnew p.log.atoms is p.sat.theory sat.theory c.args.work.now after (Ok tt)) c.deref.ensures.value c.in_ok-begin_anew.ensures.begins in
     let excludes = subst (λ (is : List ℕ). Excludes p.log sat is c.exclude.new.log c.exclude.new.sat) c.deref-2.ensures.value c.in_ok-exclude.ensures.excludes in
-    begun_search c.search_laws.ensures.laws p r theory sat c.args.work.now after c.requires.no_steps begins c.begin_anew.ensures.clauses c.exclude.new.log c.exclude.new.sat excludes c.go_under.new.work
+    begun_search c.search_laws.ensures.laws p r theory sat c.args.work.now after c.requires.no_steps begins c.begin_anew.ensures.clauses c.begin_anew.ensures.seen c.exclude.new.log c.exclude.new.sat excludes c.go_under.new.work
     c.in_ok-go_under.ensures.under
 
 pub returns-clause-plain : goal.returns-clause-plain

@@ -1,8 +1,14 @@
-use Rattle.std.proofs.Common.{◌++◌, map, refl, ap, ◌∙◌, subst}
+use Rattle.std.proofs.Common.{◌++◌, map, refl, sym, ap, ◌∙◌, subst}
 use Rattle.nz_spec.specs.terms.Table.{term_in}
 use Rattle.nz_sat.specs.Sats.{held_of}
-use Rattle.nz_engine.specs.Preparing.{PreparedState, CoversAlso}
+use Rattle.nz_engine.specs.Preparing.{PreparedState, CoversAlso, IsSeen}
+use Rattle.nz_engine.proofs.SeenClauses.{still_seen}
 use Rattle.nz_engine.proofs.prepared.Prepared.cover.Goals as goal
+
+pub hold-requires-clause-since : goal.hold-requires-clause-since
+hold-requires-clause-since c =
+    let own = c.self.inside in
+    still_seen own.sat.seen own.log c.add_term.new.log own.sat.clauses c.in-Ok.ensures.kept.clauses (subst IsSeen (sym c.self.view_is) c.requires.seen)
 
 pub returns-clause-covered : goal.returns-clause-covered
 returns-clause-covered c =
@@ -19,6 +25,7 @@ returns-clause-covered c =
       ids = c.in-Ok.clauses.items;
       added = did.answered;
       joined = c.in_ok-hold.ensures.held ∙ ap (λ is. c.self.inside.sat.clauses ++ map (held_of c.add_term.new.log) is) c.deref.ensures.value;
+      seen = c.in_ok-hold.ensures.since;
       told = did.told;
       sound = did.sound;
       given = refl;

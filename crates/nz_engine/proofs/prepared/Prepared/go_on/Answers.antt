@@ -14,6 +14,7 @@ use Rattle.nz_engine.proofs.ExclusionClauses.{prepared_in}
 use Rattle.nz_engine.proofs.LaterSearches.{begun_later, front_known, lead_more, plain_more, ready_first, stops_more, way_lead, way_named, way_of, way_plain, way_works, works_more}
 use Rattle.nz_engine.proofs.SearchAtoms.{ready_as}
 use Rattle.nz_engine.proofs.SearchEntry.{learnable}
+use Rattle.nz_engine.proofs.SeenClauses.{since_same}
 use Rattle.nz_engine.proofs.prepared.Prepared.go_on.Goals as goal
 
 pub ready-requires-clause-named : goal.ready-requires-clause-named
@@ -123,6 +124,12 @@ returns-in_err-learn_on-clause-works c =
     let told = subst (λ (is : List ℕ). LearnsMore p.log.atoms is c.len-named.result t c.learn_on.new.sat.theory c.go_under.new.work c.learn_on.new.work (c.learn_on.result)) c.deref.ensures.value c.learn_on.ensures.learns in
     let learns = subst (λ (n : ℕ). LearnsMore p.log.atoms p.noted n t c.learn_on.new.sat.theory c.go_under.new.work c.learn_on.new.work (c.learn_on.result)) first told in
     works_more c.search_laws.ensures.laws p r theory before c.requires.some t c.untell.ensures.untold c.untell.ensures.over c.untell.ensures.of c.untell.ensures.at c.go_under.new.work c.in_ok-go_under.ensures.under c.learn_on.new.sat.theory c.learn_on.new.work (c.learn_on.result) learns c.requires.may.0 c.requires.may.1 c.requires.may.2
+
+pub exclude-requires-clause-since : goal.exclude-requires-clause-since
+exclude-requires-clause-since c =
+    let p = prepared_in c.self-2.inside in
+    let r = ready_as c.self-2.view_is (ap (λ (s : PreparedState). s.noted) c.self-2.view_is) refl c.in_ok-literals.ensures.ready in
+    since_same p.log p.sat c.learn_on.new.sat (c.learn_on.ensures.clauses ∙ c.untell.ensures.clauses) (c.learn_on.ensures.seen ∙ c.untell.ensures.seen) r.some.1.standing.raised.seen
 
 pub returns-in_err-exclude-clause-plain : goal.returns-in_err-exclude-clause-plain
 returns-in_err-exclude-clause-plain c =
@@ -240,4 +247,4 @@ returns-clause-begun c =
     let told = subst (λ (is : List ℕ). LearnsMore p.log.atoms is c.len-named.result t c.learn_on.new.sat.theory c.go_under.new.work c.learn_on.new.work (Ok tt)) c.deref.ensures.value c.in_ok-learn_on.ensures.learns in
     let learns = subst (λ (n : ℕ). LearnsMore p.log.atoms p.noted n t c.learn_on.new.sat.theory c.go_under.new.work c.learn_on.new.work (Ok tt)) first told in
     let excludes = subst (λ (is : List ℕ). Excludes p.log c.learn_on.new.sat is c.exclude.new.log c.exclude.new.sat) c.deref-2.ensures.value c.in_ok-exclude.ensures.excludes in
-    begun_later c.search_laws.ensures.laws p r theory before c.requires.some t c.untell.ensures.untold c.untell.ensures.over c.untell.ensures.of c.untell.ensures.at c.go_under.new.work c.in_ok-go_under.ensures.under c.learn_on.new.sat c.learn_on.new.work learns (c.learn_on.ensures.clauses ∙ c.untell.ensures.clauses) c.exclude.new.log c.exclude.new.sat excludes c.requires.may
+    begun_later c.search_laws.ensures.laws p r theory before c.requires.some t c.untell.ensures.untold c.untell.ensures.over c.untell.ensures.of c.untell.ensures.at c.go_under.new.work c.in_ok-go_under.ensures.under c.learn_on.new.sat c.learn_on.new.work learns (c.learn_on.ensures.clauses ∙ c.untell.ensures.clauses) (c.learn_on.ensures.seen ∙ c.untell.ensures.seen) c.exclude.new.log c.exclude.new.sat excludes c.requires.may

@@ -6,7 +6,7 @@ use Rattle.nz_search.specs.Levels.{Level}
 use Rattle.nz_engine.specs.Checking.{EndsWith, MaySearch}
 use Rattle.nz_engine.specs.Preparing.{PreparedState}
 use Rattle.nz_engine.proofs.CheckEnds.{works_solved}
-use Rattle.nz_engine.proofs.SearchRuns.{begun_as, search_begun, search_consistent, search_excluded, search_found, search_named, search_parts, search_plain, search_posed, search_refuted, search_stopped, search_told, search_told_terms, search_under_way}
+use Rattle.nz_engine.proofs.SearchRuns.{begun_as, search_begun, search_consistent, search_excluded, search_found, search_named, search_parts, search_plain, search_posed, search_refuted, search_since, search_stopped, search_told, search_told_terms, search_under_way}
 use Rattle.nz_engine.proofs.prepared.Prepared.solve.Goals as goal
 
 pub returns-in_err-literals-clause-stopped : goal.returns-in_err-literals-clause-stopped
@@ -16,6 +16,9 @@ returns-in_err-literals-clause-stopped c =
     let assumed = c.args.assumed.now in
     subst (λ r. IfErr r (λ (e : Stop). (levels : List Level) (q : Task) → MaySearch ns levels assumed q c.args.work.now c.args.self.now → EndsWith ns q c.begin.new.work e)) same
     c.in_err-literals.ensures.stopped
+
+pub solve-requires-clause-since : goal.solve-requires-clause-since
+solve-requires-clause-since c = search_since (begun_as c.self.view_is (c.deref.ensures.value ∙ ap (λ (s : PreparedState). s.noted) c.self.view_is) c.deref-2.ensures.value c.in_ok-literals.ensures.begun.1)
 
 pub solve-requires-clause-named : goal.solve-requires-clause-named
 solve-requires-clause-named c = search_named (begun_as c.self.view_is (c.deref.ensures.value ∙ ap (λ (s : PreparedState). s.noted) c.self.view_is) c.deref-2.ensures.value c.in_ok-literals.ensures.begun.1)
@@ -33,7 +36,7 @@ pub returns-clause-posed : goal.returns-clause-posed
 returns-clause-posed c =
     let b = begun_as c.self.view_is (c.deref.ensures.value ∙ ap (λ (s : PreparedState). s.noted) c.self.view_is) c.deref-2.ensures.value c.in_ok-literals.ensures.begun.1 in
     let did = c.solve.ensures in
-    search_posed b c.solve.new.log c.solve.new.self c.solve.new.work c.solve.result did.grows did.held did.named did.sound did.over
+    search_posed b c.solve.new.log c.solve.new.self c.solve.new.work c.solve.result did.grows did.held did.seen did.named did.sound did.over
 
 pub returns-clause-found : goal.returns-clause-found
 returns-clause-found c =

@@ -7,6 +7,7 @@ use Rattle.nz_log.specs.Logs.{literals_at}
 use Rattle.nz_sat.specs.declared.clauses.WatchedClause.{WatchedClause}
 use Rattle.nz_sat.specs.Clauses.{HasTrue, IsWatchedIn}
 use Rattle.nz_sat.specs.Trails.{IsFalseOn}
+use Rattle.nz_sat.specs.Watched.{held_at}
 use Rattle.nz_sat.proofs.Visiting.{IsOnWay, entry_falls, head_more, way_more}
 use Rattle.nz_sat.proofs.propagation.Propagation.propagate.Goals as goal
 use Rattle.nz_sat.proofs.propagation.Propagation.propagate.Goals.{After-visit_all}
@@ -42,7 +43,7 @@ loop-self-preserved c =
     ap (slice_get t.entries) c.visit_all.ensures.head
     ∙ subst (λ xs. slice_get xs c.loop-self.self.head ≡ Some e) (sym goes.joined) (slice_get_kept c.loop-self.trail.entries goes.more c.loop-self.self.head e c.entry-literal.ensures.entry) in
     let none : c.in_ok-falsified.falsified ≡ None = search rules in
-    let Looked : Lit → Type 0 = λ l. (key : ℕ) (h : WatchedClause) → slice_get p.clauses.items key ≡ Some h → IsWatchedIn h l → HasTrue t.entries (literals_at s h.id) in
+    let Looked : Lit → Type 0 = λ l. (key : ℕ) (h : WatchedClause) → held_at p key ≡ Some h → IsWatchedIn h l → HasTrue t.entries (literals_at s h.id) in
     let V : Option ℕ → Type 0 = λ o. IfNone o (Looked c.not.result) in
     let looked : Looked c.not.result = subst V none c.in_ok-falsified.ensures.visited in
     let so_far = way (goal.at.loop-self-preserved c).After-visit_all in

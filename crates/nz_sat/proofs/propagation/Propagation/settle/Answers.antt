@@ -1,6 +1,6 @@
 -- The last literal by its value.
 use Rattle.std.proofs.Common.{◌≡◌, ℕ, Bool, List, Some, inl, sym, ap, subst, ◌∙◌, Contains}
-use Rattle.std.proofs.lemmas.Option.{get_or_from_slice_get}
+use Rattle.std.proofs.lemmas.Option.{same_Some}
 use Rattle.nz_sat.specs.declared.clauses.WatchedClause.{WatchedClause}
 use Rattle.nz_sat.specs.Clauses.{IsReason, Visits}
 use Rattle.nz_sat.specs.Trails.{HasValue, IsFalseOn, IsTrueOn, TrailState}
@@ -13,7 +13,7 @@ use Rattle.nz_sat.proofs.propagation.Propagation.settle.Goals as goal
 use Rattle.nz_sat.proofs.propagation.Propagation.settle.Goals.{After-imply, After-index}
 
 clause_is : (c : After-index) → c.index.result.now ≡ c.requires.last.clause
-clause_is c = c.index.ensures ∙ get_or_from_slice_get c.args.self.now.clauses.items c.args.key c.requires.last.clause c.index.result.now c.requires.last.at
+clause_is c = same_Some c.index.result.now c.requires.last.clause (sym c.index.ensures ∙ c.requires.last.at)
 
 pub imply-requires-clause-within : goal.imply-requires-clause-within
 imply-requires-clause-within c =

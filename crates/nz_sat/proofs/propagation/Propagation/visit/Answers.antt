@@ -1,6 +1,7 @@
 -- The clause of the place, by its literals.
-use Rattle.std.proofs.Common.{◌≡◌, ◌<◌, Bool, true, false, Option, Some, List, length, refl, sym, ap, subst, ◌∙◌, arith, rules, Contains}
-use Rattle.std.proofs.lemmas.Option.{get_or_from_slice_get, slice_get_within}
+use Rattle.std.proofs.Common.{◌≡◌, Bool, true, false, Option, Some, List, length, refl, sym, ap, subst, ◌∙◌, rules, Contains}
+use Rattle.std.specs.Prelude.{IsSome}
+use Rattle.std.proofs.lemmas.Option.{same_Some}
 use Rattle.nz_log.specs.declared.lits.Lit.{Lit}
 use Rattle.nz_log.specs.Logs.{IsLive, literals_at}
 use Rattle.nz_sat.specs.declared.clauses.WatchedClause.{WatchedClause}
@@ -43,13 +44,11 @@ returns-then-watch-clause-comes c =
 pub index-requires : goal.index-requires
 index-requires c =
     let d = (goal.at.index-requires c).After-at-watch in
-    let inside : c.at-watch.result.key < length c.args.self.now.clauses.items = slice_get_within c.args.self.now.clauses.items c.at-watch.result.key (own d).clause (own d).at in
-    let long = c.args.self.now.clauses.ok.0 in
-    omega (arith, inside, long)
+    subst IsSome (sym (own d).at) refl
 
 -- the clause that is read is the one that is held
 clause_is : (c : After-index) → (w : IsWatch c.args.log.now (watch_state c.args.self.now c.args.trail.now).held c.args.literal c.at-watch.result) → c.index.result.now ≡ w.clause
-clause_is c w = c.index.ensures ∙ get_or_from_slice_get c.args.self.now.clauses.items c.at-watch.result.key w.clause c.index.result.now w.at
+clause_is c w = same_Some c.index.result.now w.clause (sym c.index.ensures ∙ w.at)
 
 other_is : (c : After-other-other) → (w : IsWatch c.args.log.now (watch_state c.args.self.now c.args.trail.now).held c.args.literal c.at-watch.result) → c.index.result.now ≡ w.clause
     → c.other-other.result ≡ other_in w.clause c.args.literal

@@ -1,24 +1,46 @@
 -- What the run of the search told, over these atoms.
-use Rattle.std.proofs.Common.{◌≡◌, ℕ, true, false, Err, List, [], None, Option, Some, ap, sym, subst, ◌∙◌, rules, All, Contains, IfSome, is_none}
+use Rattle.std.proofs.Common.{◌≡◌, true, ℕ, Err, List, [], length, Option, ap, refl, sym, subst, ◌∙◌, rules, All, Contains}
+use Rattle.std.proofs.lemmas.List.{append-nil}
+use Rattle.std.proofs.lemmas.List.Elements.{All-nil}
 use Rattle.nz_log.specs.declared.lits.Lit.{Lit}
 use Rattle.nz_search.specs.declared.stop.Stop.TheVariants as stop
-use Rattle.nz_log.specs.Logs.{literals_at}
+use Rattle.nz_log.specs.Logs.{LogState, literals_at}
 use Rattle.nz_search.specs.Standing.{Ends, Stands}
 use Rattle.nz_sat.specs.declared.clauses.Held.{Held}
-use Rattle.nz_sat.specs.Sats.{AreOn, HasBegun, HoldsLearned, IsTheoryMet, SatState}
+use Rattle.nz_sat.specs.Sats.{AreHeld, AreOn, AreSameSince, HasBegun, HoldsLearned, SatState}
 use Rattle.nz_sat.specs.Searching.{Satisfies}
 use Rattle.nz_sat.specs.Theories.{state_of}
-use Rattle.nz_sat.specs.Trails.{AreTruthsOn}
+use Rattle.nz_sat.specs.Stored.{log_of}
+use Rattle.nz_sat.specs.Watched.{HoldsWatched, IsKept}
+use Rattle.nz_sat.proofs.KeptClauses.{kept_now, run_holds}
 use Rattle.nz_sat.proofs.SearchSteps.{advances_same}
 use Rattle.nz_sat.proofs.SearchLines.{adds_noted, adds_same, adds_within}
 use Rattle.nz_sat.proofs.StartsAndEnds.{all_told, ends_later, first_noted, run_ends, run_learned, run_named, run_sound, satisfied, theory_met}
-use Rattle.nz_sat.proofs.sat.Sat.solve.Goals.{then-is_none+in_ok-self-inside, else-is_none}
 use Rattle.nz_sat.proofs.sat.Sat.solve.Goals as goal
 
 pub new-requires-clause-named : goal.new-requires-clause-named
 new-requires-clause-named g c =
     let same : c.args.self.now.clauses ≡ c.deref.result.now = sym (ap (λ (s : SatState g.row.T.Denot). s.clauses) c.self.view_is) ∙ search rules in
     subst (All (λ (h : Held). All (λ (l : Lit). Contains c.args.atoms.now l.atom) (literals_at c.args.log.now h.id))) same c.requires.named.clauses
+
+pub new-requires-clause-kept : goal.new-requires-clause-kept
+new-requires-clause-kept g c =
+    let log = c.args.log.now in
+    let s = c.self.inside in
+    let since = subst (λ (t : SatState g.row.T.Denot). AreSameSince t.seen log t.clauses) (sym c.self.view_is) c.requires.since in
+    let kept = kept_now (log_of s.seen) log s.clauses.items s.kept c.self.invariant since in
+    let same : s.clauses.items ≡ c.deref.result.now = search rules in
+    subst (λ (hs : List Held). IsKept log hs c.replace-kept.result) same (subst (IsKept log s.clauses.items) (sym c.replace-kept.ensures.value) kept)
+
+-- what was kept is gone where the search doesn't end
+pub invariant_of-self : goal.invariant_of-self
+invariant_of-self g c =
+    subst (IsKept c.of.result.value c.self.inside.clauses.items) (sym c.replace-kept.ensures.after) (c.none.ensures.kept c.of.result.value c.self.inside.clauses.items)
+
+pub returns-in_err-search-clause-held : goal.returns-in_err-search-clause-held
+returns-in_err-search-clause-held g c =
+    let same = ap (λ (s : SatState g.row.T.Denot). s.clauses) c.self.view_is in
+    record { learned = []; joined = same ∙ sym (append-nil c.args.self.now.clauses); are_learned = All-nil (λ (h : Held). h.is_learned ≡ true); held = subst (AreHeld c.args.log.now) (sym same) c.requires.held }
 
 pub returns-in_err-search-clause-named : goal.returns-in_err-search-clause-named
 returns-in_err-search-clause-named g c =
@@ -36,6 +58,11 @@ pub run-refuted-requires-clause-noted : goal.run-refuted-requires-clause-noted
 run-refuted-requires-clause-noted g c =
     first_noted c.args.log.now c.self.inside.clauses.items c.in_ok-search.search c.args.work.now c.args.atoms.now c.in_ok-search.ensures.atoms c.requires.noted
     (subst (λ (s : SatState g.row.T.Denot). HasBegun c.args.log.now c.args.atoms.now s.clauses c.args.work.now) (sym c.self.view_is) c.requires.begun) c.in_ok-search.ensures.none
+
+pub invariant_of-self-in_err-refuted : goal.invariant_of-self-in_err-refuted
+invariant_of-self-in_err-refuted g c =
+    let held = c.run-refuted.new.held.items in
+    subst (IsKept c.of-2.result.value held) (sym c.replace-kept.ensures.after) (c.none.ensures.kept c.of-2.result.value held)
 
 pub returns-in_err-refuted-clause-named : goal.returns-in_err-refuted-clause-named
 returns-in_err-refuted-clause-named g c = run_named c.args.assumed.now c.run-refuted.ensures.steps.advances c.args.atoms.now c.in_ok-search.ensures.atoms (subst (λ (s : SatState g.row.T.Denot). AreOn c.args.log.now c.args.atoms.now s.clauses) (sym c.self.view_is) c.requires.named.clauses)
@@ -65,6 +92,11 @@ returns-in_err-refuted-clause-ends g c ns levels q known asked stands =
     (first_noted c.args.log.now c.self.inside.clauses.items c.in_ok-search.search c.args.work.now c.args.atoms.now c.in_ok-search.ensures.atoms c.requires.noted
     (subst (λ (s : SatState g.row.T.Denot). HasBegun c.args.log.now c.args.atoms.now s.clauses c.args.work.now) (sym c.self.view_is) c.requires.begun) c.in_ok-search.ensures.none).trail ns levels q (subst (λ (s : SatState g.row.T.Denot). g.T.Theory.is_over s.theory ns) (sym c.self.view_is) known) asked
     (subst (λ (s : SatState g.row.T.Denot). Stands (g.T.Theory.is_at s.theory ns) ns q c.args.work.now) (sym c.self.view_is) stands)
+
+pub invariant_of-self-in_err-self-inside : goal.invariant_of-self-in_err-self-inside
+invariant_of-self-in_err-self-inside g c =
+    let held = c.run-refuted.new.held.items in
+    subst (IsKept c.of-2.result.value held) (sym c.replace-kept.ensures.after) (c.none.ensures.kept c.of-2.result.value held)
 
 pub returns-in_err-self-inside-clause-named : goal.returns-in_err-self-inside-clause-named
 returns-in_err-self-inside-clause-named g c = run_named c.args.assumed.now c.run-refuted.ensures.steps.advances c.args.atoms.now c.in_ok-search.ensures.atoms (subst (λ (s : SatState g.row.T.Denot). AreOn c.args.log.now c.args.atoms.now s.clauses) (sym c.self.view_is) c.requires.named.clauses)
@@ -98,23 +130,12 @@ returns-in_err-self-inside-clause-ends g c ns levels q known asked stands =
     subst (Ends {A = Option ℕ} IsAt ns q c.run-refuted.new.work) same (ends_later (Option ℕ) IsAt ns q c.run-refuted.new.work c.in_ok-refuted.refuted led)
 
 pub returns-clause-named : goal.returns-clause-named
-returns-clause-named g c =
-    let on = run_named c.args.assumed.now c.run-refuted.ensures.steps.advances c.args.atoms.now c.in_ok-search.ensures.atoms (subst (λ (s : SatState g.row.T.Denot). AreOn c.args.log.now c.args.atoms.now s.clauses) (sym c.self.view_is) c.requires.named.clauses) in
-    let P : SatState g.row.T.Denot → Type 0 = λ t. AreOn c.run-refuted.new.log c.args.atoms.now t.clauses in
-    elim c.if-is_none.branch [
-      | then-is_none+in_ok-self-inside w ↦ subst P (sym w.self-is) on
-      | else-is_none w ↦ subst P (sym w.self-is) on
-    ]
+returns-clause-named g c = run_named c.args.assumed.now c.run-refuted.ensures.steps.advances c.args.atoms.now c.in_ok-search.ensures.atoms (subst (λ (s : SatState g.row.T.Denot). AreOn c.args.log.now c.args.atoms.now s.clauses) (sym c.self.view_is) c.requires.named.clauses)
 
 pub returns-clause-learned : goal.returns-clause-learned
 returns-clause-learned g c =
-    let there = run_learned c.args.assumed.now c.run-refuted.ensures.steps.advances c.args.atoms.now c.in_ok-search.ensures.atoms
-    (subst (λ (s : SatState g.row.T.Denot). HasBegun c.args.log.now c.args.atoms.now s.clauses c.args.work.now) (sym c.self.view_is) c.requires.begun).learned in
-    let P : SatState g.row.T.Denot → Type 0 = λ t. HoldsLearned c.run-refuted.new.log c.args.atoms.now t.clauses c.run-refuted.new.work in
-    elim c.if-is_none.branch [
-      | then-is_none+in_ok-self-inside w ↦ subst P (sym w.self-is) there
-      | else-is_none w ↦ subst P (sym w.self-is) there
-    ]
+    run_learned c.args.assumed.now c.run-refuted.ensures.steps.advances c.args.atoms.now c.in_ok-search.ensures.atoms
+    (subst (λ (s : SatState g.row.T.Denot). HasBegun c.args.log.now c.args.atoms.now s.clauses c.args.work.now) (sym c.self.view_is) c.requires.begun).learned
 
 pub returns-clause-sound : goal.returns-clause-sound
 returns-clause-sound g c ns levels known =
@@ -131,15 +152,10 @@ returns-clause-stays g c ns = adds_same ns c.args.work.now c.run-refuted.new.wor
 
 pub returns-clause-ends : goal.returns-clause-ends
 returns-clause-ends g c ns levels q known asked stands =
-    let led = run_ends c.args.assumed.now c.in_ok-refuted.ensures.steps.advances c.args.atoms.now c.in_ok-search.ensures.atoms
+    run_ends c.args.assumed.now c.in_ok-refuted.ensures.steps.advances c.args.atoms.now c.in_ok-search.ensures.atoms
     (first_noted c.args.log.now c.self.inside.clauses.items c.in_ok-search.search c.args.work.now c.args.atoms.now c.in_ok-search.ensures.atoms c.requires.noted
     (subst (λ (s : SatState g.row.T.Denot). HasBegun c.args.log.now c.args.atoms.now s.clauses c.args.work.now) (sym c.self.view_is) c.requires.begun) c.in_ok-search.ensures.none).trail ns levels q (subst (λ (s : SatState g.row.T.Denot). g.T.Theory.is_over s.theory ns) (sym c.self.view_is) known) asked
-    (subst (λ (s : SatState g.row.T.Denot). Stands (g.T.Theory.is_at s.theory ns) ns q c.args.work.now) (sym c.self.view_is) stands) in
-    let P : SatState g.row.T.Denot → Type 0 = λ t. Stands (g.T.Theory.is_at t.theory ns) ns q c.run-refuted.new.work in
-    elim c.if-is_none.branch [
-      | then-is_none+in_ok-self-inside w ↦ subst P (sym w.self-is) led
-      | else-is_none w ↦ subst P (sym w.self-is) led
-    ]
+    (subst (λ (s : SatState g.row.T.Denot). Stands (g.T.Theory.is_at s.theory ns) ns q c.args.work.now) (sym c.self.view_is) stands)
 
 pub returns-clause-satisfied : goal.returns-clause-satisfied
 returns-clause-satisfied g c none =
@@ -151,15 +167,7 @@ returns-clause-satisfied g c none =
     let work = c.run-refuted.new.work in
     let holds : Satisfies log held assumed atoms s work =
     subst (λ (us : List ℕ). Satisfies log held assumed us s work) c.in_ok-search.ensures.atoms (c.in_ok-refuted.ensures.satisfied none) in
-    elim c.if-is_none.branch [
-      | then-is_none+in_ok-self-inside w ↦
-          satisfied log held assumed atoms s work c.if-is_none.self (ap (λ (t : SatState g.row.T.Denot). t.clauses) w.self-is)
-          (subst (λ (t : SatState g.row.T.Denot). AreTruthsOn s.trail.entries t.truths) (sym w.self-is) w.in_ok-self-inside.ensures.truths) holds
-      | else-is_none w ↦
-          let told : is_none c.in_ok-refuted.refuted ≡ false = search rules in
-          let clash : true ≡ false = ap is_none (sym none) ∙ told in
-          cc
-    ]
+    satisfied log held assumed atoms s work _ refl (c.in_ok-self-inside.ensures.truths none) holds
 
 pub returns-clause-feasible : goal.returns-clause-feasible
 returns-clause-feasible g c none =
@@ -169,33 +177,20 @@ returns-clause-feasible g c none =
     let met = c.in_ok-refuted.ensures.steps.met none in
     let atoms = c.args.atoms.now in
     let same = holds.same ∙ c.in_ok-search.ensures.atoms in
-    let P : SatState g.row.T.Denot → Type 0 = λ t. IsTheoryMet log (g.T.Theory.has_told t.theory) (g.T.Theory.is_feasible t.theory) t atoms in
-    elim c.if-is_none.branch [
-      | then-is_none+in_ok-self-inside w ↦
-          subst P (sym w.self-is)
-          (theory_met (state_of g.T.Theory.is_over g.T.Theory.has_told g.T.Theory.is_feasible g.T.Theory.is_of g.T.Theory.is_at c.run-refuted.new.theory) log c.run-refuted.new.held.items s _ atoms holds.search same w.in_ok-self-inside.ensures.truths met)
-      | else-is_none w ↦
-          let told : is_none c.in_ok-refuted.refuted ≡ false = search rules in
-          let clash : true ≡ false = ap is_none (sym none) ∙ told in
-          cc
-    ]
+    theory_met (state_of g.T.Theory.is_over g.T.Theory.has_told g.T.Theory.is_feasible g.T.Theory.is_of g.T.Theory.is_at c.run-refuted.new.theory) log c.run-refuted.new.held.items s _ atoms holds.search same
+    (c.in_ok-self-inside.ensures.truths none) met
 
 pub returns-clause-all_told : goal.returns-clause-all_told
 returns-clause-all_told g c none =
     all_told (state_of g.T.Theory.is_over g.T.Theory.has_told g.T.Theory.is_feasible g.T.Theory.is_of g.T.Theory.is_at c.run-refuted.new.theory) c.run-refuted.new.log c.run-refuted.new.held.items
     c.args.assumed.now c.in_ok-search.search.atoms c.run-refuted.new.self c.run-refuted.new.work (c.in_ok-refuted.ensures.satisfied none) (c.in_ok-refuted.ensures.steps.met none)
 
--- Where a clause is answered, the truths were taken away before.
-pub returns-clause-no_truths : goal.returns-clause-no_truths
-returns-clause-no_truths g c =
-    elim c.if-is_none.branch [
-      | then-is_none+in_ok-self-inside w ↦
-          let none : c.in_ok-refuted.refuted ≡ None = search rules in
-          subst (λ (o : Option ℕ). IfSome o (λ id. c.if-is_none.self.truths ≡ [])) (sym none) tt
-      | else-is_none w ↦
-          let cleared : c.if-is_none.self.truths ≡ [] = ap (λ (t : SatState g.row.T.Denot). t.truths) w.self-is ∙ search rules in
-          if_some c.in_ok-refuted.refuted cleared
-    ] where
-      if_some : {P : Type 0} → (o : Option ℕ) → P → IfSome o (λ id. P)
-      if_some None h = tt
-      if_some (Some id) h = h
+-- the clauses that are held are kept
+pub invariant_of-self-2 : goal.invariant_of-self-2
+invariant_of-self-2 g c =
+    let s = c.run-refuted.new.self in
+    let log = c.run-refuted.new.log in
+    let held = c.run-refuted.new.held.items in
+    let holds : HoldsWatched log held s.propagation = run_holds log held s c.in_ok-refuted.refuted (λ none. (c.in_ok-refuted.ensures.satisfied none).search) c.in_ok-refuted.ensures.left in
+    let long : length held ≡ c.len.result = search rules in
+    subst (λ (l : LogState). IsKept l held c.rest.result) (sym c.of-2.ensures) (c.rest.ensures.kept log held long holds)

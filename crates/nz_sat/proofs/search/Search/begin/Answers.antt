@@ -12,6 +12,7 @@ use Rattle.nz_sat.specs.Theories.{state_of, told_lits}
 use Rattle.nz_sat.proofs.SearchSteps.{advances_same, ends_memory, steps_behind}
 use Rattle.nz_sat.proofs.SearchRuns.{first_advances, first_lits, first_noted, first_refuted, first_stands, refutes_assumed, runs_first}
 use Rattle.nz_sat.proofs.TheoryAnswers.{without_advances}
+use Rattle.nz_sat.proofs.KeptClauses.{left_held}
 use Rattle.nz_sat.proofs.search.Search.begin.Goals as goal
 
 pub assume_all-requires-clause-search : goal.assume_all-requires-clause-search
@@ -116,3 +117,8 @@ pub returns-clause-refuted : goal.returns-clause-refuted
 returns-clause-refuted g c =
     let a = c.in_ok-falsified.ensures.comes c.args.held.now.items c.requires.search in
     refutes_assumed c.assume_all.new.self.trail.entries c.settle.new.log c.args.assumed.now a.assumed_only c.settle.result c.settle.ensures.refuted
+
+pub returns-in-Some-clause-left : goal.returns-in-Some-clause-left
+returns-in-Some-clause-left g c =
+    let a = c.in_ok-falsified.ensures.comes c.args.held.now.items c.requires.search in
+    left_held c.args.log.now c.refute.new.log c.args.held.now.items c.assume_all.new.self c.refute.new.self a.search c.refute.ensures.grows c.refute.ensures.rest

@@ -11,7 +11,7 @@ use Rattle.nz_sat.specs.declared.propagation.Propagation.{Propagation}
 use Rattle.nz_sat.specs.declared.search.Search.{Search}
 use Rattle.nz_sat.specs.Conflicts.{AreUnmarked}
 use Rattle.nz_log.specs.Codes.{code_of}
-use Rattle.nz_sat.specs.Sats.{AreHeld, AreOn, HoldsMore, held_of}
+use Rattle.nz_sat.specs.Sats.{AreHeld, AreOn, HoldsMore, learned_of}
 use Rattle.nz_sat.specs.Searching.{Advances, Learns}
 use Rattle.nz_sat.specs.Theories.{state_of, told_lits}
 use Rattle.nz_sat.proofs.SearchSteps.{advances_same, ends_memory, log_reaches, narrow_advances}
@@ -96,7 +96,7 @@ returns-in_err-hold-clause-advances g c =
     advances_same same
     (line_advances c.args.log.now log c.args.held.now.items s c.args.work.now c.args.falsified l before m m' c.go_back.ensures.keeps
     c.hold.new.held.items (subst (λ (hs : List Held). HoldsMore log hs c.hold.new.held.items) old c.hold.ensures.more)
-    (c.hold.ensures.held ∙ ap (λ (hs : List Held). hs ++ held_of log l.clause ∷ []) old)
+    (c.hold.ensures.held ∙ ap (λ (hs : List Held). hs ++ learned_of log l.clause ∷ []) old)
     (subst (λ (hs : List Held). AreOn log s.atoms hs → AreOn log s.atoms c.hold.new.held.items) old
     (c.hold.ensures.named s.atoms (lits_named c.args.log.now log c.args.held.now.items s c.args.work.now c.args.falsified l before)))
     c.note_learned.new.work c.in_ok-note_learned.ensures.noted (Err stop.Memory)
@@ -119,11 +119,12 @@ returns-clause-advances g c =
     let lengths : length new.seen.items ≡ length s.seen.items = ap (λ (x : Search). length x.seen.items) back ∙ search rules in
     let unmarked : AreUnmarked new.seen.items = subst (λ (x : Search). AreUnmarked x.seen.items) (sym back) (subst AreUnmarked (sym same) c.in_ok-learned_clause.ensures.unmarked) in
     let old = c.note_learned.ensures.held in
-    let all_held = c.hold.ensures.held ∙ ap (λ (hs : List Held). hs ++ held_of log l.clause ∷ []) old in
+    let all_held = c.hold.ensures.held ∙ ap (λ (hs : List Held). hs ++ learned_of log l.clause ∷ []) old in
     let told = c.in_ok-hold.ensures in
-    let holds : Holds log l.clause (watched_pair l) p q =
-    subst (λ (pair : Option (Lit × Lit)). Holds log l.clause pair p q) c.watched.ensures.watched
-    (record { watched = told.watched; has = told.has; kept = told.kept; only = told.only; lone = told.lone; no_more_lone = told.no_more_lone }) in
+    let holds : Holds log (learned_of log l.clause) (watched_pair l) p q =
+    subst (λ (one : Held). Holds log one (watched_pair l) p q) c.learned-one.ensures.held
+    (subst (λ (pair : Option (Lit × Lit)). Holds log c.learned-one.result pair p q) c.watched.ensures.watched
+    (record { watched = told.watched; has = told.has; kept = told.kept; only = told.only; lone = told.lone; no_more_lone = told.no_more_lone })) in
     let before = taught c.args.falsified c.requires.search c.requires.first c.requires.conflict c.requires.decided c.requires.noted c.learned_clause.ensures.grows c.learned_clause.ensures.sound (kept_learned c.kept-learned.ensures.same c.kept-learned.ensures.kept c.in_ok-learned_clause.ensures.learned) in
     let m = state_of g.T.Theory.is_over g.T.Theory.has_told g.T.Theory.is_feasible g.T.Theory.is_of g.T.Theory.is_at c.args.theory.now in
     let m' = state_of g.T.Theory.is_over g.T.Theory.has_told g.T.Theory.is_feasible g.T.Theory.is_of g.T.Theory.is_at c.go_back.new.theory in
@@ -154,14 +155,15 @@ returns-clause-learned g c =
     let lengths : length new.seen.items ≡ length s.seen.items = ap (λ (x : Search). length x.seen.items) back ∙ search rules in
     let unmarked : AreUnmarked new.seen.items = subst (λ (x : Search). AreUnmarked x.seen.items) (sym back) (subst AreUnmarked (sym same) c.in_ok-learned_clause.ensures.unmarked) in
     let old = c.note_learned.ensures.held in
-    let all_held = c.hold.ensures.held ∙ ap (λ (hs : List Held). hs ++ held_of log l.clause ∷ []) old in
+    let all_held = c.hold.ensures.held ∙ ap (λ (hs : List Held). hs ++ learned_of log l.clause ∷ []) old in
     let told = c.in_ok-hold.ensures in
-    let holds : Holds log l.clause (watched_pair l) p q =
-    subst (λ (pair : Option (Lit × Lit)). Holds log l.clause pair p q) c.watched.ensures.watched
-    (record { watched = told.watched; has = told.has; kept = told.kept; only = told.only; lone = told.lone; no_more_lone = told.no_more_lone }) in
+    let holds : Holds log (learned_of log l.clause) (watched_pair l) p q =
+    subst (λ (one : Held). Holds log one (watched_pair l) p q) c.learned-one.ensures.held
+    (subst (λ (pair : Option (Lit × Lit)). Holds log c.learned-one.result pair p q) c.watched.ensures.watched
+    (record { watched = told.watched; has = told.has; kept = told.kept; only = told.only; lone = told.lone; no_more_lone = told.no_more_lone })) in
     let before = taught c.args.falsified c.requires.search c.requires.first c.requires.conflict c.requires.decided c.requires.noted c.learned_clause.ensures.grows c.learned_clause.ensures.sound (kept_learned c.kept-learned.ensures.same c.kept-learned.ensures.kept c.in_ok-learned_clause.ensures.learned) in
     let there = learned c.args.log.now log c.args.held.now.items s c.args.work.now c.args.falsified l before
     new (ap (λ (x : Search). x.atoms) back) c.go_back.ensures.size c.go_back.ensures.entries c.go_back.ensures.bounds p c.go_back.ensures.looked holds lengths unmarked
     (subst (AreHeld log) all_held c.hold.ensures.more.held) c.go_back.ensures.order c.in_ok-note_learned.ensures.free in
     subst (λ (hs : List Held). Learns log hs s new c.args.work.now c.note_learned.new.work) (sym all_held)
-    (subst (λ (w : WorkList Note). Learns log (c.args.held.now.items ++ held_of log l.clause ∷ []) s new c.args.work.now w) (sym c.in_ok-note_learned.ensures.noted) there)
+    (subst (λ (w : WorkList Note). Learns log (c.args.held.now.items ++ learned_of log l.clause ∷ []) s new c.args.work.now w) (sym c.in_ok-note_learned.ensures.noted) there)

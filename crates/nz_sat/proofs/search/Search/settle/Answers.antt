@@ -10,6 +10,7 @@ use Rattle.nz_sat.proofs.SearchSteps.{advances_same, reaches_cut, steps_same}
 use Rattle.nz_sat.proofs.TheoryAnswers.{back_falsified, back_refuted, ends_without, goes_back, settles_first, settles_on, settles_open, settling_reaches, steps_on}
 use Rattle.nz_sat.proofs.Levels.{below_front}
 use Rattle.nz_sat.proofs.SearchLines.{adds_limit}
+use Rattle.nz_sat.proofs.KeptClauses.{left_held}
 use Rattle.nz_sat.proofs.search.Search.settle.Goals as goal
 
 pub returns-in_err-conflict-clause-steps : goal.returns-in_err-conflict-clause-steps
@@ -143,3 +144,8 @@ pub returns-clause-settled : goal.returns-clause-settled
 returns-clause-settled g c none =
     let open_all : c.loop-conflict.conflict ≡ None = search rules in
     settles_open c.loop-conflict.invariant open_all
+
+pub returns-then-back_to-eq0-clause-left : goal.returns-then-back_to-eq0-clause-left
+returns-then-back_to-eq0-clause-left g c =
+    let b = goes_back c.loop-conflict.invariant c.in-Some.is c.back_to.ensures.rest c.back_to.ensures.size c.back_to.ensures.back c.back_to.ensures.looked c.back_to.ensures.bounds in
+    left_held c.loop-conflict.log c.refute.new.log c.loop-conflict.held.items c.back_to.new.self c.refute.new.self b.search c.refute.ensures.grows c.refute.ensures.rest

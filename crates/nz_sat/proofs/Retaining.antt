@@ -1,12 +1,9 @@
--- What the closure tests.
-use Rattle.std.proofs.Common.{◌≡◌, Bool, true, false, if◌then◌else◌, List, [], ◌∷◌, length, refl, ap, subst, ◌∙◌, arith, rules, filter, nat_le}
+-- What is left of a list where a closure tests each element.
+use Rattle.std.proofs.Common.{◌≡◌, Bool, true, false, if◌then◌else◌, List, [], ◌∷◌, length, refl, ap, subst, ◌∙◌, arith, filter}
 use Rattle.std.specs.List.{items_where_true}
 use Rattle.std.specs.List.Retain.{IsFiltered, ReturnsInTurn}
-use Rattle.nz_sat.specs.declared.clauses.Held.{Held}
-use Rattle.nz_sat.specs.Sats.{SatState, held_up_to}
-use Rattle.nz_sat.proofs.sat.Sat.cut.Goals as goal
 
--- what is left where a closure that stays the same tests each element
+-- where the closure stays the same
 module _ {X F : Type 0} (R : F → X → Bool → F → Type 0) (test : X → Bool) (f : F) (h : (x : X) (b : Bool) (g : F) → R f x b g → (b ≡ test x) × (g ≡ f)) where
   kept_by : (bs : List Bool) (xs : List X) (q : F) → length bs ≡ length xs → ReturnsInTurn R f bs xs q → items_where_true bs xs ≡ filter test xs
   kept_by [] [] q long t = refl
@@ -21,11 +18,5 @@ module _ {X F : Type 0} (R : F → X → Bool → F → Type 0) (test : X → Bo
       kept_by bs xs q (omega arith) (subst (λ (y : F). ReturnsInTurn R y bs xs q) one.1 t.2)
       ∙ ap (λ (b : Bool). if b then x ∷ filter test xs else filter test xs) one.0
 
-  retained : (xs ys : List X) → IsFiltered R f xs ys → ys ≡ filter test xs
+  pub retained : (xs ys : List X) → IsFiltered R f xs ys → ys ≡ filter test xs
   retained xs ys k = k.4 ∙ kept_by k.0 xs k.1 k.2 k.3
-
-pub returns-clause-clauses : goal.returns-clause-clauses
-returns-clause-clauses g c =
-    retained _ (λ (h : Held). nat_le h.level c.args.level) _ (λ x b f k. (search rules, search rules)) c.self.inside.clauses.items c.retain.new.self.items
-    c.retain.ensures.filtered
-    ∙ ap (λ (s : SatState g.row.T.Denot). held_up_to c.args.level s.clauses) c.self.view_is
