@@ -1,7 +1,7 @@
 -- A check over the theory that is kept: a search may begin with it, and a later one with what this one leaves.
 use Rattle.std.proofs.Common.{◌≡◌, ◌⊎◌, inl, inr, ℕ, Bool, true, false, List, [], ◌∷◌, ◌++◌, append-nil, map, get_or, Result, Ok, Err, IfOk, refl, sym, subst, ◌∙◌, arith}
 use Rattle.std.specs.Prelude.{All, Contains}
-use Rattle.std.proofs.lemmas.List.Elements.{All-contains, All-from_recursion, All-map, All-weaker, Contains-append_right, recursion_from_All}
+use Rattle.std.proofs.lemmas.List.Elements.{All-cons, All-contains, All-from_recursion, All-head, All-map, All-tail, All-weaker, Contains-append_right, recursion_from_All}
 use Rattle.std.specs.List.{AllByRecursion}
 use Rattle.nz_lists.proofs.Elements.{AllByRecursion-map, AllByRecursion-weaker}
 use Rattle.nz_spec.specs.clauses.Goals.{compared}
@@ -119,6 +119,15 @@ left_on_terms ls ms on has k d below =
     let P = λ (l : Literal). IsOnTerm l → Contains (those_on_terms ls) l in
     All-contains P ls (get_or ms k d) (All-from_recursion P ls (each_left ls)) (has k d below) (on k d below)
 
+-- what holds of each literal holds of those on terms
+each_on_terms : (P : Literal → Type 0) (ls : List Literal) → All P ls → All P (those_on_terms ls)
+each_on_terms P [] h = h
+each_on_terms P (term_literal t sign ∷ ls) h =
+    let l = term_literal t sign in
+    All-cons P l (those_on_terms ls) (All-head P l ls h) (each_on_terms P ls (All-tail P l ls h))
+each_on_terms P (is_at_most ps b ∷ ls) h = each_on_terms P ls (All-tail P (is_at_most ps b) ls h)
+each_on_terms P (is_below ps b ∷ ls) h = each_on_terms P ls (All-tail P (is_below ps b) ls h)
+
 -- a later search may begin with the theory, where a list is under way without its goals
 pub begins_after : TheoriesRestart → (ns : List Node) (levels : List Level) (q : Task) (work : WorkList Note) (p : PreparedState) → IsUnderWay ns levels (without_goals q) work p
     → MayRestart p.sat.theory ns (terms_known q)
@@ -198,7 +207,7 @@ terms_assumed ns assumed = All-map IsOnTerm (literal_of ns) assumed (λ k d belo
 pub may_search : {ns : List Node} {levels : List Level} {assumed : List TermLit} {q : Task} {work : WorkList Note} {k : Retained} {p : PreparedState} → MayGoOnFrom ns levels assumed q work k
     → IsPosed ns levels assumed p → AreCoveredAmong ns p q.listed → IsFrom ns levels q work p → MaySearch ns levels assumed q work p
 may_search may posed covered from =
-    record { posed = posed; asserted = may.asked.goes_on.asserted; numbering = may.asked.goes_on.numbering; under = assumed_of may.asked may.from; covered = covered; from = from }
+    record { posed = posed; asserted = may.asked.goes_on.asserted; numbering = may.asked.goes_on.numbering; under = assumed_of may.asked may.from; no_others = may.asked.no_others; covered = covered; from = from }
 
 pub may_search_alone : {ns : List Node} {levels : List Level} {assumed : List TermLit} {q : Task} {work : WorkList Note} {k : Retained} {p : PreparedState} → MayGoOnFrom ns levels assumed q work k
     → IsPosed ns levels assumed p → AreCoveredAmong ns p q.listed → IsFrom ns levels (without_goals q) work p → MaySearch ns levels assumed (without_goals q) work p
@@ -208,6 +217,7 @@ may_search_alone {ns} {levels} {assumed} {q} {work} {k} {p} may posed covered fr
       asserted = may.asked.goes_on.asserted;
       numbering = may.asked.goes_on.numbering;
       under = left_on_terms q.assumed (map (literal_of ns) assumed) (terms_assumed ns assumed) (assumed_of may.asked may.from);
+      no_others = each_on_terms (Contains (map (literal_of ns) assumed)) q.assumed may.asked.no_others;
       covered = covered;
       from = from;
     }

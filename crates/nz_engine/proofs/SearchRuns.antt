@@ -135,11 +135,11 @@ module _ {ns : List Node} {assumed : List TermLit} {first : ℕ} {old p : Prepar
         (λ levels posed.
         parts_named b.laws.node (b.ready.posed levels posed) b.ready.handed (search_after ns after) ((stays ns).atoms ∙ named_as ns p.log.atoms work ids b.notes.noted))
 
-    module _ (ends : (levels : List (List ℕ)) (t : Task) → IsOver p.sat.theory ns → IsAsked ns levels p.log ids lits work t → Stands (IsAt p.sat.theory ns) ns t work → Ends (IsAt new.theory ns) ns t after result) where
+    module _ (ends : (levels : List (List ℕ)) (t : Task) → IsOver p.sat.theory ns → IsAsked ns levels p.log p.sat.clauses ids lits work t → Stands (IsAt p.sat.theory ns) ns t work → Ends (IsAt new.theory ns) ns t after result) where
       search_ends : (levels : List Level) (t : Task) → MaySearch ns levels assumed t before old → Ends (IsAt new.theory ns) ns t after result
       search_ends levels t may =
           let begun = b.ready.posed levels may.posed in
-          ends (asserted_by_level levels) t begun.over (is_asked b.laws.rows b.laws.atoms begun b.ready.handed t work may.asserted (b.notes.under ns).under) (b.stands levels t may)
+          ends (asserted_by_level levels) t begun.over (is_asked b.laws.rows b.laws.atoms begun b.ready.handed b.laws.tells t work may.asserted may.no_others (b.notes.under ns).under) (b.stands levels t may)
 
       pub search_stopped : IfErr result (λ e. (levels : List Level) (t : Task) → MaySearch ns levels assumed t before old → EndsWith ns t after e)
       search_stopped = each_stopped ns (λ levels t. MaySearch ns levels assumed t before old) after new.theory result search_ends

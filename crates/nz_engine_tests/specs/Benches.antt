@@ -63,15 +63,15 @@ pub record IsNew (ns : List Node) (engine : EngineState) : Type 0 where
 abbrev pub HasRoomFor : ℕ → Task → Search → Type 0
 HasRoomFor more q s = s.begun + more ≤ 4 * (length s.found + length q.goals) + 1
 
--- A task that is asked under each of these lists of literals and has room for so many searches more, and with which the engine may go on.
-pub record IsCourse (ns : List Node) (engine : EngineState) (work : WorkList Note) (asks : List (List TermLit)) (more : ℕ) : Type 0 where
+-- A task that is asked under these literals and has room for so many searches more, and with which the engine may go on.
+pub record IsCourse (ns : List Node) (engine : EngineState) (assumed : List TermLit) (work : WorkList Note) (more : ℕ) : Type 0 where
   pub task : Task
-  pub asked : AllByRecursion (λ (assumed : List TermLit). IsAskedOf ns engine.levels assumed task) asks
+  pub asked : IsAskedOf ns engine.levels assumed task
   pub few : AreFew task (search_after ns work)
   pub room : HasRoomFor more task (search_after ns work)
   pub stands : StandsAt engine ns task work
 
--- The engine is ready, and with the list checks may go on under any literals: goals, which no check reads, make room for them.
-pub record IsGoing (ns : List Node) (engine : EngineState) (work : WorkList Note) : Type 0 where
+-- The engine is ready, and with the list checks may go on under these literals: goals, which no check reads, make room for them.
+pub record IsGoing (ns : List Node) (engine : EngineState) (assumed : List TermLit) (work : WorkList Note) : Type 0 where
   pub ready : IsReady ns engine
-  pub course : (asks : List (List TermLit)) (more : ℕ) → IsCourse ns engine work asks more
+  pub course : (more : ℕ) → IsCourse ns engine assumed work more

@@ -171,19 +171,13 @@ impl Bench {
         ask(self.alloc, &self.terms, &mut self.engine, assumed, units)
     }
 
-    /// Asks a new engine, to which these terms are added, three times, each time under one list of literals, and goes on with one list of work, which has
-    /// enough units. Where a check has no answer, that is told as want of memory.
-    pub fn check_each(
-        &mut self,
-        added: &[TermId],
-        first: &[TermLit],
-        second: &[TermLit],
-        third: &[TermLit],
-    ) -> Result<Chain, Memory> {
+    /// Asks a new engine, to which these terms are added, three times under these literals, and goes on with one list of work, which has enough units. Where
+    /// a check has no answer, that is told as want of memory.
+    pub fn check_again(&mut self, added: &[TermId], assumed: &[TermLit]) -> Result<Chain, Memory> {
         self.complete()?;
         need_taken(&self.terms)?;
         let mut engine = engine_with(self.alloc, &self.terms, added)?;
-        ask_each(self.alloc, &self.terms, &mut engine, first, second, third)
+        ask_again(self.alloc, &self.terms, &mut engine, assumed)
     }
 }
 
@@ -213,10 +207,15 @@ fn engine_with(alloc: Global, terms: &Terms, added: &[TermId]) -> Result<Engine,
     Ok(engine)
 }
 
-/// A list of work with enough units, for the checks of a new engine.
-fn begun_list(alloc: Global, terms: &Terms, engine: &Engine) -> Result<Work<Note>, Memory>
+/// A list of work with enough units, for the checks of a new engine under these literals.
+fn begun_list(
+    alloc: Global,
+    terms: &Terms,
+    engine: &Engine,
+    assumed: &[TermLit],
+) -> Result<Work<Note>, Memory>
     requires is_new { IsNew terms.now engine.now }
-    ensures going { IfOk result (IsGoing terms.now engine.now) }
+    ensures going { IfOk result (IsGoing terms.now engine.now assumed.now) }
 {
     checks_may_start();
     let mut work = Work::new(alloc)?;
@@ -298,10 +297,10 @@ fn ask_on(
     assumed: &[TermLit],
     work: &mut Work<Note>,
 ) -> Result<Answer, Memory>
-    requires going { IsGoing terms.now engine.old work.old }
+    requires going { IsGoing terms.now engine.old assumed.now work.old }
     requires companions { HasCompanions terms.now }
     requires taken { AreTaken terms.now (length terms.now) }
-    ensures going { OnOk result (IsGoing terms.now engine.new work.new) }
+    ensures going { OnOk result (IsGoing terms.now engine.new assumed.now work.new) }
 {
     if !name_formulas(terms, assumed) || !are_consistent(assumed) {
         return Err(Memory);
@@ -313,43 +312,39 @@ fn ask_on(
     }
 }
 
-/// What a new engine answers under each of these lists of literals, with one list of work.
-fn ask_each(
+/// What a new engine answers three times under these literals, with one list of work.
+fn ask_again(
     alloc: Global,
     terms: &Terms,
     engine: &mut Engine,
-    first: &[TermLit],
-    second: &[TermLit],
-    third: &[TermLit],
+    assumed: &[TermLit],
 ) -> Result<Chain, Memory>
     requires is_new { IsNew terms.now engine.old }
     requires companions { HasCompanions terms.now }
     requires taken { AreTaken terms.now (length terms.now) }
 {
-    let mut work = begun_list(alloc, terms, engine)?;
-    let answers = ask_three(terms, engine, first, second, third, &mut work)?;
+    let mut work = begun_list(alloc, terms, engine, assumed)?;
+    let answers = ask_three(terms, engine, assumed, &mut work)?;
     Ok(Chain {
         answers,
         lines: lines_of(alloc, &work)?,
     })
 }
 
-/// What an engine answers under each of these, from where a list of work leads.
+/// What an engine answers three times under these, from where a list of work leads.
 fn ask_three(
     terms: &Terms,
     engine: &mut Engine,
-    first: &[TermLit],
-    second: &[TermLit],
-    third: &[TermLit],
+    assumed: &[TermLit],
     work: &mut Work<Note>,
 ) -> Result<[Answer; 3], Memory>
-    requires going { IsGoing terms.now engine.old work.old }
+    requires going { IsGoing terms.now engine.old assumed.now work.old }
     requires companions { HasCompanions terms.now }
     requires taken { AreTaken terms.now (length terms.now) }
 {
-    let first = ask_on(terms, engine, first, work)?;
-    let second = ask_on(terms, engine, second, work)?;
-    let third = ask_on(terms, engine, third, work)?;
+    let first = ask_on(terms, engine, assumed, work)?;
+    let second = ask_on(terms, engine, assumed, work)?;
+    let third = ask_on(terms, engine, assumed, work)?;
     Ok([first, second, third])
 }
 

@@ -6,12 +6,10 @@ use crate::trial::{Trial, Tried, what_came};
 use std::alloc::Global;
 use std::test::Fail;
 
-/// What is added, what three checks of one list are asked, and what comes of them.
+/// What is added, under what three checks of one list are asked, and what comes of them.
 struct Case {
     added: &'static [&'static [Part]],
-    first: &'static [&'static [Part]],
-    second: &'static [&'static [Part]],
-    third: &'static [&'static [Part]],
+    assumed: &'static [&'static [Part]],
     answers: [Tried; 3],
     lines: Counted,
 }
@@ -29,7 +27,7 @@ fn run(alloc: Global, case: &Case) -> Result<(), Fail> {
     for formula in case.added {
         trial.add(formula)?;
     }
-    let chain = trial.ask_each(case.first, case.second, case.third)?;
+    let chain = trial.ask_again(case.assumed)?;
     let [first, second, third] = chain.answers;
     let answers = [what_came(first)?, what_came(second)?, what_came(third)?];
     if answers != case.answers || chain.lines != case.lines {
@@ -41,7 +39,7 @@ fn run(alloc: Global, case: &Case) -> Result<(), Fail> {
     Ok(())
 }
 
-// Under the third constant nothing is left for the last two; a decision of one of them shows it. What the second check assumes is named for it.
+// Under the third constant nothing is left for the last two; a decision of one of them shows it, once for all checks.
 const TRUTHS: Case = Case {
     added: &[
         &[Atom(0), Atom(1), Or(2)],
@@ -50,16 +48,14 @@ const TRUTHS: Case = Case {
         &[Atom(2), Not, Atom(3), Atom(4), Not, Or(3)],
         &[Atom(2), Not, Atom(3), Not, Atom(4), Not, Or(3)],
     ],
-    first: &[&[Atom(0)]],
-    second: &[&[Atom(0), Not], &[Atom(0), Atom(3), Xor]],
-    third: &[&[Atom(2)]],
-    answers: [Tried::Sat, Tried::Sat, Tried::Unsat],
+    assumed: &[&[Atom(2)]],
+    answers: [Tried::Unsat, Tried::Unsat, Tried::Unsat],
     lines: Counted {
         starts: 1,
         searches: 3,
-        atoms: 14,
+        atoms: 13,
         twice: 0,
-        learned: 2,
+        learned: 1,
         forms: 0,
     },
 };
@@ -69,17 +65,20 @@ fn test_a_list_goes_on_from_check_to_check(rt: HostRuntime) -> Result<(), Fail> 
     run(rt.alloc(), &TRUTHS)
 }
 
-// The bounds that a later check assumes are named for it, and their sums join.
+// The bounds and the truths that the first check assumes are named for it, and their sums join; the later ones name no more.
 const BOUNDS: Case = Case {
     added: &[&[Real(0), Real(1), Less], &[Real(1), Tenths(30), AtMost]],
-    first: &[&[Tenths(10), Real(0), AtMost]],
-    second: &[&[Real(0), Real(2), Sum(2), Tenths(5), AtMost]],
-    third: &[&[Tenths(35), Real(0), AtMost]],
-    answers: [Tried::Sat, Tried::Sat, Tried::Unsat],
+    assumed: &[
+        &[Atom(0), Not],
+        &[Atom(0), Atom(3), Xor],
+        &[Tenths(10), Real(0), AtMost],
+        &[Real(0), Real(2), Sum(2), Tenths(5), AtMost],
+    ],
+    answers: [Tried::Sat, Tried::Sat, Tried::Sat],
     lines: Counted {
         starts: 1,
         searches: 3,
-        atoms: 5,
+        atoms: 7,
         twice: 0,
         learned: 0,
         forms: 1,
@@ -87,16 +86,14 @@ const BOUNDS: Case = Case {
 };
 
 #[test]
-fn test_sums_join_a_list_that_goes_on(rt: HostRuntime) -> Result<(), Fail> {
+fn test_a_list_over_sums_goes_on(rt: HostRuntime) -> Result<(), Fail> {
     run(rt.alloc(), &BOUNDS)
 }
 
 // What a number is made of is named and has its clauses, though nothing is asserted: its condition is an atom, and a sum joins.
 const NUMBERS: Case = Case {
     added: &[&[Atom(0), Real(0), Real(0), Tenths(10), Sum(2), Choose]],
-    first: &[],
-    second: &[&[Atom(0)]],
-    third: &[&[Atom(0), Not]],
+    assumed: &[],
     answers: [Tried::Sat, Tried::Sat, Tried::Sat],
     lines: Counted {
         starts: 1,

@@ -110,18 +110,11 @@ impl Trial {
         self.ask(assumed, 1000)
     }
 
-    /// Asks a new engine so three times, each time under one list of formulas, and goes on with one list of work.
-    pub fn ask_each(
-        &mut self,
-        first: &[&'static [Part]],
-        second: &[&'static [Part]],
-        third: &[&'static [Part]],
-    ) -> Result<Chain, Fail> {
-        let first = literals_of(self.alloc, &mut self.bench, first)?.ok_or("no formulas")?;
-        let second = literals_of(self.alloc, &mut self.bench, second)?.ok_or("no formulas")?;
-        let third = literals_of(self.alloc, &mut self.bench, third)?.ok_or("no formulas")?;
+    /// Asks a new engine so three times, and goes on with one list of work.
+    pub fn ask_again(&mut self, assumed: &[&'static [Part]]) -> Result<Chain, Fail> {
+        let literals = literals_of(self.alloc, &mut self.bench, assumed)?.ok_or("no formulas")?;
         let added = terms_of(self.alloc, &mut self.bench, &self.added)?;
-        Ok(self.bench.check_each(&added, &first, &second, &third)?)
+        Ok(self.bench.check_again(&added, &literals)?)
     }
 
     /// Asks so with enough units, and fails where an engine that was asked nothing before answers otherwise.

@@ -408,9 +408,9 @@ impl Search {
         )?
         .kept(self.restarts.conflict());
         self.note_learned(log, held, work, learned)?;
-        hold(log, held, learned.clause);
+        hold(log, held, learned.clause, learned.glue);
         self.go_back(theory, learned);
-        let one = Held::learned(log, learned.clause);
+        let one = Held::learned(log, learned.clause, learned.glue);
         self.propagation.hold(log, one, learned.watched())?;
         Ok(())
     }
@@ -447,16 +447,16 @@ impl Search {
     }
 }
 
-/// Adds a learned clause of the log to those that are held, which have room for it.
-fn hold(log: &Log, held: &mut Vec<Held>, id: ClauseId)
+/// Adds a learned clause of the log, with literals of so many levels, to those that are held, which have room for it.
+fn hold(log: &Log, held: &mut Vec<Held>, id: ClauseId, glue: usize)
     requires live { IsLive log.now id }
     requires held { AreHeld log.now held.old.items }
     requires room { vec_len held.old < vec_capacity held.old }
     ensures more { HoldsMore log.now held.old.items held.new.items }
-    ensures held { held.new.items ≡ held.old.items ++ learned_of log.now id ∷ [] }
+    ensures held { held.new.items ≡ held.old.items ++ learned_of log.now id glue ∷ [] }
     ensures named { (atoms : List ℕ) → All (λ l. Contains atoms l.atom) (literals_at log.now id) → AreOn log.now atoms held.old.items → AreOn log.now atoms held.new.items }
 {
-    held.push(Held::learned(log, id)).unwrap();
+    held.push(Held::learned(log, id, glue)).unwrap();
 }
 
 /// Two different ones of these literals, the first two, where there are any.

@@ -14,6 +14,7 @@ use Rattle.nz_fractions.proofs.Order.{lt_from, fraction_eq-same}
 use Rattle.nz_spec.specs.numbers.Infinitesimal.{Infinitesimal, ◌=δ◌, infinitesimal_cmp}
 use Rattle.nz_spec.specs.numbers.Computation.{Computation, at_once, in_turn}
 use Rattle.nz_spec.specs.terms.Term.{Assignment, is_true, value_of, decimal_number, Term}
+use Rattle.nz_spec.specs.terms.Normal.{negated}
 use Rattle.nz_spec.specs.terms.Form.{Part}
 use Rattle.nz_spec.specs.terms.Model.{IsAssignment, IsModel}
 use Rattle.nz_spec.specs.clauses.Literal.{Literal, StandOnce, is_below, Clause, negation_of, SayTheSame, is_literal_true}
@@ -28,13 +29,13 @@ use Rattle.nz_spec.specs.simplex.LiteralBounds.{turned, joined, moved_by}
 use Rattle.nz_spec.specs.search.Branches.{Branch, branch_at}
 use Rattle.nz_spec.specs.search.Work.{DecisionEntry, PivotEntry, BranchEntry, UnitLine, NoteLine}
 use Rattle.nz_spec.specs.search.Notes.{atom_note}
-use Rattle.nz_spec.specs.search.Search.{Task, Search, at_first, no_point, position_of, HasWorth, Found}
+use Rattle.nz_spec.specs.search.Search.{Task, literals_asked, signed_literal, Search, at_first, no_point, position_of, HasWorth, Found}
 use Rattle.nz_spec.specs.search.Legal.{after_lines, MayFollow, Lead, AreSpread}
 use Rattle.nz_spec.specs.search.Atoms.{IsTruth, IsBoundOf, of_term, of_table, IsTabled, IsBroken, HasUnit, WasTold, LiesBetween, MayBranch, of_split, of_branch, on_unit, branch_by}
 use Rattle.nz_spec.specs.search.Beginnings.{IsComparison}
 use Rattle.nz_spec.specs.worked.TermSamples.{a_term, x_term, alone, numeral_term, real_of}
-use Rattle.nz_spec.specs.worked.WorkedSteps.{a_true}
-use Rattle.nz_spec.specs.worked.WorkedWork.{boolean_task, boolean_lines, HasSearches, HasSpentUnits, half_term, x_from_half, branch_task, opening, lines_to_half, branching_lines, one_term, x_up_to_one, HasBranch, HasRefusals}
+use Rattle.nz_spec.specs.worked.WorkedSteps.{a_true, a_false}
+use Rattle.nz_spec.specs.worked.WorkedWork.{not_a_true, boolean_task, boolean_lines, HasSearches, HasSpentUnits, half_term, x_from_half, branch_task, opening, lines_to_half, branching_lines, one_term, x_up_to_one, HasBranch, HasRefusals}
 use Rattle.nz_spec.specs.worked.WorkedArithmetic.{sample_order, part, one_half, x_up_to_zero, x_from_one}
 use Rattle.nz_spec.proofs.SameSums.{say_itself, say_limits, broken_below}
 use Rattle.nz_spec.proofs.LinkTruths.{links_are_true}
@@ -77,7 +78,19 @@ once_alone x (suc i) j y at_i at_j = cc
 -- ---- Two searches over a Boolean constant
 
 a_is_truth : IsTruth boolean_task.listed a_true
-a_is_truth = record { term = a_term; boolean = refl; listed = has_first a_term (x_term ∷ []); is = refl }
+a_is_truth = record { term = a_term; boolean = refl; listed = has_first a_term (negated a_term ∷ x_term ∷ []); is = refl }
+
+-- neither sign of the atom is asserted or assumed
+not_given : (l : Literal) → (not_a_true ≡ l → ⊥) → Contains (literals_asked boolean_task) l → ⊥
+not_given l other has =
+    elim (has_cases not_a_true l (not_a_true ∷ []) has) [
+      | inl asserted ↦ other asserted
+      | inr more ↦ elim (has_cases not_a_true l [] more) [ inl assumed ↦ other assumed | inr none ↦ has_none l none ]
+    ]
+
+a_is_free : (sign : Bool) → Contains (literals_asked boolean_task) (signed_literal a_true sign) → ⊥
+a_is_free true = not_given a_true (λ same. cc)
+a_is_free false = not_given a_false (λ same. cc)
 
 or_nothing : (b : Bool) → IsTrue b → IsTrue (b || false)
 or_nothing true h = h
@@ -89,7 +102,7 @@ searches_lead =
       x,
       x,
       ([], refl),
-      (record { literals = inl (All-cons (λ (l : Literal). Contains boolean_task.assumed l ⊎ IsComparison boolean_task at_first no_point l) a_true [] (inl (has_first a_true [])) (All-nil _)); first = λ e. (refl, refl, refl) }, refl),
+      (record { literals = inl (All-cons (λ (l : Literal). Contains boolean_task.assumed l ⊎ IsComparison boolean_task at_first no_point l) not_a_true [] (inl (has_first not_a_true [])) (All-nil _)); first = λ e. (refl, refl, refl) }, refl),
       (
         x,
         x,
@@ -106,7 +119,7 @@ searches_lead =
           x,
           x,
           ([], refl),
-          (record { named = omega arith; undecided = All-nil _ }, refl),
+          (record { named = omega arith; undecided = All-nil _; free = a_is_free }, refl),
           (
             x,
             x,
@@ -114,9 +127,9 @@ searches_lead =
             (
               record {
                 fewer = omega arith;
-                dead_end = λ a may. no_contradiction (is_true (value_of a a_term)) may.model.asserted_hold.0 may.decided.0;
-                follows = λ a model. or_nothing (is_true (value_of a a_term)) model.asserted_hold.0;
-                named = All-cons (λ (p : ℕ × Bool). p.0 < 1) (0, true) [] (omega arith) (All-nil _);
+                dead_end = λ a may. no_contradiction (is_true (value_of a a_term)) may.decided.0 may.model.asserted_hold.0;
+                follows = λ a model. or_nothing (not (is_true (value_of a a_term))) model.asserted_hold.0;
+                named = All-cons (λ (p : ℕ × Bool). p.0 < 1) (0, false) [] (omega arith) (All-nil _);
                 once = once_alone 0;
                 new = All-nil _;
               },
@@ -152,7 +165,7 @@ spent_units = record {
   legal = searches;
   wanted = DecisionEntry 0 true;
   after = no_point;
-  may = (record { named = omega arith; undecided = All-nil _ }, refl);
+  may = (record { named = omega arith; undecided = All-nil _; free = a_is_free }, refl);
 }
 
 -- ---- A branch

@@ -23,7 +23,7 @@ use super::exclusions::exclude;
 use super::theory::{begin_anew, learn_on, untell};
 use nz_base::{Memory, Work};
 use nz_cform::laws::covers_stay;
-use nz_log::laws::{atoms_of_terms, logs_stay, logs_stay_leveled};
+use nz_log::laws::{atoms_of_terms, logs_stay, logs_stay_leveled, tells_lits};
 use nz_log::{ClauseId, Lit};
 use nz_reals::laws::theories_restart;
 use nz_search::{Note, Stop};
@@ -221,4 +221,5 @@ fn search_laws()
     term_of_node();
     theories_restart();
     legal_work_goes_on();
+    tells_lits();
 }

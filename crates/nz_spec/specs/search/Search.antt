@@ -41,6 +41,10 @@ terms_known q = q.earlier ++ q.listed
 abbrev pub goals_known : Task → List Goal
 goals_known q = q.earlier_goals ++ q.goals
 
+-- what is asserted and what is assumed, as literals
+abbrev pub literals_asked : Task → List Literal
+literals_asked q = map holds q.asserted ++ q.assumed
+
 -- ---- Where it stands
 
 -- a literal that the simplex was told, and behind how many decisions that was

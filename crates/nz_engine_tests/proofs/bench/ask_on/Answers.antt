@@ -1,4 +1,4 @@
-use Rattle.std.proofs.Common.{◌<◌, [], ◌∷◌, length, inr}
+use Rattle.std.proofs.Common.{◌<◌, length, inr}
 use Rattle.std.proofs.lemmas.List.Elements.{recursion_from_All}
 use Rattle.nz_term.specs.declared.term_lits.TermLit.{TermLit}
 use Rattle.nz_engine_tests.proofs.Courses.{going_after, may_check}
@@ -14,8 +14,8 @@ check-requires-clause-within c =
 
 pub check-requires-clause-from : goal.check-requires-clause-from
 check-requires-clause-from c =
-    let k = c.requires.going.course (c.args.assumed.now ∷ []) 1 in
-    inr (k.task, may_check c.args.terms.now c.args.engine.now c.args.work.now c.args.assumed.now [] 0 k, k.stands)
+    let k = c.requires.going.course 1 in
+    inr (k.task, may_check c.args.terms.now c.args.engine.now c.args.assumed.now c.args.work.now 0 k, k.stands)
 
 pub check-requires-clause-taken : goal.check-requires-clause-taken
 check-requires-clause-taken c = asserted_taken _ c.requires.taken _ c.requires.going.ready.added

@@ -7,5 +7,5 @@ use Rattle.nz_engine_tests.proofs.bench.begun_list.Goals as goal
 pub returns : goal.returns
 returns c =
     record {
-      going = going_at_start c.args.terms.now c.args.engine.now _ c.checks_may_start.ensures.start c.requires.is_new (ap (λ (w : WorkList Note). w.lines) c.in_ok-reserve.ensures.ok);
+      going = going_at_start c.args.terms.now c.args.engine.now c.args.assumed.now _ c.checks_may_start.ensures.start c.requires.is_new (ap (λ (w : WorkList Note). w.lines) c.in_ok-reserve.ensures.ok);
     }
