@@ -1,12 +1,14 @@
 //! The entries of a work list, and a list of them that is read alone.
-ghost use Rattle.std.specs.Prelude.{◌≡◌, ◌<◌, ◌↔◌, [], length, slice_get, Some, IsTrue};
+ghost use Rattle.std.specs.Prelude.{◌≡◌, ◌<◌, ◌↔◌, [], length, slice_get, Some, IfOk, IsTrue};
 
+use crate::errors::Memory;
 use std::marker::Model;
 
 /// Literals of a clause, each the number of an atom and a sign. A contract sees them as a list.
 #[derive(Debug, Drop)]
 pub struct Literals {
-    pairs: Vec<(usize, bool)>,
+    // In a box, since a line of a list has the room of the longest one.
+    pairs: Box<Vec<(usize, bool)>>,
 }
 
 impl Model for Literals {
@@ -14,10 +16,24 @@ impl Model for Literals {
 
     ghost Value = { List (ℕ × Bool) };
 
-    ghost view = { λ s. s.pairs.items };
+    ghost view = { λ s. s.pairs.value.items };
 }
 
 impl Literals {
+    /// These literals.
+    ///
+    /// # Errors
+    ///
+    /// `Memory` where there is no room for a box.
+    pub fn new(pairs: Vec<(usize, bool)>) -> Result<Literals, Memory>
+        ensures made { IfOk result (λ literals. literals ≡ pairs.items) }
+    {
+        let alloc = *pairs.allocator();
+        Ok(Literals {
+            pairs: Box::new(alloc, pairs)?,
+        })
+    }
+
     /// The literals in their order.
     pub fn as_slice(&self) -> &[(usize, bool)]
         ensures pairs { result.now ≡ self.now }
@@ -30,15 +46,7 @@ impl Literals {
         ensures pairs { result.items ≡ self }
     {
         let Literals { pairs } = self;
-        pairs
-    }
-}
-
-impl From<Vec<(usize, bool)>> for Literals {
-    ghost from_gives = { λ pairs literals. literals ≡ pairs.items };
-
-    fn from(pairs: Vec<(usize, bool)>) -> Literals {
-        Literals { pairs }
+        Box::into_inner(pairs)
     }
 }
 

@@ -27,7 +27,7 @@ use Rattle.nz_place.specs.declared.place.Site.TheVariants.{Term, Goal, Joining, 
 use Rattle.nz_search.specs.declared.stop.Stop.{Stop}
 use Rattle.nz_search.specs.declared.stop.Stop.TheVariants.{Wide, Spent, Memory}
 use Rattle.nz_term.specs.declared.term_lits.TermLit.{TermLit}
-use Rattle.nz_term.specs.TermLits.{AreOfTerms}
+use Rattle.nz_term.specs.TermLits.{AreOfTerms, literal_of}
 use Rattle.nz_search.specs.Notes.{noted_line, noted_list, AreNotedWithin}
 use Rattle.nz_place.specs.Places.{IsSiteWithin, site_of}
 use Rattle.nz_search.specs.Places.{OnWide}
@@ -174,9 +174,16 @@ module _ (ns : List Node) (levels : List Level) (assumed : List TermLit) (q : Ta
   legal_at x lead = record { point = x; lead = lead; few = few_at }
 
   -- each unit was used, and one more was wanted
-  pub spent_at : IsWanting ns q work → IsSpent work → IsSpentLegally q (noted_list ns work)
-  spent_at h spent =
-      record { spent = same_units ns work.lines ∙ spent; legal = legal_at h.point h.legal; wanted = h.wanted; after = h.after; may = h.may }
+  pub spent_at : IsWanting ns q work → IsSpent work → (search_after ns work).under ≡ map (literal_of ns) assumed → IsSpentLegally q (noted_list ns work)
+  spent_at h spent under =
+      record {
+        spent = same_units ns work.lines ∙ spent;
+        legal = legal_at h.point h.legal;
+        wanted = h.wanted;
+        after = h.after;
+        may = h.may;
+        under = λ none. subst (λ (ls : List Literal). All (Contains ls) q.assumed) (sym under) (asked.no_others none);
+      }
 
   module _ (few : unit_count work.lines ≤ work.limit) where
     within : unit_count (noted_list ns work).lines ≤ work.limit
@@ -279,10 +286,11 @@ module _ (ns : List Node) (levels : List Level) (assumed : List TermLit) (q : Ta
 
 -- a search that ended with no answer, where each unit was used
 pub spent_of : (ns : List Node) (levels : List Level) (assumed : List TermLit) (q : Task) (before work : WorkList Note) (e : Stop) → MayCheck ns levels assumed q before
-    → IsPlain q (search_after ns before) (search_after ns work) → EndsWith ns q work e → OnSpent e (IsSpent work) → OnSpent e (IsSpentLegally q (noted_list ns work))
-spent_of ns levels assumed q before work (Wide place) asked plain h spent = tt
-spent_of ns levels assumed q before work Spent asked plain h spent = spent_at ns levels assumed q before work asked plain h spent
-spent_of ns levels assumed q before work Memory asked plain h spent = tt
+    → IsPlain q (search_after ns before) (search_after ns work) → EndsWith ns q work e → OnSpent e (IsSpent work) → OnSpent e ((search_after ns work).under ≡ map (literal_of ns) assumed)
+    → OnSpent e (IsSpentLegally q (noted_list ns work))
+spent_of ns levels assumed q before work (Wide place) asked plain h spent under = tt
+spent_of ns levels assumed q before work Spent asked plain h spent under = spent_at ns levels assumed q before work asked plain h spent under
+spent_of ns levels assumed q before work Memory asked plain h spent under = tt
 
 pub root_unspent : (ns : List Node) (roots : List ℕ) (e : Stop) (P : Type 0) → IsRootStop ns roots e → OnSpent e P
 root_unspent ns roots (Wide place) P h = tt

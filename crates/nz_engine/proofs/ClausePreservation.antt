@@ -52,7 +52,7 @@ module _ (old new : LogState) (kept : Keeps old new) where
   origin_kept i live = ap (option_map (λ (e : Entry). e.origin)) (kept.clauses i live)
 
   held_kept : (i : ℕ) → IsLive old i → held_of new i ≡ held_of old i
-  held_kept i live = ap (λ n. let x : Held = record { id = i; level = n; is_learned = false } in x) (level_kept i live)
+  held_kept i live = ap (λ n. let x : Held = record { id = i; level = n; is_learned = false; glue = 0 } in x) (level_kept i live)
 
   still_held : (hs : List Held) → AreHeld old hs → AreHeld new hs
   still_held hs h =
@@ -69,6 +69,7 @@ module _ (old new : LogState) (kept : Keeps old new) where
       record {
         held = u.held;
         there = subst (λ hs. Contains hs u.held) (sym joined) (Contains-append_left p.sat.clauses more u.held u.there);
+        added = u.added;
         named = subst (λ (s : LogState). HasTerm s.atoms t) (sym is) stay.0;
         literals = ap (λ s. literals_at s u.held.id) is ∙ literals_kept u.held.id own.0 ∙ ap (λ s. literals_at s u.held.id) (sym was) ∙ u.literals
             ∙ ap (λ (s : LogState). unit_of s t) was ∙ unit ∙ ap (λ (s : LogState). unit_of s t) (sym is);
@@ -313,6 +314,7 @@ module _ (ns : List Node) (levels : List Level) (roots : List (List ℕ)) (p q :
       record {
         held = held_of q.log id;
         there = subst (λ hs. Contains hs (held_of q.log id)) (sym joined) (Contains-push p.sat.clauses (held_of q.log id));
+        added = refl;
         named = there;
         literals = ap (λ (o : Option Entry). elim o [ None ↦ [] | Some x ↦ x.literals ]) puts.made;
         behind = subst (λ m. count_in (asserted_by_level levels) m ≤ p.given) (sym same) placed.behind;
@@ -406,7 +408,7 @@ number_counted ns levels roots p t n count is placed some h =
       rows = h.rows;
       units = λ k u below at.
           let was = h.units k u below at in
-          record { held = was.held; there = was.there; named = was.named; literals = was.literals; behind = was.behind };
+          record { held = was.held; there = was.there; added = was.added; named = was.named; literals = was.literals; behind = was.behind };
       numbers = λ k u below at. elim (eqb_tells k p.numbered) [
         | inl same ↦
             let both : Some t ≡ Some u = sym (placed_in_all numbers p.numbered t n placed) ∙ ap (slice_get (asserted_numbers numbers)) (sym same.1) ∙ at in

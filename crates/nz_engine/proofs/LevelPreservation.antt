@@ -87,6 +87,7 @@ module _ (ns : List Node) (old new : List Level) (p : PreparedState) (on : GoOn 
       record {
         held = u.held;
         there = u.there;
+        added = u.added;
         named = u.named;
         literals = u.literals;
         behind = subst (λ n. n ≤ k) (sym (on.asserted.counts u.held.level (level_below (asserted_by_level old) u.held.level k p.given u.behind below within))) u.behind;
@@ -304,7 +305,7 @@ module _ (p : PreparedState) (m : ℕ) (log : LogState) (d : Drops p.log m log) 
       p.sat.clauses (λ k e inside. (held k e inside, searched k e inside))
 
 -- of clauses of which some are left each is as the search saw it
-left_since : (seen : Option LogState) (log : LogState) (old new : List Held) → All (Contains old) new → AreSameSince seen log old → AreSameSince seen log new
+pub left_since : (seen : Option LogState) (log : LogState) (old new : List Held) → All (Contains old) new → AreSameSince seen log old → AreSameSince seen log new
 left_since None log old [] only none = refl
 left_since None log old (x ∷ new) only none =
     let has : Contains [] x = subst (λ (hs : List Held). Contains hs x) none (only 0 x (omega arith)) in
@@ -320,7 +321,7 @@ module _ (ns : List Node) (levels : List Level) (roots : List (List ℕ)) (p q :
   same_entry = dropped_entry p m q.log c.log
 
   held_of_same : (i : ℕ) → IsLive p.log i → level_at p.log i ≤ m → held_of q.log i ≡ held_of p.log i
-  held_of_same i live low = ap (λ (o : Option Entry). let x : Held = record { id = i; level = elim o [ None ↦ 0 | Some e ↦ e.level ]; is_learned = false } in x) (same_entry i live low)
+  held_of_same i live low = ap (λ (o : Option Entry). let x : Held = record { id = i; level = elim o [ None ↦ 0 | Some e ↦ e.level ]; is_learned = false; glue = 0 } in x) (same_entry i live low)
 
   cut_held : AreHeld q.log q.sat.clauses
   cut_held =
@@ -460,6 +461,7 @@ module _ (ns : List Node) (levels : List Level) (roots : List (List ℕ)) (p q :
       record {
         held = u.held;
         there = c.clauses.stays u.held (kept_up_to m p.sat.clauses u.held u.there low) (subst (All (IsListedIn q.log q.form.bounds)) (sym literals) (unit_listed t named));
+        added = u.added;
         named = named;
         literals = literals;
         behind = cut_behind (λ (l : Level). l.asserted) u.held.level k (omega (arith, low)) u.behind;

@@ -27,6 +27,7 @@ pub mod SearchAtoms
 pub mod SearchEntry
 pub mod SearchRuns
 pub mod SeenClauses
+pub mod ShedClauses
 pub mod TermsByLevel
 pub mod TheoryAtoms
 pub mod UnlistedClauses

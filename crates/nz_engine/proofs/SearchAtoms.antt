@@ -1,10 +1,10 @@
 -- A search over what is prepared: its atoms, what they say, and what stays when it has learned.
-use Rattle.std.proofs.Common.{◌≡◌, inl, inr, ℕ, suc, Bool, true, false, not, List, [], ◌∷◌, ◌++◌, get_or, map, take, Option, Some, None, option_map, Result, Ok, Err, IfOk, OnOk, refl, sym, ap, subst, ◌∙◌, ◌⊎◌}
+use Rattle.std.proofs.Common.{◌≡◌, inl, inr, ℕ, suc, Bool, true, false, not, List, [], ◌∷◌, ◌++◌, get_or, map, take, Option, Some, None, option_map, Result, Ok, Err, IfOk, OnOk, refl, sym, ap, subst, ◌∙◌, ◌⊎◌, arith}
 use Rattle.std.specs.Prelude.{All, Contains, IsSome, slice_get, unwrap_or}
 use Rattle.std.specs.List.{AllByRecursion}
 use Rattle.std.proofs.lemmas.Option.{get_or_from_slice_get, slice_get_within}
 use Rattle.std.proofs.lemmas.List.Elements.{All-append, All-contains, All-contains_itself, All-from_recursion, All-head, All-map, All-tail, All-weaker, Contains-append_left, Contains-append_right, Contains-get_or}
-use Rattle.nz_lists.proofs.Members.{has_found, map_has}
+use Rattle.nz_lists.proofs.Members.{has_found, map_from, map_has}
 use Rattle.nz_lists.proofs.Elements.{AllByRecursion-weaker}
 use Rattle.nz_fractions.specs.Fraction.{Fraction, neg_ℚ}
 use Rattle.nz_fractions.proofs.Identities.{neg-back, neg-nonzero}
@@ -12,10 +12,10 @@ use Rattle.nz_spec.specs.search.Decide.{asserted_numbers, asserted_terms}
 use Rattle.nz_spec.specs.terms.Form as spec
 use Rattle.nz_spec.specs.terms.Form.{negated_part}
 use Rattle.nz_spec.specs.terms.FormOf.{number_in}
-use Rattle.nz_spec.specs.clauses.Gates.{is_boolean_term}
+use Rattle.nz_spec.specs.clauses.Gates.{holds, is_boolean_term}
 use Rattle.nz_spec.specs.search.Search.{Task, terms_known, told_literals}
 use Rattle.nz_spec.specs.search.Atoms.{IsTabled, IsTruth}
-use Rattle.nz_spec.specs.clauses.Literal.{term_literal, is_at_most, Literal}
+use Rattle.nz_spec.specs.clauses.Literal.{are_same_literal, term_literal, is_at_most, Literal}
 use Rattle.nz_spec.specs.terms.Table.{Node, IsTable, term_in}
 use Rattle.nz_spec.specs.terms.Taken.{IsTakenBoolean}
 use Rattle.nz_spec.specs.terms.Term as Term
@@ -29,15 +29,15 @@ use Rattle.nz_log.specs.declared.atoms.Atom.{Atom}
 use Rattle.nz_log.specs.declared.atoms.Atom.TheVariants.{Term, AtMost}
 use Rattle.nz_log.specs.declared.lits.Lit.{Lit}
 use Rattle.nz_term.specs.declared.term_lits.TermLit.{TermLit}
-use Rattle.nz_log.specs.Atoms.{AreAtoms, AtomsOfTerms, HasTerm, IsAtomIn, IsLitIn, IsNormal, Stay, atom_in, lit_of, literal_in, lits_of, term_place, terms_of, with_sign}
+use Rattle.nz_log.specs.Atoms.{AreAtoms, AtomsOfTerms, HasTerm, IsAtomIn, IsLitIn, IsNormal, Stay, TellsLits, atom_in, lit_of, literal_in, lits_of, term_place, terms_of, with_sign}
 use Rattle.nz_log.specs.Leveled.{AreToldAtoms, IsToldWithin, LogsStayLeveled, Names}
 use Rattle.nz_log.specs.Lits.{negated_lit}
-use Rattle.nz_log.specs.Logs.{Entry, JoinsAtoms, LogState, entry_at, literals_at, told_of}
+use Rattle.nz_log.specs.Logs.{Entry, IsLive, JoinsAtoms, LogState, entry_at, level_at, literals_at, told_of}
 use Rattle.nz_log.specs.Sound.{IsLog, LogsStay, live_at}
 use Rattle.nz_search.specs.Standing.{Ends, Stands, search_after}
 use Rattle.nz_search.specs.declared.note.Note.{Note}
 use Rattle.nz_search.specs.declared.stop.Stop.{Stop}
-use Rattle.nz_term.specs.TermLits.{AreConsistent, literal_of}
+use Rattle.nz_term.specs.TermLits.{AreConsistent, literal_of, yes}
 use Rattle.nz_log.specs.Growth as growth
 use Rattle.nz_search.specs.Asked.{AreListedIn}
 use Rattle.nz_cform.specs.Covering.{HasBound, Keeps}
@@ -52,11 +52,11 @@ use Rattle.nz_reals.specs.State.{Theory}
 use Rattle.nz_reals.specs.Sums.{AreNonzero}
 use Rattle.nz_sat.specs.Numbers.{AreNotedIn, IsAtomAt, atom_literal}
 use Rattle.nz_sat.specs.Sats as sat
-use Rattle.nz_sat.specs.Sats.{AreNamed, AreOn, IsAsked, IsSatisfied, IsTheoryMet, truth_of}
+use Rattle.nz_sat.specs.Sats.{AreNamed, AreOn, IsAsked, IsSatisfied, IsTheoryMet, StandsAlone, truth_of}
 use Rattle.nz_search.specs.Levels.{Level, added_by_level, asserted_by_level}
 use Rattle.nz_engine.specs.Checking.{AreHanded, AreLearnable, HasFound, HaveAtoms, IsLearnable, IsNonzero, IsPosed, IsReady, MayBeNamed, MayBegin, MayLearnMore, terms_named, truth_in, IsPlainAtom, AreCoveredAmong}
 use Rattle.nz_engine.specs.Preparing as prepared
-use Rattle.nz_engine.specs.Preparing.{AreJust, PreparedState, AreSearched, HoldsAlso, IsMadeOf, IsOfForm, IsPrepared, IsSearched, IsSeen, atoms_of, boolean_terms, ids_held}
+use Rattle.nz_engine.specs.Preparing.{AreJust, PreparedState, AreSearched, HoldsAlso, HoldsUnit, IsMadeOf, IsOfForm, IsPrepared, IsSearched, IsSeen, atoms_of, boolean_terms, ids_held}
 use Rattle.nz_engine.specs.SearchLaws.{RowLaws, SearchLaws}
 use Rattle.nz_engine.proofs.LevelPreservation.{some_of, some_within, still_searched}
 use Rattle.nz_engine.proofs.AtomNotes.{listed_part}
@@ -101,19 +101,22 @@ pub lit_terms_stay : (own : AtomsOfTerms) (old new : List Atom) → Stay old new
 lit_terms_stay own old new stay c has =
     All-weaker (λ (l : TermLit). HasTerm old l.term) (λ (l : TermLit). HasTerm new l.term) (λ l h. (own.keep old new stay l.term h).0) c has
 
--- what literals on terms say
-pub says : (ns : List Node) (atoms : List Atom) (c : List TermLit) → All (λ (l : TermLit). HasTerm atoms l.term) c → map (literal_in ns atoms) (lits_of atoms c) ≡ map (literal_of ns) c
-says ns atoms [] has = refl
-says ns atoms (l ∷ c) has =
-    let P : TermLit → Type 0 = λ m. HasTerm atoms m.term in
-    let first : literal_in ns atoms (lit_of atoms l) ≡ literal_of ns l =
-    ap (λ (o : Option Atom). elim o [ None ↦ term_literal (term_in ns 0) l.sign | Some a ↦ with_sign l.sign (atom_in ns a) ]) (All-head P l c has) ∙ signed (term_in ns l.term) l.sign in
-    let rest = says ns atoms c (All-tail P l c has) in
-    λ i. first i ∷ rest i
+-- what a literal on a term says
+says_one : (ns : List Node) (atoms : List Atom) (l : TermLit) → HasTerm atoms l.term → literal_in ns atoms (lit_of atoms l) ≡ literal_of ns l
+says_one ns atoms l has =
+    ap (λ (o : Option Atom). elim o [ None ↦ term_literal (term_in ns 0) l.sign | Some a ↦ with_sign l.sign (atom_in ns a) ]) has ∙ signed (term_in ns l.term) l.sign
   where
     signed : (u : Term.Term) (sign : Bool) → with_sign sign (term_literal u true) ≡ term_literal u sign
     signed u true = refl
     signed u false = refl
+
+pub says : (ns : List Node) (atoms : List Atom) (c : List TermLit) → All (λ (l : TermLit). HasTerm atoms l.term) c → map (literal_in ns atoms) (lits_of atoms c) ≡ map (literal_of ns) c
+says ns atoms [] has = refl
+says ns atoms (l ∷ c) has =
+    let P : TermLit → Type 0 = λ m. HasTerm atoms m.term in
+    let first = says_one ns atoms l (All-head P l c has) in
+    let rest = says ns atoms c (All-tail P l c has) in
+    λ i. first i ∷ rest i
 
 -- no assumed literal is the negation of another
 pub consistent_lits : (atoms : List Atom) (ls : List TermLit) → All (λ (l : TermLit). HasTerm atoms l.term) ls → AreConsistent ls → sat.AreConsistent (lits_of atoms ls)
@@ -451,8 +454,51 @@ module _ (laws : RowLaws) (own : AtomsOfTerms) {ns : List Node} {levels : List L
   pub are_consistent : AreConsistent assumed → sat.AreConsistent lits
   are_consistent apart = subst sat.AreConsistent (sym n.on_atoms) (consistent_lits p.log.atoms assumed n.there.named apart)
 
-  pub is_asked : (q : Task) (work : WorkList Note) → q.asserted ≡ asserted_terms ns (asserted_by_level levels) → (search_after ns work).under ≡ map (literal_of ns) assumed → IsAsked ns (asserted_by_level levels) p.log ids lits work q
-  is_asked q work asserted under =
+  -- literals on its atoms that say the same are one
+  said_once : TellsLits → (l m : Lit) → Contains ids l.atom → Contains ids m.atom → literal_in ns p.log.atoms l ≡ literal_in ns p.log.atoms m → l ≡ m
+  said_once tells l m has_l has_m same =
+      let within : (x : Lit) → Contains ids x.atom → IsLitIn ns p.log.atoms x =
+      λ x has. let t = All-contains (IsAtomAt ns p.log.atoms) ids x.atom ids_within has in record { atom = t.atom; at = t.at; within = t.within } in
+      let agree = tells.agree ns posed.table p.log.atoms ready.order.atoms in
+      tells.same l m
+      (sym (agree l m (within l has_l) (within m has_m)) ∙ ap (λ (x : Literal). are_same_literal x (literal_in ns p.log.atoms m)) same ∙ agree m m (within m has_m) (within m has_m)
+      ∙ tells.one m)
+
+  -- the literal of an assertion stands alone in a clause
+  unit_alone : TellsLits → (k t : ℕ) → HoldsUnit (asserted_by_level levels) p k t → (l : Lit) → Contains ids l.atom → literal_of ns (yes t) ≡ literal_in ns p.log.atoms l → StandsAlone p.log p.sat.clauses l
+  unit_alone tells k t u l has says_it =
+      let On : Lit → Type 0 = λ x. Contains ids x.atom in
+      let m = lit_of p.log.atoms (yes t) in
+      let named = All-contains (λ (h : Held). All On (literals_at p.log h.id)) p.sat.clauses u.held are_named.clauses u.there in
+      let one : m ≡ l = said_once tells m l (All-head On m [] (subst (All On) u.literals named)) has (says_one ns p.log.atoms (yes t) u.named ∙ says_it) in
+      record {
+        clause = u.held;
+        has = u.there;
+        live = (All-contains (λ (h : Held). IsLive p.log h.id × (level_at p.log h.id ≡ h.level)) p.sat.clauses u.held ready.held u.there).0;
+        alone = u.literals ∙ ap (λ (x : Lit). x ∷ []) one;
+      }
+
+  asserted_alone : TellsLits → (l : Lit) → Contains ids l.atom → Contains (map holds (asserted_terms ns (asserted_by_level levels))) (literal_in ns p.log.atoms l)
+      → StandsAlone p.log p.sat.clauses l
+  asserted_alone tells l has asserted =
+      let roots = asserted_numbers (asserted_by_level levels) in
+      let t = map_from holds (map (term_in ns) roots) (literal_in ns p.log.atoms l) asserted in
+      let r = map_from (term_in ns) roots t.0 t.1 in
+      let k = place_of roots r.0 r.1 in
+      let inside = slice_get_within roots k.0 r.0 k.1 in
+      let given = posed.all.given in
+      unit_alone tells k.0 r.0 (ready.units k.0 r.0 (omega (arith, inside, given)) k.1) l has (ap holds r.2 ∙ t.2)
+
+  -- one that says what an assumed one says is assumed
+  assumed_there : TellsLits → (l : Lit) → Contains ids l.atom → Contains (map (literal_in ns p.log.atoms) lits) (literal_in ns p.log.atoms l) → Contains lits l
+  assumed_there tells l has given =
+      let k = map_from (literal_in ns p.log.atoms) lits (literal_in ns p.log.atoms l) given in
+      let on = All-contains (λ (x : Lit). Contains ids x.atom) lits k.0 lits_among k.1 in
+      subst (Contains lits) (said_once tells k.0 l on has k.2) k.1
+
+  pub is_asked : TellsLits → (q : Task) (work : WorkList Note) → q.asserted ≡ asserted_terms ns (asserted_by_level levels)
+      → (search_after ns work).under ≡ map (literal_of ns) assumed → IsAsked ns (asserted_by_level levels) p.log p.sat.clauses ids lits work q
+  is_asked tells q work asserted under =
       record {
         table = posed.table;
         within = ids_within;
@@ -460,6 +506,8 @@ module _ (laws : RowLaws) (own : AtomsOfTerms) {ns : List Node} {levels : List L
         order = ready.order;
         asserted = asserted;
         under = under ∙ sym (says ns p.log.atoms assumed n.there.named) ∙ ap (map (literal_in ns p.log.atoms)) (sym n.on_atoms);
+        units = λ l has there. asserted_alone tells l has (subst (λ (ts : List Term.Term). Contains (map holds ts) (literal_in ns p.log.atoms l)) asserted there);
+        assumes = assumed_there tells;
       }
 
   -- ---- In a log that grows
@@ -623,7 +671,7 @@ module _ (ns : List Node) (levels : List Level) (p q : PreparedState) (log : q.l
         seen = h.seen;
         searched = h.searched;
         rows = h.rows;
-        units = λ k t below at. let u = h.units k t below at in record { held = u.held; there = u.there; named = u.named; literals = u.literals; behind = u.behind };
+        units = λ k t below at. let u = h.units k t below at in record { held = u.held; there = u.there; added = u.added; named = u.named; literals = u.literals; behind = u.behind };
         numbers = λ k t below at. let n = h.numbers k t below at in record { level = n.level; covered = n.covered; behind = n.behind };
         within = h.within;
         numbers_within = h.numbers_within;

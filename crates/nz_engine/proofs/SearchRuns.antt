@@ -10,12 +10,14 @@ use Rattle.nz_spec.specs.search.Places.{AreAllTold}
 use Rattle.nz_log.specs.declared.lits.Lit.{Lit}
 use Rattle.nz_search.specs.declared.note.Note.{Note}
 use Rattle.nz_search.specs.declared.stop.Stop.{Stop}
+use Rattle.nz_search.specs.declared.stop.Stop.TheVariants.{Wide, Spent, Memory}
 use Rattle.nz_term.specs.declared.term_lits.TermLit.{TermLit}
 use Rattle.nz_log.specs.Leveled.{AreToldAtoms}
 use Rattle.nz_log.specs.Logs.{IsLive, LogState, literals_at}
 use Rattle.nz_log.specs.Sound.{IsLog}
 use Rattle.nz_search.specs.Standing.{Ends, Stands, search_after}
-use Rattle.nz_term.specs.TermLits.{AreConsistent, AreNegations}
+use Rattle.nz_search.specs.Verdicts.{OnSpent}
+use Rattle.nz_term.specs.TermLits.{AreConsistent, AreNegations, literal_of}
 use Rattle.nz_log.specs.Growth.{Grows}
 use Rattle.nz_reals.specs.Exclusions.{HasNeighbours}
 use Rattle.nz_reals.specs.Stands.{HasTold, IsAt, IsFeasible, IsOf, IsOver}
@@ -54,6 +56,12 @@ each_stands : (ns : List Node) (May : List Level → Task → Type 0) (Is : List
     → OnOk r ((levels : List Level) (q : Task) → May levels q → Is levels q)
 each_stands ns May Is work t (Ok o) f g = λ levels q may. g levels q may (f levels q may)
 each_stands ns May Is work t (Err e) f g = tt
+
+on_spent : (P : Type 0) (r : Result (Option ℕ) Stop) → P → IfErr r (λ e. OnSpent e P)
+on_spent P (Ok o) h = tt
+on_spent P (Err (Wide place)) h = tt
+on_spent P (Err Spent) h = h
+on_spent P (Err Memory) h = tt
 
 each_stopped : (ns : List Node) (May : List Level → Task → Type 0) (work : WorkList Note) (t : Theory) (r : Result (Option ℕ) Stop)
     → ((levels : List Level) (q : Task) → May levels q → Ends (IsAt t ns) ns q work r) → IfErr r (λ e. (levels : List Level) (q : Task) → May levels q → EndsWith ns q work e)
@@ -118,6 +126,11 @@ module _ {ns : List Node} {assumed : List TermLit} {first : ℕ} {old p : Prepar
           learned = held;
         })
 
+    -- where one more unit was wanted, it goes under the assumed literals
+    pub search_under : ((ns : List Node) → IsSameSearch (search_after ns work) (search_after ns after))
+        → IfErr result (λ e. OnSpent e ((search_after ns after).under ≡ map (literal_of ns) assumed))
+    search_under stays = on_spent ((search_after ns after).under ≡ map (literal_of ns) assumed) result ((stays ns).under ∙ (b.notes.under ns).under)
+
     -- no atom more, and no search more
     pub search_plain : ((ns : List Node) → IsSameSearch (search_after ns work) (search_after ns after)) → (levels : List Level) (t : Task) → MaySearch ns levels assumed t before old
         → IsPlain t (search_after ns before) (search_after ns after)
@@ -135,11 +148,11 @@ module _ {ns : List Node} {assumed : List TermLit} {first : ℕ} {old p : Prepar
         (λ levels posed.
         parts_named b.laws.node (b.ready.posed levels posed) b.ready.handed (search_after ns after) ((stays ns).atoms ∙ named_as ns p.log.atoms work ids b.notes.noted))
 
-    module _ (ends : (levels : List (List ℕ)) (t : Task) → IsOver p.sat.theory ns → IsAsked ns levels p.log ids lits work t → Stands (IsAt p.sat.theory ns) ns t work → Ends (IsAt new.theory ns) ns t after result) where
+    module _ (ends : (levels : List (List ℕ)) (t : Task) → IsOver p.sat.theory ns → IsAsked ns levels p.log p.sat.clauses ids lits work t → Stands (IsAt p.sat.theory ns) ns t work → Ends (IsAt new.theory ns) ns t after result) where
       search_ends : (levels : List Level) (t : Task) → MaySearch ns levels assumed t before old → Ends (IsAt new.theory ns) ns t after result
       search_ends levels t may =
           let begun = b.ready.posed levels may.posed in
-          ends (asserted_by_level levels) t begun.over (is_asked b.laws.rows b.laws.atoms begun b.ready.handed t work may.asserted (b.notes.under ns).under) (b.stands levels t may)
+          ends (asserted_by_level levels) t begun.over (is_asked b.laws.rows b.laws.atoms begun b.ready.handed b.laws.tells t work may.asserted (b.notes.under ns).under) (b.stands levels t may)
 
       pub search_stopped : IfErr result (λ e. (levels : List Level) (t : Task) → MaySearch ns levels assumed t before old → EndsWith ns t after e)
       search_stopped = each_stopped ns (λ levels t. MaySearch ns levels assumed t before old) after new.theory result search_ends

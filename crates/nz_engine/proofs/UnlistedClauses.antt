@@ -1,7 +1,7 @@
 -- Clauses of which some are taken out of a list, one after another from its end.
 use Rattle.std.proofs.Common.{◌≡◌, ℕ, zero, suc, ◌<◌, ◌≤◌, inl, inr, Bool, true, false, true≢false, if◌then◌else◌, eqb-true, eq-eqb, List, [], ◌∷◌, length, get_or, refl, sym, ap, subst, ◌∙◌, arith}
 use Rattle.std.specs.Prelude.{◌==◌, All, Contains, IsSome, filter, not}
-use Rattle.std.proofs.lemmas.List.Elements.{All-contains, All-contains_itself, Contains-append_right}
+use Rattle.std.proofs.lemmas.List.Elements.{All-contains, All-contains_itself, Contains-append_right, Contains-get_or}
 use Rattle.nz_lists.proofs.Members.{has_cases, has_none}
 use Rattle.nz_log.specs.Logs.{LogState}
 use Rattle.nz_cform.specs.Listings.{ListingState, listed_at}
@@ -36,7 +36,7 @@ stood_at {X} test (x ∷ xs) k d less = step (test x) refl k less (λ i below. s
       record { place = suc was.place; behind = omega (arith, behind); inside = omega (arith, inside); same = was.same; passes = was.passes }
 
 -- and one that passes the test is left
-left_has : {X : Type 0} (test : X → Bool) (xs : List X) (x : X) → test x ≡ true → Contains xs x → Contains (filter test xs) x
+pub left_has : {X : Type 0} (test : X → Bool) (xs : List X) (x : X) → test x ≡ true → Contains xs x → Contains (filter test xs) x
 left_has test [] x is has = absurd (has_none x has)
 left_has {X} test (y ∷ xs) x is has =
     elim (has_cases y x xs has) [
@@ -50,6 +50,12 @@ left_has {X} test (y ∷ xs) x is has =
       later : (b : Bool) → Contains (filter test xs) x → Contains (if b then y ∷ filter test xs else filter test xs) x
       later true more = Contains-append_right (y ∷ []) (filter test xs) x more
       later false more = more
+
+-- what is left was there
+pub left_from : {X : Type 0} (test : X → Bool) (xs : List X) → All (Contains xs) (filter test xs)
+left_from {X} test xs k d less =
+    let was = stood_at test xs k d less in
+    subst (Contains xs) (sym was.same) (Contains-get_or xs was.place d was.inside)
 
 -- From a place on, those that have a bound which isn't listed are taken out.
 pub record IsForgotten (log : LogState) (bounds : ListingState) (old new : List Held) (place : ℕ) : Type 0 where

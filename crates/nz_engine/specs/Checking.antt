@@ -174,7 +174,7 @@ those_on_terms (spec.is_below ps b ∷ ls) = those_on_terms ls
 abbrev pub without_goals : Task → Task
 without_goals q = record q { assumed = those_on_terms q.assumed; goals = []; earlier_goals = [] }
 
--- A search under these literals may begin in the list, which was asked so.
+-- A search under these literals, which the task assumes, may begin in the list, which was asked so.
 pub record MaySearch (ns : List Node) (levels : List Level) (assumed : List TermLit) (q : Task) (work : WorkList Note) (p : PreparedState) : Type 0 where
   pub posed : IsPosed ns levels assumed p
   pub asserted : q.asserted ≡ asserted_terms ns (asserted_by_level levels)

@@ -107,10 +107,11 @@ pub record IsMadeOf (ns : List Node) (roots : List ℕ) (t : ℕ) : Type 0 where
   pub within : root < length ns
   pub part : Contains (listing_order (term_in ns root)) (term_in ns t)
 
--- The search holds that a term is true, by a clause of a level below which no more than so many assertions stand.
+-- The search holds that a term is true, by a clause that was added, of a level below which no more than so many assertions stand.
 pub record HoldsUnit (levels : List (List ℕ)) (p : PreparedState) (k t : ℕ) : Type 0 where
   pub held : Held
   pub there : Contains p.sat.clauses held
+  pub added : held.is_learned ≡ false
   pub named : HasTerm p.log.atoms t
   pub literals : literals_at p.log held.id ≡ unit_of p.log t
   pub behind : count_in levels held.level ≤ k

@@ -109,7 +109,7 @@ pub fn lowered(kept: Retained, levels: &Levels) -> Retained
     }
 }
 
-/// What is prepared for these levels, or nothing yet.
+/// What is prepared for these levels, without learned clauses that serve least where they are many, or nothing yet.
 fn begun(alloc: Global, kept: Retained, levels: &Levels) -> Result<Prepared, Memory>
     requires kept { (ns : List Node) × IsKept ns levels.now kept }
     ensures stands { IfOk result (λ p. (front ns : List Node) → IsFrontOfTable front ns → IsKept front levels.now kept → IsPrepared ns levels.now (added_by_level levels.now) p) }
@@ -120,7 +120,10 @@ fn begun(alloc: Global, kept: Retained, levels: &Levels) -> Result<Prepared, Mem
     logs_stay_leveled();
     term_stays();
     match lowered(kept, levels) {
-        Retained::Prepared(prepared) => Ok(prepared),
+        Retained::Prepared(mut prepared) => {
+            prepared.shed();
+            Ok(prepared)
+        }
         Retained::Theory(theory) => Prepared::new(alloc, theory),
     }
 }

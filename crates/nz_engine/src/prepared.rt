@@ -13,6 +13,7 @@ pub mod atoms;
 mod exclusions;
 mod listed;
 mod search;
+mod shedding;
 mod theory;
 mod values;
 

@@ -39,10 +39,10 @@ module _ (ns : List Node) (levels : List Level) where
   assumed_for (a ∷ asks) = map (literal_of ns) a ++ assumed_for asks
 
   each_asked : (asks : List (List TermLit)) (q : Task) → q.asserted ≡ asserted_terms ns (asserted_by_level levels) → q.numbering ≡ number_in ns
-      → ((t : spec.Term) → Contains (listed_for asks) t → Contains q.listed t) → ((l : Literal) → Contains (assumed_for asks) l → Contains q.assumed l)
+      → ((t : spec.Term) → Contains (listed_for asks) t → Contains q.listed t) → ((l : Literal) → Contains (assumed_for asks) l → Contains q.assumed l) → (q.goals ≡ [] → ⊥)
       → AllByRecursion (λ (assumed : List TermLit). IsAskedOf ns levels assumed q) asks
-  each_asked [] q asserted numbering listed assumed = tt
-  each_asked (a ∷ asks) q asserted numbering listed assumed =
+  each_asked [] q asserted numbering listed assumed goals = tt
+  each_asked (a ∷ asks) q asserted numbering listed assumed goals =
       let named = flat_map listing_order (asserted_terms ns (added_by_level levels) ++ map (λ (l : TermLit). term_in ns l.term) a) in
       let literals = map (literal_of ns) a in (
         record {
@@ -50,8 +50,9 @@ module _ (ns : List Node) (levels : List Level) where
           numbering = numbering;
           listed = λ t has. listed t (Contains-append_left named (listed_for asks) t has);
           assumed_of = λ k d below. assumed _ (Contains-append_left literals (assumed_for asks) _ (All-contains_itself literals k d below));
+          no_others = λ none. absurd (goals none);
         },
-        each_asked asks q asserted numbering (λ t has. listed t (Contains-append_right named (listed_for asks) t has)) (λ l has. assumed l (Contains-append_right literals (assumed_for asks) l has)),
+        each_asked asks q asserted numbering (λ t has. listed t (Contains-append_right named (listed_for asks) t has)) (λ l has. assumed l (Contains-append_right literals (assumed_for asks) l has)) goals,
       )
 
   abbrev some_goal : Goal
@@ -61,7 +62,7 @@ module _ (ns : List Node) (levels : List Level) where
   task_for asks more = record {
     asserted = asserted_terms ns (asserted_by_level levels);
     assumed = assumed_for asks;
-    goals = replicate more some_goal;
+    goals = some_goal ∷ replicate more some_goal;
     groups = [];
     listed = listed_for asks;
     numbering = number_in ns;
@@ -70,7 +71,7 @@ module _ (ns : List Node) (levels : List Level) where
   }
 
   for_all : (asks : List (List TermLit)) (more : ℕ) → AllByRecursion (λ (assumed : List TermLit). IsAskedOf ns levels assumed (task_for asks more)) asks
-  for_all asks more = each_asked asks (task_for asks more) refl refl (λ t has. has) (λ l has. has)
+  for_all asks more = each_asked asks (task_for asks more) refl refl (λ t has. has) (λ l has. has) (λ none. cc)
 
 -- ---- The beginning
 
@@ -85,7 +86,7 @@ going_at_start ns engine work start new none =
             task = q;
             asked = each.1;
             few = (start.asked ns engine.levels [] q work each.0 none).goes_on.few;
-            room = subst (HasRoomFor more q) (sym first) (let goals : length q.goals ≡ more = length-replicate more (some_goal ns engine.levels) in omega (arith, goals));
+            room = subst (HasRoomFor more q) (sym first) (let goals : length q.goals ≡ suc more = ap suc (length-replicate more (some_goal ns engine.levels)) in omega (arith, goals));
             stands = starts_at engine ns q work (new.begins []) none;
           });
     }
@@ -104,6 +105,7 @@ may_check ns engine work assumed asks more k =
         room = let room = k.room in omega (arith, room);
       };
       under = λ x lead j d below. inl (k.asked.0.assumed_of j d below);
+      no_others = k.asked.0.no_others;
     }
 
 module _ (ns : List Node) (old new : EngineState) (work after : WorkList Note) (assumed : List TermLit) (going : IsGoing ns old work) (levels : new.levels ≡ old.levels) where

@@ -1,8 +1,10 @@
-//! Checks that go on with one list of work.
+//! Checks that go on with one list of work, and how long its lines may be.
 
 use crate::bench::Counted;
 use crate::formula::Part::{self, AtMost, Atom, Choose, Less, Not, Or, Real, Sum, Tenths, Xor};
 use crate::trial::{Trial, Tried, what_came};
+use nz_base::Entry;
+use nz_search::Note;
 use std::alloc::Global;
 use std::test::Fail;
 
@@ -111,4 +113,16 @@ const NUMBERS: Case = Case {
 #[test]
 fn test_what_a_number_is_made_of_is_named(rt: HostRuntime) -> Result<(), Fail> {
     run(rt.alloc(), &NUMBERS)
+}
+
+/// How many bytes a line may have: each unit that is free has the room of one.
+const LINE: usize = 32;
+
+// A line is an entry or a note, as this is.
+#[test]
+fn test_a_line_is_short(rt: HostRuntime) -> Result<(), Fail> {
+    if size_of::<Result<Entry, Note>>() > LINE {
+        return Err(Fail::from("a long line"));
+    }
+    Ok(())
 }

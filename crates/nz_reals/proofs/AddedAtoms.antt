@@ -1,5 +1,5 @@
 -- An atom that the theory learns of.
-use Rattle.std.proofs.Common.{◌≡◌, ◌==◌, ℕ, Bool, true, false, List, [], ◌∷◌, ◌++◌, Option, Some, None, refl, sym, ap, ◌∙◌, subst, if◌then◌else◌}
+use Rattle.std.proofs.Common.{◌≡◌, ◌==◌, ℕ, Bool, true, false, List, [], ◌∷◌, ◌++◌, Some, refl, sym, ap, ◌∙◌, subst, if◌then◌else◌}
 use Rattle.std.specs.Prelude.{IsSome, IsTrue, slice_get, slice_index_or}
 use Rattle.std.proofs.lemmas.List.Elements.{All-push, All-weaker}
 use Rattle.std.proofs.lemmas.Option.{slice_get-get_or}
@@ -23,7 +23,7 @@ use Rattle.nz_search.specs.Standing.{search_after}
 use Rattle.nz_reals.specs.Joins.{AddsForm, IsAtomFor, IsNamedSum, IsNumberIn, MayAddSum, MayJoinBound, MayLearn}
 use Rattle.nz_reals.specs.Known.{IsSaidOf, Known}
 use Rattle.nz_reals.specs.Stands.{IsKnown, IsKnownAtom, IsOf}
-use Rattle.nz_reals.specs.State.{Theory, known_at}
+use Rattle.nz_reals.specs.State.{KnownAtom, Theory, known_among, known_at}
 use Rattle.nz_reals.specs.Sums.{AreNonzero, IsFormSum, turned_sum, zero_bound}
 use Rattle.nz_simplex.specs.State.{State}
 use Rattle.nz_reals.proofs.RefutationClauses.{own_units}
@@ -83,7 +83,7 @@ of_added old mid new atoms ids id b s k of adds simplex at normal nonzero sum fo
 }
   where
     same : (i : ℕ) → known_at mid i ≡ known_at old i
-    same i = ap (λ (ks : List (Option Known)). slice_index_or ks i None) adds.known
+    same i = ap (λ (ks : List KnownAtom). known_among ks i) adds.known
 
     has : (i : ℕ) (t : Bool) → IsSome (known_at old i) → IsSome (if t then Some k else known_at mid i)
     has i true h = refl

@@ -31,7 +31,7 @@ use Rattle.nz_simplex.specs.State.{State, IsOver}
 use Rattle.nz_reals.specs.Joins.{AddsForm, IsFree, MayAddSum}
 use Rattle.nz_reals.specs.declared.reals.MarkedLiteral.{MarkedLiteral}
 use Rattle.nz_reals.specs.Known.{Known}
-use Rattle.nz_reals.specs.State.{Theory, known_at, told_lits}
+use Rattle.nz_reals.specs.State.{KnownAtom, Theory, known_among, known_at, told_lits}
 use Rattle.nz_reals.specs.Stored.{AreForms, AreTolds, FindsForms, IsBacked, IsMark}
 use Rattle.nz_reals.specs.Sums.{IsFormSum, zero_bound}
 use Rattle.nz_lists.proofs.Once.{push_once}
@@ -319,7 +319,7 @@ module _ (old new : Theory) (f : List Part) (v : ℕ) (may : MayAddSum old f) (j
   }
     where
       same : (i : ℕ) → known_at new i ≡ known_at old i
-      same i = ap (λ (ks : List (Option Known)). slice_index_or ks i None) known
+      same i = ap (λ (ks : List KnownAtom). known_among ks i) known
 
       backed : (h : Held) → IsBacked old h → IsBacked new h
       backed h k = record {

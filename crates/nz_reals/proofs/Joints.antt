@@ -29,9 +29,9 @@ module _ (log : LogState) (held : List ℕ) (xs : List code.Lower) (n : ℕ) (le
   joined_too old new live are marks i at =
       elim (marks.right i at) [ inl joins ↦ (id, Contains-get_or held n 0 less, live, joins) | inr was ↦ are i was ]
 
-  pub marked_too : (places : List ℕ) (old new : List Bool) → Marks xs (literals_at log id) old new
-      → ((i : ℕ) → 0 < i → IsNoted xs places i → Joins xs i (literals_at log id) → slice_get new i ≡ Some true) → AreMarked log (take n held) xs places old → AreMarked log (take (n + 1) held) xs places new
-  marked_too places old new marks here are i first noted k has joins =
+  pub marked_too : (slots places : List ℕ) (old new : List Bool) → Marks xs (literals_at log id) old new
+      → ((i : ℕ) → 0 < i → IsNoted xs slots places i → Joins xs i (literals_at log id) → slice_get new i ≡ Some true) → AreMarked log (take n held) xs slots places old → AreMarked log (take (n + 1) held) xs slots places new
+  marked_too slots places old new marks here are i first noted k has joins =
       elim (on_more k has) [
         | inl before ↦ marks.stay i (are i first noted k before joins)
         | inr same ↦ here i first noted (subst (λ (m : ℕ). Joins xs i (literals_at log m)) (sym same) joins)

@@ -1,6 +1,6 @@
 -- What is known of atoms, where the theory changes otherwise.
-use Rattle.std.proofs.Common.{◌≡◌, ℕ, ◌^◌, ◌<◌, arith, length, List, Option, Some, None, map, take, refl, sym, ap, ◌∙◌, subst, zero, suc, [], ◌∷◌}
-use Rattle.std.specs.Prelude.{Contains, IsSome, slice_get, slice_index_or}
+use Rattle.std.proofs.Common.{◌≡◌, ℕ, ◌^◌, ◌<◌, arith, length, List, Some, map, take, refl, sym, ap, ◌∙◌, subst, zero, suc, [], ◌∷◌}
+use Rattle.std.specs.Prelude.{Contains, IsSome, slice_get}
 use Rattle.std.proofs.lemmas.List.Elements.{All-contains, All-weaker}
 use Rattle.std.proofs.lemmas.Option.{slice_get_within}
 use Rattle.nz_lin.specs.declared.bound.Bound.{Bound}
@@ -12,7 +12,7 @@ use Rattle.nz_log.specs.Atoms.{AreAtoms}
 use Rattle.nz_reals.specs.declared.reals.MarkedLiteral.{MarkedLiteral}
 use Rattle.nz_reals.specs.Known.{Known}
 use Rattle.nz_reals.specs.Stands.{IsKnownAtom, IsOf}
-use Rattle.nz_reals.specs.State.{Theory, known_at}
+use Rattle.nz_reals.specs.State.{KnownAtom, Theory, known_among, known_at}
 use Rattle.nz_reals.specs.Sums.{turned_sum}
 use Rattle.nz_reals.proofs.Contradictions.{some_known}
 
@@ -30,7 +30,7 @@ of_kept old new atoms ids known forms of = record {
 }
   where
     same : (id : ℕ) → known_at new id ≡ known_at old id
-    same id = ap (λ (ks : List (Option Known)). slice_index_or ks id None) known
+    same id = ap (λ (ks : List KnownAtom). known_among ks id) known
 
     one : (id : ℕ) (a : Atom) → IsKnownAtom old id a → IsKnownAtom new id a
     one id (Term t) h = h

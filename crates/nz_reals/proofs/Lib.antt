@@ -9,7 +9,7 @@ pub mod InfinitesimalLimits
 pub mod JoinedForms
 pub mod Joints
 pub mod KnownAtoms
-pub mod KnownLists
+pub mod KnownPlaces
 pub mod LiteralForms
 pub mod LowerBounds
 pub mod News

@@ -22,7 +22,7 @@ use Rattle.nz_simplex.specs.Standing.{Held}
 use Rattle.nz_simplex.specs.State.{State}
 use Rattle.nz_reals.specs.declared.reals.MarkedLiteral.{MarkedLiteral}
 use Rattle.nz_reals.specs.Known.{Known, SideBound, said_by}
-use Rattle.nz_reals.specs.State.{Theory, empty_theory, known_at, told_lits}
+use Rattle.nz_reals.specs.State.{KnownAtom, Theory, empty_theory, known_among, known_at, told_lits}
 use Rattle.nz_reals.specs.Stored.{AreForms, AreTolds, FindsForms, IsBacked, IsMark, IsStored}
 use Rattle.nz_reals.specs.Sums.{IsFormSum}
 use Rattle.nz_reals.specs.Tells.{AreKnown, AreOnTwoSides, Clashes, IsTold, both, held_by, told_now}
@@ -60,7 +60,7 @@ module _ (old new : Theory) (l : Lit) (tolds : AreTolds old) (told : IsTold old 
   told_cases r x at = slice_get-push_cases old.told (told_now old l) r x (subst (λ (ts : List MarkedLiteral). slice_get ts r ≡ Some x) told.told at)
 
   same_known : (i : ℕ) → known_at new i ≡ known_at old i
-  same_known i = ap (λ (ks : List (Option Known)). slice_index_or ks i None) told.same
+  same_known i = ap (λ (ks : List KnownAtom). known_among ks i) told.same
 
   abbrev b : Held
   b = held_by told.known l (length old.told)
@@ -170,7 +170,7 @@ module _ (old new : Theory) (k : ℕ) (x : MarkedLiteral) (tolds : AreTolds old)
   was_told r y at = slice_get_taken k old.told r y (subst (λ (ts : List MarkedLiteral). slice_get ts r ≡ Some y) undone.told at)
 
   still : (i : ℕ) → known_at new i ≡ known_at old i
-  still i = ap (λ (ks : List (Option Known)). slice_index_or ks i None) undone.known
+  still i = ap (λ (ks : List KnownAtom). known_among ks i) undone.known
 
   bounds_now : new.simplex.asserted ≡ take x.mark old.simplex.asserted
   bounds_now = ap (λ (s : State). s.asserted) undone.simplex

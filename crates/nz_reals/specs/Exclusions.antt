@@ -1,5 +1,5 @@
 -- Bounds of one form that exclude each other, and the clauses that say so.
-use Rattle.std.specs.Prelude.{◌≡◌, ◌≢◌, ℕ, ◌<◌, ◌-◌, ◌⊎◌, Bool, List, [], ◌∷◌, length, map, All, Contains, Some, IsSome, slice_get, true, false}
+use Rattle.std.specs.Prelude.{◌≡◌, ◌≢◌, ℕ, ◌<◌, ◌-◌, ◌⊎◌, Bool, List, [], ◌∷◌, length, map, All, Contains, None, Option, Some, IsSome, slice_get, true, false}
 use Rattle.std.specs.List.{AllAdjacentBelow}
 use Rattle.std.specs.declared.cmp.Ordering.TheVariants.{Greater}
 use Rattle.nz_spec.specs.numbers.Infinitesimal.{infinitesimal_cmp, ◌≤δ◌}
@@ -175,13 +175,17 @@ AreJoined log held xs marks = (i : ℕ) → slice_get marks i ≡ Some true → 
 abbrev pub AreOpen : LogState → List ℕ → List code.Lower → List Bool → Type 0
 AreOpen log held xs marks = (i : ℕ) → slice_get marks i ≡ Some false → HasNoJoint log held xs i
 
+-- the place that is noted at the slot of an atom
+abbrev pub place_in : List ℕ → List ℕ → ℕ → Option ℕ
+place_in slots places atom = elim (slice_get slots atom) [ None ↦ None | Some slot ↦ slice_get places slot ]
+
 -- the bound of a place is the one that is noted for its atom
-abbrev pub IsNoted : List code.Lower → List ℕ → ℕ → Type 0
-IsNoted xs places i = (x : code.Lower) → slice_get xs i ≡ Some x → slice_get places x.literal.atom ≡ Some i
+abbrev pub IsNoted : List code.Lower → List ℕ → List ℕ → ℕ → Type 0
+IsNoted xs slots places i = (x : code.Lower) → slice_get xs i ≡ Some x → place_in slots places x.literal.atom ≡ Some i
 
 -- what is noted and has its clause is marked
-abbrev pub AreMarked : LogState → List ℕ → List code.Lower → List ℕ → List Bool → Type 0
-AreMarked log held xs places marks = (i : ℕ) → 0 < i → IsNoted xs places i → (id : ℕ) → Contains held id → Joins xs i (literals_at log id) → slice_get marks i ≡ Some true
+abbrev pub AreMarked : LogState → List ℕ → List code.Lower → List ℕ → List ℕ → List Bool → Type 0
+AreMarked log held xs slots places marks = (i : ℕ) → 0 < i → IsNoted xs slots places i → (id : ℕ) → Contains held id → Joins xs i (literals_at log id) → slice_get marks i ≡ Some true
 
 -- Marks stay, and each that is new is that of a bound that the clause joins with the one before.
 pub record Marks (xs : List code.Lower) (c : List Lit) (old new : List Bool) : Type 0 where

@@ -1,5 +1,5 @@
 -- What the fields of the theory are.
-use Rattle.std.specs.Prelude.{◌≡◌, ℕ, ◌<◌, ◌≤◌, false, List, length, Option, Some, slice_get}
+use Rattle.std.specs.Prelude.{◌≡◌, ◌==◌, ℕ, ◌<◌, ◌≤◌, false, List, length, None, Option, Some, if◌then◌else◌, slice_get}
 use Rattle.std.specs.List.{AllByRecursion}
 use Rattle.nz_spec.specs.clauses.Literal.{StandOnce}
 use Rattle.nz_spec.specs.terms.Table.{Node}
@@ -10,9 +10,10 @@ use Rattle.nz_log.specs.declared.atoms.Atom.TheVariants.{AtMost}
 use Rattle.nz_simplex.specs.Standing.{Held}
 use Rattle.nz_simplex.specs.State.{State, IsOver}
 use Rattle.nz_tab.specs.Units.{is_unit_form}
+use Rattle.nz_reals.specs.declared.atoms.BoundedAtom.{BoundedAtom}
 use Rattle.nz_reals.specs.declared.reals.MarkedLiteral.{MarkedLiteral}
-use Rattle.nz_reals.specs.Known.{Known, said_by}
-use Rattle.nz_reals.specs.State.{Theory, known_at}
+use Rattle.nz_reals.specs.Known.{Known, known_of, said_by}
+use Rattle.nz_reals.specs.State.{Theory, known_among, known_at, known_list}
 use Rattle.nz_reals.specs.Sums.{IsFormSum, zero_bound}
 
 -- ---- Forms
@@ -58,3 +59,22 @@ pub record IsStored (find : Atom → Option ℕ) (t : Theory) : Type 0 where
   pub forms : AreForms t.simplex
   pub finds : FindsForms find t.simplex.forms
   pub tolds : AreTolds t
+
+-- ---- What is known of atoms
+
+-- what the entry at its place says of an atom, if it is its own
+abbrev pub known_by : ℕ → Option BoundedAtom → Option Known
+known_by i None = None
+known_by i (Some e) = if e.atom == i then Some (known_of e.bounded) else None
+
+abbrev pub known_from : List BoundedAtom → ℕ → Option ℕ → Option Known
+known_from es i None = None
+known_from es i (Some p) = known_by i (slice_get es p)
+
+-- what is known of an atom by the list of places
+abbrev pub known_in : List BoundedAtom → List ℕ → ℕ → Option Known
+known_in es ps i = known_from es i (slice_get ps i)
+
+-- at the place of an atom is the last entry of it, and none of its own where it has none
+abbrev pub AreInPlace : List BoundedAtom → List ℕ → Type 0
+AreInPlace es ps = (i : ℕ) → known_in es ps i ≡ known_among (known_list es) i

@@ -1,5 +1,5 @@
 //! Atoms that the theory learns of, and the forms that join for them.
-ghost use Rattle.std.specs.Prelude.{◌≡◌, ◌==◌, ◌<◌, ◌≤◌, ◌++◌, ℕ, List, [], ◌∷◌, IfErr, IfOk, IfSome, None, Ok, OnErr, OnOk, Some, length, slice_get, slice_index_or, false, true, if◌then◌else◌};
+ghost use Rattle.std.specs.Prelude.{◌≡◌, ◌==◌, ◌<◌, ◌≤◌, ◌++◌, ℕ, List, [], ◌∷◌, IfErr, IfOk, IfSome, None, Ok, OnErr, OnOk, Some, length, slice_get, false, true, if◌then◌else◌};
 ghost use Rattle.nz_spec.specs.search.Search.{Task};
 ghost use Rattle.nz_spec.specs.terms.Table.{Node};
 ghost use Rattle.nz_lin.specs.Forms.{AreUnits};
@@ -179,21 +179,6 @@ impl Reals {
         ensures told { self.new.told ≡ self.old.told }
     {
         stored(self);
-        put_at(&mut self.bounded, id, bounded)
+        self.bounded.put(id, bounded)
     }
-}
-
-/// Puts an element at a place, with none at those before it that are new.
-fn put_at(bounded: &mut Vec<Option<Bounded>>, id: AtomId, one: Bounded) -> Result<(), Memory>
-    ensures put { OnOk result ((i : ℕ) → slice_index_or bounded.new.items i None ≡ (if i == id then Some one else slice_index_or bounded.old.items i None)) }
-    ensures others { OnErr result ((i : ℕ) → slice_index_or bounded.new.items i None ≡ slice_index_or bounded.old.items i None) }
-{
-    let Some(count) = id.checked_add(1) else {
-        return Err(Memory);
-    };
-    if bounded.len() < count {
-        bounded.resize(count, None)?;
-    }
-    bounded[id] = Some(one);
-    Ok(())
 }

@@ -2,6 +2,7 @@
 #![tactic(auto)]
 
 mod arranging;
+mod atoms;
 mod forms;
 mod joins;
 pub mod laws;

@@ -4,7 +4,7 @@ ghost use Rattle.nz_log.specs.declared.atoms.Atom.{Atom};
 ghost use Rattle.nz_log.specs.declared.lits.Lit.{Lit};
 ghost use Rattle.nz_log.specs.Logs.{IsLive, LogState};
 ghost use Rattle.nz_search.specs.Theories.{IsClash};
-ghost use Rattle.nz_reals.specs.Exclusions.{AddsOn, AreExcluded, AreJoined, AreLowers, AreMarked, AreOpen, AreOpposed, HasJoint, HasNeighbours, HasNoJoint, HasNoSum, HasNone, IsExclusion, IsFresh, IsKnownOn, IsLower, IsNoted, IsPair, IsSaidLower, Joins, Marks, lits_of};
+ghost use Rattle.nz_reals.specs.Exclusions.{AddsOn, AreExcluded, AreJoined, AreLowers, AreMarked, AreOpen, AreOpposed, HasJoint, HasNeighbours, HasNoJoint, HasNoSum, HasNone, IsExclusion, IsFresh, IsKnownOn, IsLower, IsNoted, IsPair, IsSaidLower, Joins, Marks, lits_of, place_in};
 ghost use Rattle.nz_reals.specs.Known.{known_of};
 ghost use Rattle.nz_reals.specs.Stands.{IsOf};
 ghost use Rattle.nz_reals.specs.State.{known_at};
@@ -54,7 +54,15 @@ impl Reals {
     {
         log.atom_count();
         let lowers = self.lowers(atoms)?;
-        let joined = joined(self.alloc, log, held, &lowers)?;
+        let places = self.places_of(&lowers)?;
+        let joined = joined(
+            self.alloc,
+            log,
+            held,
+            &lowers,
+            self.bounded.places(),
+            &places,
+        )?;
         let mut clauses = Vec::new(self.alloc);
         for i in 1..lowers.len() {
             if !joined[i] {
@@ -99,14 +107,28 @@ impl Reals {
         })
     }
 
+    /// By the slots of atoms, where the bounds stand that they say; of an atom that says two, the last one.
+    fn places_of(&self, lowers: &[Lower]) -> Result<Vec<usize>, Memory> {
+        let slots = self.bounded.places();
+        let mut places = Vec::new(self.alloc);
+        if lowers.len() > 1 {
+            places.resize(self.bounded.len(), 0)?;
+        }
+        for (place, lower) in lowers.iter().enumerate() {
+            if let Some(slot) = slots.get(lower.literal.atom()) {
+                if let Some(at) = places.get_mut(*slot) {
+                    *at = place;
+                }
+            }
+        }
+        Ok(places)
+    }
+
     /// What is known of an atom, where anything is.
     fn known_if(&self, atom: AtomId) -> Option<Bounded>
         ensures known { option_map known_of result ≡ known_at self.now atom }
     {
-        match self.bounded.get(atom) {
-            Some(bounded) => *bounded,
-            None => None,
-        }
+        self.bounded.get(atom)
     }
 
     /// Adds the clause that two literals aren't both true, where their bounds leave a form no value.
@@ -175,33 +197,28 @@ fn joined(
     log: &Log,
     held: &[ClauseId],
     lowers: &[Lower],
+    slots: &[usize],
+    places: &[usize],
 ) -> Result<Vec<bool>, Memory>
     requires live { All (IsLive log.now) held.now }
     ensures long { IfOk result (λ v. length v.items ≡ length lowers.now) }
     ensures joined { IfOk result (λ v. AreJoined log.now held.now lowers.now v.items) }
     ensures others { IfOk result (λ v. AreOpen log.now held.now lowers.now v.items) }
 {
-    let places = places_of(alloc, log, lowers)?;
-    let marks = marked(alloc, log, held, lowers, &places)?;
+    let marks = marked(alloc, log, held, lowers, slots, places)?;
     let mut joined = Vec::new(alloc);
     for place in 0..lowers.len() {
-        joined.push(is_joined(log, held, lowers, &places, &marks, place))?;
+        joined.push(is_joined(log, held, lowers, slots, places, &marks, place))?;
     }
     Ok(joined)
 }
 
-/// By the numbers of atoms, where the bounds stand that they say; of an atom that says two, the last one.
-fn places_of(alloc: Global, log: &Log, lowers: &[Lower]) -> Result<Vec<usize>, Memory> {
-    let mut places = Vec::new(alloc);
-    if lowers.len() > 1 {
-        places.resize(log.atom_count(), 0)?;
-    }
-    for (place, lower) in lowers.iter().enumerate() {
-        if let Some(at) = places.get_mut(lower.literal.atom()) {
-            *at = place;
-        }
-    }
-    Ok(places)
+/// Where the bound of an atom stands, by the slots of atoms, if it is noted.
+fn place_of(slots: &[usize], places: &[usize], atom: AtomId) -> Option<usize>
+    ensures place { result ≡ place_in slots.now places.now atom }
+{
+    let slot = slots.get(atom)?;
+    places.get(*slot).copied()
 }
 
 /// Marks bounds that have their clause among these: each that is noted has its mark then.
@@ -210,46 +227,54 @@ fn marked(
     log: &Log,
     held: &[ClauseId],
     lowers: &[Lower],
+    slots: &[usize],
     places: &[usize],
 ) -> Result<Vec<bool>, Memory>
     requires live { All (IsLive log.now) held.now }
     ensures joined { IfOk result (λ v. AreJoined log.now held.now lowers.now v.items) }
-    ensures noted { IfOk result (λ v. AreMarked log.now held.now lowers.now places.now v.items) }
+    ensures noted { IfOk result (λ v. AreMarked log.now held.now lowers.now slots.now places.now v.items) }
 {
     let mut marks = Vec::new(alloc);
     marks.resize(lowers.len(), false)?;
     for id in held {
-        mark(lowers, places, log.clause(*id), &mut marks);
+        mark(lowers, slots, places, log.clause(*id), &mut marks);
     }
     Ok(marks)
 }
 
 /// Marks what a clause joins, where the bound is noted.
-fn mark(lowers: &[Lower], places: &[usize], clause: &[Lit], marks: &mut Vec<bool>)
+fn mark(lowers: &[Lower], slots: &[usize], places: &[usize], clause: &[Lit], marks: &mut Vec<bool>)
     requires long { length marks.old.items ≡ length lowers.now }
     ensures marks { Marks lowers.now clause.now marks.old.items marks.new.items }
-    ensures noted { (i : ℕ) → 0 < i → IsNoted lowers.now places.now i → Joins lowers.now i clause.now → slice_get marks.new.items i ≡ Some true }
+    ensures noted { (i : ℕ) → 0 < i → IsNoted lowers.now slots.now places.now i → Joins lowers.now i clause.now → slice_get marks.new.items i ≡ Some true }
 {
     let [first, second] = clause else {
         return;
     };
-    mark_by(lowers, places, *first, clause, marks);
-    mark_by(lowers, places, *second, clause, marks);
+    mark_by(lowers, slots, places, *first, clause, marks);
+    mark_by(lowers, slots, places, *second, clause, marks);
 }
 
 /// Marks the bound that is noted for the atom of a literal, if the clause joins it.
-fn mark_by(lowers: &[Lower], places: &[usize], negated: Lit, clause: &[Lit], marks: &mut Vec<bool>)
+fn mark_by(
+    lowers: &[Lower],
+    slots: &[usize],
+    places: &[usize],
+    negated: Lit,
+    clause: &[Lit],
+    marks: &mut Vec<bool>,
+)
     requires long { length marks.old.items ≡ length lowers.now }
     ensures marks { Marks lowers.now clause.now marks.old.items marks.new.items }
-    ensures noted { (i : ℕ) → 0 < i → slice_get places.now negated.atom ≡ Some i → Joins lowers.now i clause.now → slice_get marks.new.items i ≡ Some true }
+    ensures noted { (i : ℕ) → 0 < i → place_in slots.now places.now negated.atom ≡ Some i → Joins lowers.now i clause.now → slice_get marks.new.items i ≡ Some true }
 {
-    let Some(place) = places.get(negated.atom()) else {
+    let Some(place) = place_of(slots, places, negated.atom()) else {
         return;
     };
-    if !joins(lowers, *place, clause) {
+    if !joins(lowers, place, clause) {
         return;
     }
-    marks[*place] = true;
+    marks[place] = true;
 }
 
 /// Whether one of these clauses says that a bound and the negation of the one before it aren't both true.
@@ -257,20 +282,21 @@ fn is_joined(
     log: &Log,
     held: &[ClauseId],
     lowers: &[Lower],
+    slots: &[usize],
     places: &[usize],
     marks: &[bool],
     place: usize,
 ) -> bool
     requires live { All (IsLive log.now) held.now }
     requires joined { AreJoined log.now held.now lowers.now marks.now }
-    requires noted { AreMarked log.now held.now lowers.now places.now marks.now }
+    requires noted { AreMarked log.now held.now lowers.now slots.now places.now marks.now }
     ensures yes { result ≡ true → HasJoint log.now held.now lowers.now place }
     ensures no { result ≡ false → HasNoJoint log.now held.now lowers.now place }
 {
     if is_marked(marks, place) {
         return true;
     }
-    if is_noted(lowers, places, place) {
+    if is_noted(lowers, slots, places, place) {
         return false;
     }
     has_joint(log, held, lowers, place)
@@ -288,14 +314,14 @@ fn is_marked(marks: &[bool], place: usize) -> bool
 }
 
 /// Whether a bound is the one that is noted for its atom.
-fn is_noted(lowers: &[Lower], places: &[usize], place: usize) -> bool
-    ensures noted { result ≡ true → IsNoted lowers.now places.now place }
+fn is_noted(lowers: &[Lower], slots: &[usize], places: &[usize], place: usize) -> bool
+    ensures noted { result ≡ true → IsNoted lowers.now slots.now places.now place }
 {
     let Some(lower) = lowers.get(place) else {
         return false;
     };
-    match places.get(lower.literal.atom()) {
-        Some(at) => *at == place,
+    match place_of(slots, places, lower.literal.atom()) {
+        Some(at) => at == place,
         None => false,
     }
 }

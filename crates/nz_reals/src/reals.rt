@@ -8,6 +8,7 @@ ghost use Rattle.nz_reals.specs.State.{empty_theory, known_at, told_lits};
 ghost use Rattle.nz_reals.specs.Stored.{AreForms, AreTolds};
 ghost use Rattle.nz_reals.specs.Tells.{AreKnown, AreOnTwoSides, Clashes, IsTold, Refutes, both, multiple_at};
 
+use crate::atoms::BoundedAtoms;
 use crate::forms::{Bounded, SideBound};
 use indexmap::IndexMap;
 use nz_base::Memory;
@@ -36,8 +37,7 @@ pub struct Reals {
     pub(crate) simplex: Simplex<Delta>,
     // The forms, by the atoms that they are at most 0. A unit alone may be missing.
     pub(crate) forms: IndexMap<Atom, Var>,
-    // By the numbers of atoms in the log.
-    pub(crate) bounded: Vec<Option<Bounded>>,
+    pub(crate) bounded: BoundedAtoms,
     pub(crate) told: Vec<MarkedLiteral>,
 }
 
@@ -48,12 +48,11 @@ impl Model for Reals {
 
     ghost use Rattle.indexmap.specs.IndexMap.{get};
     ghost use Rattle.nz_log.specs.Keys.{are_same_atom};
-    ghost use Rattle.nz_reals.specs.State.{known_list};
     ghost use Rattle.nz_reals.specs.Stored.{IsStored};
 
-    ghost view = { λ r. record { simplex = r.simplex; known = known_list r.bounded.items; told = r.told.items } };
+    ghost view = { λ r. record { simplex = r.simplex; known = r.bounded; told = r.told.items } };
 
-    ghost invariant = { λ r. IsStored (get are_same_atom r.forms) (record { simplex = r.simplex; known = known_list r.bounded.items; told = r.told.items }) };
+    ghost invariant = { λ r. IsStored (get are_same_atom r.forms) (record { simplex = r.simplex; known = r.bounded; told = r.told.items }) };
 }
 
 impl Reals {
@@ -66,7 +65,7 @@ impl Reals {
             alloc,
             simplex: Simplex::new(alloc),
             forms: IndexMap::new(alloc),
-            bounded: Vec::new(alloc),
+            bounded: BoundedAtoms::new(alloc),
             told: Vec::new(alloc),
         }
     }
@@ -90,7 +89,7 @@ impl Reals {
         requires known { IsSome (known_at self.now atom) }
         ensures known { known_at self.now atom ≡ Some (known_of result) }
     {
-        self.bounded[atom].unwrap()
+        self.bounded.get(atom).unwrap()
     }
 
     /// Tells the simplex a literal. Answers a literal that it was told and that isn't true together with this one, if it sees that; then it isn't told.

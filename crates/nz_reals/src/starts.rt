@@ -18,7 +18,7 @@ use crate::reals::{Reals, stored};
 use nz_base::{Memory, Work};
 use nz_delta::Delta;
 use nz_lin::Part;
-use nz_search::{Note, StartNote};
+use nz_search::{Boxed, Note, StartNote};
 use nz_spec::work::more_terms_may_begin;
 use nz_trail::Var;
 
@@ -41,7 +41,7 @@ impl Reals {
     {
         more_terms_may_begin();
         let start = self.start()?;
-        work.note(Note::Start(start))?;
+        work.note(Note::Start(Boxed::new(self.alloc, start)?))?;
         self.forget();
         Ok(())
     }

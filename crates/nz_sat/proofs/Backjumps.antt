@@ -104,7 +104,7 @@ module _ (log log' : LogState) (held : List Held) (s : state.Search) (work : Wor
   lits = literals_at log' l.clause
 
   abbrev held' : List Held
-  held' = held ++ learned_of log' l.clause ∷ []
+  held' = held ++ learned_of log' l.clause l.glue ∷ []
 
   back : l.keep < depth es
   back = goes_back log' s.trail h.search.on.order l h.learned
@@ -127,7 +127,7 @@ module _ (log log' : LogState) (held : List Held) (s : state.Search) (work : Wor
   old_literals i has = literals_kept log log' h.grows i (held_live log held h.search.are_held i has)
 
   ids_more : ids held' ≡ ids held ++ l.clause ∷ []
-  ids_more = map-append (λ (x : Held). x.id) held (learned_of log' l.clause ∷ [])
+  ids_more = map-append (λ (x : Held). x.id) held (learned_of log' l.clause l.glue ∷ [])
 
   each_held : (P : ℕ → Type 0) → ((i : ℕ) → Contains (ids held) i → P i) → P l.clause → All P (ids held')
   each_held P f last = subst (All P) (sym ids_more) (All-push P (ids held) l.clause (all_from P (ids held) f) last)
@@ -263,7 +263,7 @@ module _ (log log' : LogState) (held : List Held) (s : state.Search) (work : Wor
   -- ---- The search
 
   module _ (s' : state.Search) (atoms : s'.atoms ≡ s.atoms) (size : s'.trail.size ≡ s.trail.size) (entries : s'.trail.entries ≡ after_learned es l) (bounds : s'.bounds ≡ record s.bounds { told = min s.bounds.told (length front) })
-      (p : Propagation) (looked : p ≡ record s.propagation { head = min s.propagation.head (length front) }) (holds : Holds log' (learned_of log' l.clause) (watched_pair l) p s'.propagation) (marks : length s'.seen.items ≡ length s.seen.items) (unmarked : AreUnmarked s'.seen.items)
+      (p : Propagation) (looked : p ≡ record s.propagation { head = min s.propagation.head (length front) }) (holds : Holds log' (learned_of log' l.clause l.glue) (watched_pair l) p s'.propagation) (marks : length s'.seen.items ≡ length s.seen.items) (unmarked : AreUnmarked s'.seen.items)
       (are_held : AreHeld log' held') (ordered : IsTrail s'.trail) (room : unit_count work.lines < work.limit) where
     after_on : All (λ (e : Assigned). Contains s.atoms e.literal.atom) (after_learned es l) → IsTrailOn log' s'.atoms s'.bounds s'.trail
     after_on on_trail =
@@ -325,12 +325,12 @@ module _ (log log' : LogState) (held : List Held) (s : state.Search) (work : Wor
           are_held = are_held;
           covered = λ g has.
               All-contains (HoldsAs s'.propagation) held' g
-              (All-push (HoldsAs s'.propagation) held (learned_of log' l.clause)
+              (All-push (HoldsAs s'.propagation) held (learned_of log' l.clause l.glue)
               (all_from (HoldsAs s'.propagation) held (λ d old. holds.kept d (before_has d (h.search.covered d old)))) holds.has) has;
           only = λ g has.
               elim (holds.only g has) [
-                | inl old ↦ Contains-append_left held (learned_of log' l.clause ∷ []) g (h.search.only g (had_before g old))
-                | inr same ↦ subst (Contains held') same (Contains-push held (learned_of log' l.clause))
+                | inl old ↦ Contains-append_left held (learned_of log' l.clause l.glue ∷ []) g (h.search.only g (had_before g old))
+                | inr same ↦ subst (Contains held') same (Contains-push held (learned_of log' l.clause l.glue))
               ];
           named = subst (λ (us : List ℕ). All (λ (i : ℕ). All (λ (m : Lit). Contains us m.atom) (literals_at log' i)) (ids held')) (sym atoms) named;
           within = subst (All (λ (t : ℕ). t < s'.trail.size)) (sym atoms) (subst (λ (n : ℕ). All (λ (t : ℕ). t < n) s.atoms) (sym size) h.search.within);
@@ -367,8 +367,8 @@ module _ (log log' : LogState) (held : List Held) (s : state.Search) (work : Wor
 
     -- the theory stands where the list leads
     pub learned_ends : (m m' : TheoryState) → TellsLits → ClausesAreTrue → NegationIsOther → LegalWorkGoesOn → StaysAt m m' (told_lits s.bounds es) (told_lits s'.bounds s'.trail.entries) → {A : Type 0} → (x : A)
-        → EndsLegally m m' log s.atoms (told_lits s.bounds es) es work work' (Ok x)
-    learned_ends m m' tells clauses other goes_on stays x ns levels assumed q known only asked st =
+        → EndsLegally m m' log held s.atoms (told_lits s.bounds es) es work work' (Ok x)
+    learned_ends m m' tells clauses other goes_on stays x ns levels assumed q known on asked st =
         let told' = told_lits s'.bounds s'.trail.entries in
         let b : Bounds = record s.bounds { told = min s.bounds.told (length front) } in
         let f = below_front s.trail.size es h.search.on.order l.keep in
@@ -380,21 +380,21 @@ module _ (log log' : LogState) (held : List Held) (s : state.Search) (work : Wor
         let first : take (length told') (told_lits s.bounds es) ≡ told' =
         subst (λ (ls : List Lit). take (length ls) (told_lits s.bounds es) ≡ ls) (sym same) (told_taken s.bounds b es front f refl) in
         let cut = cut_stands m m' ns q log work (told_lits s.bounds es) told' stays first st in
-        let on : All (λ (e : Assigned). Contains s.atoms e.literal.atom) s'.trail.entries =
+        let on_trail : All (λ (e : Assigned). Contains s.atoms e.literal.atom) s'.trail.entries =
         subst (λ (us : List ℕ). All (λ (e : Assigned). Contains us e.literal.atom) s'.trail.entries) atoms after_search.on.on_trail in
         let there : All (λ (k : Lit). IsSome (slice_get log.atoms k.atom)) told' =
         all_from (λ (k : Lit). IsSome (slice_get log.atoms k.atom)) told'
         (λ k has.
         let e = entry_from s'.trail.entries k (told_among s'.bounds s'.trail.entries k has) in
         All-contains (λ (i : ℕ). IsSome (slice_get log.atoms i)) s.atoms k.atom (names_some log s.atoms h.search.on.there)
-        (subst (λ (x : Lit). Contains s.atoms x.atom) e.3 (All-contains (λ (x : Assigned). Contains s.atoms x.literal.atom) s'.trail.entries e.1 on (has_found s'.trail.entries e.0 e.1 e.2)))) in
+        (subst (λ (x : Lit). Contains s.atoms x.atom) e.3 (All-contains (λ (x : Assigned). Contains s.atoms x.literal.atom) s'.trail.entries e.1 on_trail (has_found s'.trail.entries e.0 e.1 e.2)))) in
         let says : clause_in ns log.atoms told' ≡ clause_in ns log'.atoms told' = sym (literals_stay log.atoms log'.atoms h.grows.atoms ns told' there) in
         let tells' : TellsTrail log' s.atoms s'.bounds s'.trail.entries work' =
         subst (λ (xs : List Assigned). TellsTrail log' s.atoms s'.bounds xs work') (sym entries) (after_tells s'.bounds bounds) in
         stands_so ns log' s.atoms s'.bounds s'.trail.entries work' tells' (m'.at ns) q
         (record {
           point = cut.point;
-          legal = line_legal log log' held s work falsified l h tells clauses other ns levels assumed q only asked goes_on cut.point cut.legal;
+          legal = line_legal log log' held s work falsified l h tells clauses other ns levels assumed q on.only asked goes_on cut.point cut.legal;
           at = subst (λ (r : Search). m'.at ns r.forms (clause_in ns log'.atoms told') cut.point) (sym (line_goes ns))
               (subst (λ (ls : List spec.Literal). m'.at ns (search_after ns work).forms ls cut.point) says cut.at);
         })

@@ -26,6 +26,7 @@ use Rattle.nz_log.specs.Logs.{Entry, LogState, IsLive, entry_at, literals_at}
 use Rattle.nz_log.specs.Sound.{ClausesAreTrue, IsLog, live_terms}
 use Rattle.nz_search.specs.declared.note.Note.{Note}
 use Rattle.nz_search.specs.Standing.{search_after}
+use Rattle.nz_sat.specs.declared.clauses.Held.{Held}
 use Rattle.nz_sat.specs.declared.consult.Bounds.{Bounds}
 use Rattle.nz_sat.specs.declared.trail.Assigned.{Assigned}
 use Rattle.nz_sat.specs.Clauses.{IsAssumed, IsFalsified, IsImplied, IsReason, IsReasonOf, IsOpen, by_true, by_two}
@@ -205,7 +206,7 @@ module _ (clauses : ClausesAreTrue) (other : NegationIsOther) (ns : List Node) (
 -- Under an assignment that makes true what a task asks, what is assumed, and the decisions of a trail, its entries are true, and no clause of the log is
 -- falsified.
 module _ (tells : TellsLits) (clauses : ClausesAreTrue) (other : NegationIsOther) (ns : List Node) (levels : List (List ℕ)) (assumed : List Lit) (q : Task) (log : LogState)
-    (atoms : List ℕ) (work : WorkList Note) (asked : IsAsked ns levels log atoms assumed work q) (b : Bounds) (t : TrailState) (h : IsTrailOn log atoms b t)
+    {held : List Held} (atoms : List ℕ) (work : WorkList Note) (asked : IsAsked ns levels log held atoms assumed work q) (b : Bounds) (t : TrailState) (h : IsTrailOn log atoms b t)
     (only : All (IsAssumed assumed) t.entries) (a : Assignment) (model : IsModel q.asserted (search_after ns work).under a)
     (decided_hold : AreTrueLiterals a (literals_by (map (atom_literal ns log.atoms) atoms) (map (λ (e : Assigned). numbered atoms e.literal) (filter is_decision t.entries)))) where
   hold : AllByRecursion (IsTrueUnder a) (asserted_terms ns levels)

@@ -225,10 +225,7 @@ lone_watched s p q t h lone is w may =
 
 -- ---- Which clauses there are
 
--- the clauses that there were, and the one more
-pub puts_has : (p q : Propagation) (key : ℕ) (h : Held) (pair : Lit × Lit) → PutsClause (held_at p) (held_at q) key (watched_as h pair) → HoldsAs q h
-puts_has p q key h pair x = inl (record { key = key; clause = watched_as h pair; at = x.there; is = refl })
-
+-- the clauses that there were
 pub puts_stay : (p q : Propagation) (key : ℕ) (c : WatchedClause) → PutsClause (held_at p) (held_at q) key c → q.lone ≡ p.lone → (g : Held) → HoldsAs p g → HoldsAs q g
 puts_stay p q key c x lone g (inl w) = inl (record { key = w.key; clause = w.clause; at = puts_kept x w.key w.clause w.at; is = w.is })
 puts_stay p q key c x lone g (inr has) = inr (subst (λ v. Contains v.items g) (sym lone) has)

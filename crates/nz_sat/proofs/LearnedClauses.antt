@@ -212,7 +212,7 @@ asserting_learned : (log : LogState) (es : List Assigned) (id : ℕ) (m : Lit) �
     → Contains (literals_at log id) m → level_on es m.atom ≡ depth es → ((x : Lit) → Contains (literals_at log id) x → x ≢ m → level_on es x.atom < depth es)
     → (l : Learned) → IsAsserting es (literals_at log id) id m l → IsLearned log es l
 asserting_learned log es id m above live once falsified has last low l asserts =
-    let told : IsLearned log es (record { clause = id; literal = m; level = l.level; keep = l.keep; beside = l.beside }) =
+    let told : IsLearned log es (record { clause = id; literal = m; level = l.level; keep = l.keep; beside = l.beside; glue = l.glue }) =
     record {
       live = live;
       once = once;
@@ -224,7 +224,7 @@ asserting_learned log es id m above live once falsified has last low l asserts =
       others = asserts.others;
       beside = asserts.beside;
     } in
-    subst₂ (λ (i : ℕ) (x : Lit). IsLearned log es (record { clause = i; literal = x; level = l.level; keep = l.keep; beside = l.beside })) (sym asserts.clause) (sym asserts.literal) told
+    subst₂ (λ (i : ℕ) (x : Lit). IsLearned log es (record { clause = i; literal = x; level = l.level; keep = l.keep; beside = l.beside; glue = l.glue })) (sym asserts.clause) (sym asserts.literal) told
 
 -- ---- A conflict that is the learned clause itself
 

@@ -215,7 +215,7 @@ module _ (log log' : LogState) (held : List Held) (s : state.Search) (work : Wor
       (literals_at log i) (held_named s.atoms log (ids held) h.search.named i has) opened same
 
   module _ (tells : TellsLits) (clauses : ClausesAreTrue) (other : NegationIsOther) (ns : List Node) (levels : List (List ℕ)) (assumed : List Lit) (q : Task)
-      (only : All (IsAssumed assumed) es) (asked : IsAsked ns levels log s.atoms assumed work q) where
+      (only : All (IsAssumed assumed) es) (asked : IsAsked ns levels log held s.atoms assumed work q) where
     abbrev at : Search
     at = search_after ns work
 
@@ -269,12 +269,12 @@ module _ (log log' : LogState) (held : List Held) (s : state.Search) (work : Wor
     line_legal on x lead = line_lead on ns q work (learned_line s.atoms log' l) x x lead (may_learn, refl)
 
   -- with its line, where it is held
-  pub line_learned : (held' : List Held) → held' ≡ held ++ learned_of log' l.clause ∷ [] → HoldsLearned log' s.atoms held work
+  pub line_learned : (held' : List Held) → held' ≡ held ++ learned_of log' l.clause l.glue ∷ [] → HoldsLearned log' s.atoms held work
       → HoldsLearned log' s.atoms held' (with_line work (learned_line s.atoms log' l))
   line_learned held' all_held before ns =
       let Old : List (ℕ × Bool) → Type 0 = λ d. (i : ℕ) × Contains (ids held) i × (map (numbered s.atoms) (literals_at log' i) ≡ d) in
       let New : List (ℕ × Bool) → Type 0 = λ d. (i : ℕ) × Contains (ids held') i × (map (numbered s.atoms) (literals_at log' i) ≡ d) in
-      let more : ids held' ≡ ids held ++ l.clause ∷ [] = ap ids all_held ∙ map_push (λ (x : Held). x.id) held (learned_of log' l.clause) in
+      let more : ids held' ≡ ids held ++ l.clause ∷ [] = ap ids all_held ∙ map_push (λ (x : Held). x.id) held (learned_of log' l.clause l.glue) in
       let has : (i : ℕ) → Contains (ids held ++ l.clause ∷ []) i → Contains (ids held') i = λ i there. subst (λ (us : List ℕ). Contains us i) (sym more) there in
       subst (λ (r : Search). All New r.learned) (sym (search_more ns work (learned_line s.atoms log' l ∷ [])))
       (All-push New (search_after ns work).learned (map (numbered s.atoms) lits)
@@ -282,10 +282,10 @@ module _ (log log' : LogState) (held : List Held) (s : state.Search) (work : Wor
       (l.clause, has l.clause (Contains-push (ids held) l.clause), refl))
 
   -- a step that adds it
-  pub line_advances : {A : Type 0} → (m m' : TheoryState) → Keeps m m' → (held' : List Held) → HoldsMore log' held held' → held' ≡ held ++ learned_of log' l.clause ∷ []
+  pub line_advances : {A : Type 0} → (m m' : TheoryState) → Keeps m m' → (held' : List Held) → HoldsMore log' held held' → held' ≡ held ++ learned_of log' l.clause l.glue ∷ []
       → (AreOn log' s.atoms held → AreOn log' s.atoms held')
       → (work' : WorkList Note) → work' ≡ with_line work (learned_line s.atoms log' l) → (result : Result A Stop)
-      → EndsLegally m m' log s.atoms (told_lits s.bounds es) es work (with_line work (learned_line s.atoms log' l)) result → Advances m m' s es log log' held held' work work' result
+      → EndsLegally m m' log held s.atoms (told_lits s.bounds es) es work (with_line work (learned_line s.atoms log' l)) result → Advances m m' s es log log' held held' work work' result
   line_advances m m' keeps held' more all_held on work' is result ends =
       subst (λ (w : WorkList Note). Advances m m' s es log log' held held' work w result) (sym is)
       (record {
@@ -301,18 +301,18 @@ module _ (log log' : LogState) (held : List Held) (s : state.Search) (work : Wor
 
   -- where it wants one unit more
   pub line_wanting : (A : Type 0) → TellsLits → ClausesAreTrue → NegationIsOther → (m m' : TheoryState)
-      → EndsLegally {A = A} m m' log s.atoms (told_lits s.bounds es) es work work (Err Spent)
-  line_wanting A tells clauses other m m' ns levels assumed q known only asked st =
+      → EndsLegally {A = A} m m' log held s.atoms (told_lits s.bounds es) es work work (Err Spent)
+  line_wanting A tells clauses other m m' ns levels assumed q known on asked st =
       record {
         point = st.point;
         legal = st.legal;
         wanted = LearnedEntry l.keep (map (numbered s.atoms) lits);
         after = st.point;
-        may = (may_learn tells clauses other ns levels assumed q only asked, refl);
+        may = (may_learn tells clauses other ns levels assumed q on.only asked, refl);
       }
 
   -- where it isn't held
   pub line_memory : (A : Type 0) → TellsLits → ClausesAreTrue → NegationIsOther → LegalWorkGoesOn → (m m' : TheoryState)
-      → EndsLegally {A = A} m m' log s.atoms (told_lits s.bounds es) es work (with_line work (learned_line s.atoms log' l)) (Err Memory)
-  line_memory A tells clauses other goes_on m m' ns levels assumed q known only asked st =
-      (st.point, line_legal tells clauses other ns levels assumed q only asked goes_on st.point st.legal)
+      → EndsLegally {A = A} m m' log held s.atoms (told_lits s.bounds es) es work (with_line work (learned_line s.atoms log' l)) (Err Memory)
+  line_memory A tells clauses other goes_on m m' ns levels assumed q known on asked st =
+      (st.point, line_legal tells clauses other ns levels assumed q on.only asked goes_on st.point st.legal)

@@ -127,7 +127,7 @@ module _ (log : LogState) (t : TrailState) (order : IsTrail t) (l : Learned) (le
     pair_free k less m has level x (inr same) =
         subst (IsFreeOn (below k es)) same (below_free t.size es order k m (learned.falsified m has) (omega (arith, less, level)))
 
-    holds_pair : (head : ℕ) (o : Option Lit) → IsBeside es lits l.literal l.level o → MayHold log after head (learned_of log l.clause) (pair_of l.literal o)
+    holds_pair : (head : ℕ) (o : Option Lit) → IsBeside es lits l.literal l.level o → MayHold log after head (learned_of log l.clause l.glue) (pair_of l.literal o)
     holds_pair head None h = record { usable = usable; lone = λ a b has_a has_b. h.1 a has_a ∙ sym (h.1 b has_b) }
     holds_pair head (Some m) h =
         record {
@@ -144,7 +144,7 @@ module _ (log : LogState) (t : TrailState) (order : IsTrail t) (l : Learned) (le
               cc;
         }
 
-    pub may_hold : (head : ℕ) → MayHold log after head (learned_of log l.clause) (watched_pair l)
+    pub may_hold : (head : ℕ) → MayHold log after head (learned_of log l.clause l.glue) (watched_pair l)
     may_hold head = holds_pair head l.beside learned.beside
 
     pair_within : (n : ℕ) → 2 * t.size ≤ n → (o : Option Lit) → IsBeside es lits l.literal l.level o
@@ -181,9 +181,9 @@ module _ (log : LogState) (t : TrailState) (order : IsTrail t) (l : Learned) (le
   first_pair ordered us us' (Some m) h more same first = subst (All (IsTrueFirst (after_learned es l))) (sym same) (first_kept us first)
 
   -- also of the clause itself, where it has no two literals
-  pub after_true : EachBehind (IsNext t.size) (after_learned es l) → (p q : Propagation) → Holds log (learned_of log l.clause) (watched_pair l) p q → All (IsTrueFirst es) (lone_ids p)
+  pub after_true : EachBehind (IsNext t.size) (after_learned es l) → (p q : Propagation) → Holds log (learned_of log l.clause l.glue) (watched_pair l) p q → All (IsTrueFirst es) (lone_ids p)
       → All (IsTrueFirst (after_learned es l)) (lone_ids q)
   after_true ordered p q h first =
       let more : watched_pair l ≡ None → lone_ids q ≡ lone_ids p ++ l.clause ∷ [] =
-      λ none. ap ids (h.lone none) ∙ map_push (λ (x : Held). x.id) p.lone.items (learned_of log l.clause) in
-      first_pair ordered (lone_ids p) (lone_ids q) l.beside learned.beside more (lone_items log (learned_of log l.clause) (watched_pair l) p q h) first
+      λ none. ap ids (h.lone none) ∙ map_push (λ (x : Held). x.id) p.lone.items (learned_of log l.clause l.glue) in
+      first_pair ordered (lone_ids p) (lone_ids q) l.beside learned.beside more (lone_items log (learned_of log l.clause l.glue) (watched_pair l) p q h) first

@@ -1,3 +1,4 @@
+pub mod AssumedLiterals
 pub mod AtomNumbers
 pub mod AtomTrails
 pub mod Backjumps

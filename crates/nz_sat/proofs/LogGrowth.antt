@@ -4,6 +4,7 @@ use Rattle.std.proofs.lemmas.List.{append-nil}
 use Rattle.std.proofs.lemmas.List.Elements.{All-contains, All-nil, All-weaker, All-head, All-tail}
 use Rattle.nz_spec.specs.search.Search.{Task, signed_literal}
 use Rattle.nz_spec.specs.search.Work.{WorkList}
+use Rattle.nz_spec.specs.clauses.Gates.{holds}
 use Rattle.nz_spec.specs.terms.Table.{Node, term_in}
 use Rattle.nz_log.specs.declared.lits.Lit.{Lit}
 use Rattle.nz_log.specs.Atoms.{IsLitIn, Stay, atom_in, literal_in, with_sign}
@@ -122,20 +123,36 @@ on_kept a b atoms held g h named k d inside =
     subst (All (λ (l : Lit). Contains atoms l.atom)) (sym (ap (λ (o : Option Entry). elim o [ None ↦ [] | Some e ↦ e.literals ]) (g.kept (get_or held k d).id (h k d inside).0)))
     (named k d inside)
 
--- the task is asked of the log that grew, where that is in order, and by a list that goes on under the same literals
-pub asked_on : (a b : LogState) (atoms : List ℕ) → Grows a b → {ns : List Node} → {levels : List (List ℕ)} → {assumed : List Lit} → {work work' : WorkList Note} → {q : Task}
-    → IsLog ns levels b → (search_after ns work').under ≡ (search_after ns work).under → IsAsked ns levels a atoms assumed work q → IsAsked ns levels b atoms assumed work' q
-asked_on a b atoms g {ns} {levels} {assumed} order under asked =
+-- the task is asked of the log that grew, where that is in order, of clauses among which those before still are, and by a list that goes on under the
+-- same literals
+pub asked_on : (a b : LogState) (atoms : List ℕ) → Grows a b → {ns : List Node} → {levels : List (List ℕ)} → {held held' : List Held} → {assumed : List Lit} → {work work' : WorkList Note} → {q : Task}
+    → ((h : Held) → Contains held h → Contains held' h) → IsLog ns levels b → (search_after ns work').under ≡ (search_after ns work).under → IsAsked ns levels a held atoms assumed work q
+    → IsAsked ns levels b held' atoms assumed work' q
+asked_on a b atoms g {ns = ns} {assumed = assumed} {q = q} more order under asked =
+    let same : (l : Lit) → Contains atoms l.atom → literal_in ns b.atoms l ≡ literal_in ns a.atoms l =
+    λ l has. ap (said ns l.sign) (same_at a.atoms b.atoms g.atoms l.atom (atom_some ns a.atoms l.atom (All-contains (IsAtomAt ns a.atoms) atoms l.atom asked.within has))) in
+    let gone : map (literal_in ns b.atoms) assumed ≡ map (literal_in ns a.atoms) assumed =
+    literals_stay a.atoms b.atoms g.atoms ns assumed
+    (All-weaker (λ (l : Lit). Contains atoms l.atom) (λ (l : Lit). IsSome (slice_get a.atoms l.atom))
+    (λ l has. atom_some ns a.atoms l.atom (All-contains (IsAtomAt ns a.atoms) atoms l.atom asked.within has)) assumed asked.named) in
     record {
       table = asked.table;
       within = atoms_stay a.atoms b.atoms g.atoms ns atoms asked.within;
       named = asked.named;
       order = order;
       asserted = asked.asserted;
-      under = under ∙ asked.under
-          ∙ sym (literals_stay a.atoms b.atoms g.atoms ns assumed
-          (All-weaker (λ (l : Lit). Contains atoms l.atom) (λ (l : Lit). IsSome (slice_get a.atoms l.atom))
-          (λ l has. atom_some ns a.atoms l.atom (All-contains (IsAtomAt ns a.atoms) atoms l.atom asked.within has)) assumed asked.named));
+      under = under ∙ asked.under ∙ sym gone;
+      units = λ l has asserted.
+          let u = asked.units l has (subst (Contains (map holds q.asserted)) (same l has) asserted) in
+          record {
+            clause = u.clause;
+            has = more u.clause u.has;
+            live = g.live u.clause.id u.live;
+            alone = ap (λ (o : Option Entry). elim o [ None ↦ [] | Some e ↦ e.literals ]) (g.kept u.clause.id u.live) ∙ u.alone;
+          };
+      assumes = λ l has given.
+          asked.assumes l has
+          (subst (Contains (map (literal_in ns a.atoms) assumed)) (same l has) (subst (λ (ls : List Literal). Contains ls (literal_in ns b.atoms l)) gone given));
     }
 
 -- the literals of the trail are on these atoms

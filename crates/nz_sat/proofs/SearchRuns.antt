@@ -1,8 +1,9 @@
 -- A search from its start to its end: what is assumed, and one turn of decision and conflicts.
-use Rattle.std.proofs.Common.{◌≡◌, ℕ, ◌+◌, ◌<◌, if◌then◌else◌, List, [], ◌∷◌, length, take, map, get_or, Option, None, refl, sym, ap, subst, ◌∙◌, arith, Result, Ok, Err, ◌≢◌, ◌≤◌, Bool, true, ◌++◌, Some, inr}
-use Rattle.std.specs.Prelude.{All, Contains, IfOk, IfSome, filter, unwrap_or, nat_lt, slice_get}
-use Rattle.std.proofs.lemmas.List.{get_or-map, length-map, take-append-le, map_push}
-use Rattle.std.proofs.lemmas.List.Elements.{All-contains, All-cons, All-filter, All-map, All-nil, All-push, filter-append}
+use Rattle.std.proofs.Common.{◌≡◌, ℕ, ◌+◌, ◌<◌, if◌then◌else◌, List, [], ◌∷◌, length, take, map, get_or, Option, None, refl, sym, ap, subst, ◌∙◌, arith, Result, Ok, Err, ◌≢◌, ◌≤◌, Bool, true, ◌++◌, Some, inl, inr}
+use Rattle.std.specs.Prelude.{All, Contains, IfOk, IfSome, filter, option_map, unwrap_or, nat_lt, slice_get}
+use Rattle.nz_lists.proofs.Members.{has_cases, has_none, map_has}
+use Rattle.std.proofs.lemmas.List.{length-map, take-append-le, map_push}
+use Rattle.std.proofs.lemmas.List.Elements.{All-contains, All-cons, All-filter, All-map, All-nil, All-push, Contains-append_cases, filter-append}
 use Rattle.std.proofs.lemmas.List.Sums.{length-filter, sum_by_push}
 use Rattle.std.proofs.lemmas.Option.{IfSome_then, slice_get-get_or, same_Some, slice_get_within}
 use Rattle.std.proofs.lemmas.Result.{IfOk-weaker}
@@ -15,31 +16,67 @@ use Rattle.nz_log.specs.Logs.{LogState, IsLive, literals_at}
 use Rattle.nz_log.specs.Growth.{Grows}
 use Rattle.nz_sat.specs.declared.clauses.Held.{Held}
 use Rattle.nz_sat.specs.declared.search.Search.{Search}
-use Rattle.nz_sat.specs.Sats.{AreOn, HoldsLearned, ids}
+use Rattle.nz_sat.specs.Sats.{AreOn, HoldsLearned, IsAsked, ids}
 use Rattle.nz_sat.specs.declared.trail.Assigned.{Assigned}
-use Rattle.nz_sat.specs.Clauses.{HasReasonOf, HasTrue, IsAssumed}
+use Rattle.nz_sat.specs.Clauses.{AreAssumedOn, HasReasonOf, HasTrue, IsAssumed, IsOpen, by_true, by_two}
 use Rattle.nz_sat.specs.Numbers.{number_of, numbered, atom_literal}
 use Rattle.nz_sat.specs.Conflicts.{Refutes, StaysSound}
 use Rattle.nz_sat.specs.Searching.{Advances, AreFirst, AssumesAll, Carries, Decides, IsLookedThrough, IsNoted, IsReady, IsSearch, KeepsFirst, Runs, Settles, SettlesOn, StaysInOrder, Steps, assumed_entries}
 use Rattle.nz_sat.specs.Theories.{EndsLegally, TheoryState, bounds_on, told_literal, told_lits, told_on}
-use Rattle.nz_sat.specs.Trails.{IsTrueOn, TrailState, assigned, below, decided, depth, is_decision, literals_on, with_entry}
+use Rattle.nz_sat.specs.Trails.{IsTrueOn, TrailState, assigned, below, decided, depth, is_decision, literals_on, truth_on, with_entry}
 use Rattle.nz_sat.specs.Watched.{lone_ids}
 use Rattle.nz_sat.proofs.SearchSteps.{Reaches, log_reaches, reaches_step, reaches_then, steps_behind}
 use Rattle.nz_sat.proofs.Propagations.{carries_far}
 use Rattle.nz_sat.proofs.LogGrowth.{order_over, grows_none, holds_none}
-use Rattle.nz_sat.proofs.ToldTrails.{stands_so, keeps_none}
+use Rattle.nz_sat.proofs.AssumedLiterals.{assumed_from}
+use Rattle.nz_sat.proofs.Levels.{below_true}
+use Rattle.nz_sat.proofs.ToldTrails.{says_numbered, stands_so, keeps_none}
 use Rattle.nz_sat.proofs.TrailEntries.{assigned_at}
 use Rattle.std.proofs.lemmas.Bool.Decides.{Decides-ltb}
 use Rattle.nz_spec.specs.laws.LegalWork.{LegalWorkGoesOn}
 use Rattle.nz_spec.specs.search.Legal.{MayDecide}
+use Rattle.nz_spec.specs.clauses.Gates.{holds}
 use Rattle.nz_spec.specs.search.Search as legal
+use Rattle.nz_spec.specs.clauses.Literal.{Literal}
+use Rattle.nz_spec.specs.search.Search.{Task, literal_by, literals_held}
 use Rattle.nz_spec.specs.terms.Table.{Node}
-use Rattle.nz_log.specs.Atoms.{clause_in}
+use Rattle.nz_log.specs.Atoms.{clause_in, literal_in}
 use Rattle.nz_search.specs.Standing.{search_after}
 use Rattle.nz_sat.proofs.SearchLines.{adds_line, line_lead, search_more}
 use Rattle.nz_sat.proofs.AtomNumbers.{number_found, number_place}
 use Rattle.nz_sat.proofs.AtomTrails.{trail_push}
-use Rattle.nz_sat.proofs.WatchedTrails.{below_same, below_whole, decided_watched}
+use Rattle.nz_sat.proofs.WatchedTrails.{all_open, below_same, below_whole, decided_watched}
+
+-- ---- What isn't decided
+
+only_one : (l m : Lit) → Contains (l ∷ []) m → m ≡ l
+only_one l m has =
+    elim (has_cases l m [] has) [
+      | inl same ↦ sym same
+      | inr more ↦ absurd (has_none m more)
+    ]
+
+-- a clause of one literal that is open has it true
+alone_true : (es : List Assigned) (l : Lit) → IsOpen es (l ∷ []) → IsTrueOn es l
+alone_true es l (by_true m has holds) = subst (IsTrueOn es) (only_one l m has) holds
+alone_true es l (by_two m n has_m has_n differ free_m free_n) = absurd (differ (only_one l m has_m ∙ sym (only_one l n has_n)))
+
+-- what is asserted or gone under is true where all was propagated
+asked_true : {ns : List Node} → {levels : List (List ℕ)} → {log : LogState} → {held : List Held} → {assumed : List Lit} → {q : Task} → (s : Search) (work : WorkList Note)
+    → IsSearch log held s → IsReady log s → AreAssumedOn assumed s.trail.entries → IsAsked ns levels log held s.atoms assumed work q → (l : Lit) → Contains s.atoms l.atom
+    → Contains (literals_held q (search_after ns work)) (literal_in ns log.atoms l) → IsTrueOn s.trail.entries l
+asked_true {ns} {log = log} {held = held} {assumed = assumed} {q = q} s work h ready on asked l atom has =
+    let es = s.trail.entries in
+    let gone = (search_after ns work).under in
+    elim (Contains-append_cases (map holds q.asserted) gone (literal_in ns log.atoms l) has) [
+      | inl asserted ↦
+          let u = asked.units l atom asserted in
+          let opened = All-contains (λ (i : ℕ). IsOpen es (literals_at log i)) (ids held) u.clause.id (all_open log held s h ready) (map_has (λ (x : Held). x.id) held u.clause u.has) in
+          alone_true es l (subst (IsOpen es) u.alone opened)
+      | inr given ↦
+          let there = subst (λ (ls : List Literal). Contains ls (literal_in ns log.atoms l)) asked.under given in
+          below_true s.trail.size es h.on.order 0 l.atom l.sign (All-contains (IsTrueOn (below 0 es)) assumed l on.hold (asked.assumes l atom there))
+    ]
 
 -- ---- A search after one decision more
 
@@ -139,8 +176,20 @@ module _ (log : LogState) (held : List Held) (s : Search) (h : IsSearch log held
         found : (u : ℕ) → Contains s.atoms u → (n : ℕ) × (number_of s.atoms u ≡ Some n)
         found u has = number_found s.atoms u has.0 (slice_get-get_or s.atoms has.0 u has.1 ∙ ap Some has.2)
 
-  decided_may : (ns : List Node) (work : WorkList Note) → IsNoted log held s work → MayDecide (search_after ns work) number
-  decided_may ns work n =
+  -- neither sign of the atom is asserted or gone under
+  decided_free : {ns : List Node} → {levels : List (List ℕ)} → {assumed : List Lit} → {q : Task} → (work : WorkList Note) → IsNoted log held s work → IsReady log s
+      → AreAssumedOn assumed s.trail.entries → IsAsked ns levels log held s.atoms assumed work q → (side : Bool) → Contains (literals_held q (search_after ns work)) (literal_by (search_after ns work).atoms (number, side)) → ⊥
+  decided_free {ns} {q = q} work n ready on asked side has =
+      let l : Lit = record { atom = t; sign = side } in
+      let said = subst (Contains (literals_held q (search_after ns work))) (says_numbered ns log s.atoms s.bounds s.trail.entries work n.trail l atom) has in
+      let there : truth_on s.trail.entries t ≡ Some side = asked_true s work h ready on asked l atom said in
+      let none : truth_on s.trail.entries t ≡ None = ap (option_map (λ (e : Assigned). e.literal.sign)) free in
+      let clash : None ≡ Some side = sym none ∙ there in
+      cc
+
+  decided_may : {ns : List Node} → {levels : List (List ℕ)} → {assumed : List Lit} → {q : Task} → (work : WorkList Note) → IsNoted log held s work → IsReady log s
+      → AreAssumedOn assumed s.trail.entries → IsAsked ns levels log held s.atoms assumed work q → MayDecide q (search_after ns work) number
+  decided_may {ns} work n ready on asked =
       let r = search_after ns work in
       let mine = number_found s.atoms t atom.0 (slice_get-get_or s.atoms atom.0 t atom.1 ∙ ap Some atom.2) in
       let is : number ≡ mine.0 = ap (λ (o : Option ℕ). unwrap_or o 0) mine.1 in
@@ -153,14 +202,15 @@ module _ (log : LogState) (held : List Held) (s : Search) (h : IsSearch log held
       record {
         named = omega arith;
         undecided = subst (All P) (sym (n.trail.decided ns)) (All-map P f (filter is_decision s.trail.entries) (All-filter is_decision (λ (e : Assigned). P (f e)) s.trail.entries each));
+        free = decided_free work n ready on asked;
       }
 
   -- ---- The step
 
   -- the point stays, and what the theory was told
-  pub decided_reaches : LegalWorkGoesOn → (m : TheoryState) (work : WorkList Note) → IsNoted log held s work
+  pub decided_reaches : LegalWorkGoesOn → (m : TheoryState) (work : WorkList Note) → IsNoted log held s work → IsReady log s
       → Reaches m m s s.trail.entries (record s { trail = with_entry s.trail entry }) log log held held work (with_line work line)
-  decided_reaches goes_on m work n =
+  decided_reaches goes_on m work n ready =
       let inside : s.bounds.told ≤ length s.trail.entries = h.on.inside in
       let same : told_lits s.bounds s.trail.entries ≡ told_lits s.bounds after =
       ap (λ (xs : List Assigned). literals_on (bounds_on s.bounds.marks.items xs)) (sym (take-append-le s.bounds.told s.trail.entries (entry ∷ []) inside)) in
@@ -172,42 +222,25 @@ module _ (log : LogState) (held : List Held) (s : Search) (h : IsSearch log held
         named = λ on. on;
         learned = decided_learned work;
         adds = adds_line work line tt;
-        stands = λ ns levels assumed q known only asked st.
+        stands = λ ns levels assumed q known on asked st.
             record {
               point = st.point;
-              legal = line_lead goes_on ns q work line st.point st.point st.legal (decided_may ns work n, refl);
+              legal = line_lead goes_on ns q work line st.point st.point st.legal (decided_may work n ready on asked, refl);
               at = subst (λ (r : legal.Search). m.at ns r.forms (clause_in ns log.atoms (told_lits s.bounds after)) st.point) (sym (search_more ns work (line ∷ [])))
                   (subst (λ (ls : List Lit). m.at ns (search_after ns work).forms (clause_in ns log.atoms ls) st.point) same st.at);
             };
       }
 
   -- where it wants one unit more
-  pub decided_wanting : (A : Type 0) (m m' : TheoryState) (work : WorkList Note) → IsNoted log held s work
-      → EndsLegally {A = A} m m' log s.atoms (told_lits s.bounds s.trail.entries) s.trail.entries work work (Err Spent)
-  decided_wanting A m m' work n ns levels assumed q known only asked st =
-      record { point = st.point; legal = st.legal; wanted = DecisionEntry number sign; after = st.point; may = (decided_may ns work n, refl) }
+  pub decided_wanting : (A : Type 0) (m m' : TheoryState) (work : WorkList Note) → IsNoted log held s work → IsReady log s
+      → EndsLegally {A = A} m m' log held s.atoms (told_lits s.bounds s.trail.entries) s.trail.entries work work (Err Spent)
+  decided_wanting A m m' work n ready ns levels assumed q known on asked st =
+      record { point = st.point; legal = st.legal; wanted = DecisionEntry number sign; after = st.point; may = (decided_may work n ready on asked, refl) }
 
   -- what is decided isn't assumed
   pub decided_assumed : (assumed : List Lit) → All (IsAssumed assumed) s.trail.entries → All (IsAssumed assumed) after
   decided_assumed assumed only =
       All-push (IsAssumed assumed) s.trail.entries entry only (λ none level. absurd (omega arith))
-
--- ---- A search from its start to its end: what is assumed, and one turn of decision and conflicts
-
-abbrev entry_of : Lit → Assigned
-entry_of l = record { literal = l; level = 0; reason = None }
-
--- what is assumed is among any literals that the entries of these are assumed by
-pub wider : (assumed all : List Lit) → All (IsAssumed all) (assumed_entries assumed) → All (Contains all) assumed
-wider assumed all h k d inside =
-    let long = length-map assumed entry_of in
-    let is : IsAssumed all (entry_of (get_or assumed k d)) =
-    subst (IsAssumed all) (get_or-map entry_of assumed k d (entry_of d) inside) (h k (entry_of d) (omega arith)) in
-    is refl refl
-
-pub assumed_wider : (assumed all : List Lit) → All (IsAssumed all) (assumed_entries assumed) → (es : List Assigned) → All (IsAssumed assumed) es → All (IsAssumed all) es
-assumed_wider assumed all h es only k d inside none level =
-    All-contains (Contains all) assumed (get_or es k d).literal (wider assumed all h) (only k d inside none level)
 
 -- ---- Under no decision
 
@@ -251,7 +284,7 @@ has_decided goes_on m {s} {mid} {log} {held} {work} {work'} t h ready is_noted f
         assumed_only = decided_assumed log held s h t d.sign free atom whole;
         units = omega (arith, units);
       };
-      reaches = decided_reaches log held s h t d.sign free atom whole goes_on m work is_noted;
+      reaches = decided_reaches log held s h t d.sign free atom whole goes_on m work is_noted ready;
       told = ap (λ (xs : List Assigned). literals_on (bounds_on s.bounds.marks.items xs)) (take-append-le s.bounds.told s.trail.entries (e ∷ []) h.on.inside);
       units = units;
     }))
@@ -275,19 +308,25 @@ settles_far {s = s} {mid = mid} {new = new} {work = work} {work₁ = work₁} {w
 
 -- ---- The run
 
+-- nothing is decided yet, so what is true is so under no decision
+pub all_assumed : {log : LogState} → {held : List Held} → {assumed : List Lit} → {s : Search} → AssumesAll log held assumed s None → AreAssumedOn assumed s.trail.entries
+all_assumed {assumed = assumed} {s = s} a =
+    let undecided = a.undecided in
+    let whole = below_whole s.trail.size s.trail.entries a.search.on.order 0 (omega (arith, undecided)) in
+    record { only = a.assumed_only; hold = subst (λ (xs : List Assigned). All (IsTrueOn xs) assumed) (sym whole) (a.hold refl) }
+
 -- nothing is decided yet, and all was propagated
 pub runs_first : {assumed : List Lit} → {start mid s : Search} → {log log' : LogState} → {held held' : List Held} → {work work' : WorkList Note}
     → mid ≡ record start { trail = mid.trail; propagation = mid.propagation } → AssumesAll log held assumed mid None → Settles log' held' mid s work work' → Runs log' held' assumed start s work'
 runs_first {assumed} {start} {mid} {s} rest a st =
-    let undecided = a.undecided in
-    let first = below_whole mid.trail.size mid.trail.entries a.search.on.order 0 (omega (arith, undecided)) in
+    let on = all_assumed a in
     record {
       search = st.search;
       ready = st.ready;
       noted = st.noted;
       same = st.carries.atoms ∙ ap (λ (r : Search). r.atoms) rest;
-      assumed_only = st.carries.assumed_only assumed a.assumed_only;
-      hold = λ k e inside. st.carries.first (get_or assumed k e) (subst (λ (xs : List Assigned). IsTrueOn xs (get_or assumed k e)) (sym first) (a.hold refl k e inside));
+      assumed_only = st.carries.assumed_only assumed on.only;
+      hold = λ k e inside. st.carries.first (get_or assumed k e) (on.hold k e inside);
     }
 
 -- what a search that begins is asked, whose trail has no entry
@@ -321,15 +360,15 @@ module _ (start : Search) (none : start.trail.entries ≡ []) (log : LogState) (
   first_lits {mid} rest = ap (λ (r : Search). told_lits r.bounds mid.trail.entries) rest ∙ ap literals_on (first_told mid.trail.entries)
 
   -- the entries of what is assumed are assumed
-  pub first_advances : {A : Type 0} → {m m' : TheoryState} → {assumed : List Lit} → {mid : Search} → {log' : LogState} → {held' : List Held} → {work work' : WorkList Note} → {o : Option ℕ}
-      → {result : Result A Stop} → mid ≡ record start { trail = mid.trail; propagation = mid.propagation } → AssumesAll log held assumed mid o → Advances m m' mid mid.trail.entries log log' held held' work work' result
+  pub first_advances : {A : Type 0} → {m m' : TheoryState} → {assumed : List Lit} → {mid : Search} → {log' : LogState} → {held' : List Held} → {work work' : WorkList Note}
+      → {result : Result A Stop} → mid ≡ record start { trail = mid.trail; propagation = mid.propagation } → AssumesAll log held assumed mid None → Advances m m' mid mid.trail.entries log log' held held' work work' result
       → Advances m m' start (assumed_entries assumed) log log' held held' work work' result
   first_advances {m = m} {m' = m'} {assumed} {mid} {log'} {held'} {work} {work'} {result = result} rest a step =
       let atoms : mid.atoms ≡ start.atoms = ap (λ (r : Search). r.atoms) rest in
       let told : told_lits mid.bounds mid.trail.entries ≡ told_lits start.bounds start.trail.entries = first_lits rest ∙ sym (ap literals_on (first_told start.trail.entries)) in
-      let ends : EndsLegally m m' log start.atoms (told_lits start.bounds start.trail.entries) mid.trail.entries work work' result =
-      subst (λ (us : List ℕ). EndsLegally m m' log us (told_lits start.bounds start.trail.entries) mid.trail.entries work work' result) atoms
-      (subst (λ (ls : List Lit). EndsLegally m m' log mid.atoms ls mid.trail.entries work work' result) told step.ends) in
+      let ends : EndsLegally m m' log held start.atoms (told_lits start.bounds start.trail.entries) mid.trail.entries work work' result =
+      subst (λ (us : List ℕ). EndsLegally m m' log held us (told_lits start.bounds start.trail.entries) mid.trail.entries work work' result) atoms
+      (subst (λ (ls : List Lit). EndsLegally m m' log held mid.atoms ls mid.trail.entries work work' result) told step.ends) in
       record {
         keeps = step.keeps;
         grows = step.grows;
@@ -338,13 +377,13 @@ module _ (start : Search) (none : start.trail.entries ≡ []) (log : LogState) (
         named = subst (λ (us : List ℕ). AreOn log us held → AreOn log' us held') atoms step.named;
         learned = subst (λ (us : List ℕ). HoldsLearned log us held work → HoldsLearned log' us held' work') atoms step.learned;
         adds = step.adds;
-        ends = λ ns levels all q known only. ends ns levels all q known (assumed_wider assumed all only mid.trail.entries a.assumed_only);
+        ends = λ ns levels all q known on. ends ns levels all q known (assumed_from assumed all mid.trail.entries (all_assumed a) on);
       }
 
   -- the log grows by a refutation before anything is decided
   pub first_refuted : {A : Type 0} → (m : TheoryState) → {assumed : List Lit} → {mid : Search} → {log' : LogState} → (work : WorkList Note) → {o : Option ℕ}
       → mid ≡ record start { trail = mid.trail; propagation = mid.propagation } → AssumesAll log held assumed mid o → Grows log log' → StaysSound mid.trail.entries log log' → (result : Result A Stop)
-      → EndsLegally m m log start.atoms (told_lits start.bounds start.trail.entries) (assumed_entries assumed) work work result
+      → EndsLegally m m log held start.atoms (told_lits start.bounds start.trail.entries) (assumed_entries assumed) work work result
       → Advances m m start (assumed_entries assumed) log log' held held work work result
   first_refuted m {assumed} {mid} {log'} work rest a grows sound result ends =
       let atoms : mid.atoms ≡ start.atoms = ap (λ (r : Search). r.atoms) rest in
@@ -354,8 +393,8 @@ module _ (start : Search) (none : start.trail.entries ≡ []) (log : LogState) (
 
   -- where the theory stands the list tells what it was told
   pub first_stands : (m : TheoryState) (work : WorkList Note) → IsNoted log held start work → (es : List Assigned) → (A : Type 0) (x : A)
-      → EndsLegally {A = A} m m log start.atoms (told_lits start.bounds start.trail.entries) es work work (Ok x)
-  first_stands m work noted es A x ns levels assumed q known only asked st =
+      → EndsLegally {A = A} m m log held start.atoms (told_lits start.bounds start.trail.entries) es work work (Ok x)
+  first_stands m work noted es A x ns levels assumed q known on asked st =
       stands_so ns log start.atoms start.bounds start.trail.entries work noted.trail (m.at ns) q st
 
 -- the order of what is decided next has no part in it
@@ -402,7 +441,7 @@ pub run_advances : {A B : Type 0} → {m m₁ m₂ : TheoryState} → {assumed :
     → Runs log' held' assumed start s work' → Advances m₁ m₂ s s.trail.entries log' log'' held' held'' work' work'' result
     → Advances m m₂ start (assumed_entries assumed) log log'' held held'' work work'' result
 run_advances {assumed = assumed} {s = s} before h step =
-    reaches_then (reaches_step before h.noted.trail) h.same (λ all only. assumed_wider assumed all only s.trail.entries h.assumed_only) step
+    reaches_then (reaches_step before h.noted.trail) h.same (λ all on. assumed_from assumed all s.trail.entries (record { only = h.assumed_only; hold = h.hold }) on) step
 
 pub run_steps : {A : Type 0} → {m m₁ m₂ : TheoryState} → {assumed : List Lit} → {start s new : Search} → {log log' log'' : LogState} → {held held' held'' : List Held}
     → {work work' work'' : WorkList Note} → {x : A} → {answer : Result (Option ℕ) Stop} → Advances m m₁ start (assumed_entries assumed) log log' held held' work work' (Ok x)

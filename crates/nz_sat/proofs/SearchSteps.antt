@@ -1,9 +1,9 @@
 -- What the steps of a search keep, one after another.
-use Rattle.std.proofs.Common.{◌≡◌, true, ℕ, ◌≤◌, Bool, List, [], ◌++◌, length, min, take, drop, map, Option, inl, inr, sym, ap, subst, ◌∙◌, arith, append_assoc, All, filter, Result, Ok, Err}
+use Rattle.std.proofs.Common.{◌≡◌, true, ℕ, ◌≤◌, Bool, List, [], ◌++◌, length, min, take, drop, map, Option, inl, inr, sym, ap, subst, ◌∙◌, arith, append_assoc, All, Contains, filter, Result, Ok, Err}
 use Rattle.std.proofs.Math.Nat.{min-eq_left, min-eq_right}
 use Rattle.std.proofs.lemmas.Bool.Decides.{leb_tells}
 use Rattle.std.proofs.lemmas.List.{append-nil, length-map, map-append, take-append-drop, take-append-le, take-map, take-take, take_all}
-use Rattle.std.proofs.lemmas.List.Elements.{All-append, filter-append}
+use Rattle.std.proofs.lemmas.List.Elements.{All-append, Contains-append_left, filter-append}
 use Rattle.nz_spec.specs.simplex.Bland.{Point}
 use Rattle.nz_spec.specs.terms.Form.{Part}
 use Rattle.nz_spec.specs.search.Legal.{Lead}
@@ -25,7 +25,7 @@ use Rattle.nz_sat.specs.declared.clauses.Held.{Held}
 use Rattle.nz_sat.specs.declared.consult.Bounds.{Bounds}
 use Rattle.nz_sat.specs.declared.search.Search.{Search}
 use Rattle.nz_sat.specs.declared.trail.Assigned.{Assigned}
-use Rattle.nz_sat.specs.Clauses.{IsAssumed}
+use Rattle.nz_sat.specs.Clauses.{AreAssumedOn}
 use Rattle.nz_sat.specs.Conflicts.{is_marked}
 use Rattle.nz_sat.specs.Numbers.{IsAtomAt}
 use Rattle.nz_sat.specs.Sats.{AreHeld, AreOn, HoldsLearned, HoldsMore, IsAsked}
@@ -45,9 +45,9 @@ pub stands_legal : {IsAt : Standing} → {ns : List Node} → {q : Task} → {wo
 stands_legal s = (s.point, s.legal)
 
 -- a list that want of memory ends
-pub ends_memory : (A : Type 0) (theory theory' : TheoryState) (log : LogState) (atoms : List ℕ) (told : List Lit) (es : List Assigned) (work : WorkList Note)
-    → EndsLegally {A = A} theory theory' log atoms told es work work (Err Memory)
-ends_memory A theory theory' log atoms told es work ns levels assumed q known only asked s = (s.point, s.legal)
+pub ends_memory : (A : Type 0) (theory theory' : TheoryState) (log : LogState) (held : List Held) (atoms : List ℕ) (told : List Lit) (es : List Assigned) (work : WorkList Note)
+    → EndsLegally {A = A} theory theory' log held atoms told es work work (Err Memory)
+ends_memory A theory theory' log held atoms told es work ns levels assumed q known on asked s = (s.point, s.legal)
 
 -- ---- Steps
 
@@ -60,7 +60,7 @@ pub record Reaches (theory theory' : TheoryState) (s : Search) (es : List Assign
   pub named : AreOn log s.atoms held → AreOn log' s.atoms held'
   pub learned : HoldsLearned log s.atoms held work → HoldsLearned log' s.atoms held' work'
   pub adds : AddsLines IsOfSearch work work'
-  pub stands : (ns : List Node) (levels : List (List ℕ)) (assumed : List Lit) (q : Task) → theory.over ns → All (IsAssumed assumed) es → IsAsked ns levels log s.atoms assumed work q
+  pub stands : (ns : List Node) (levels : List (List ℕ)) (assumed : List Lit) (q : Task) → theory.over ns → AreAssumedOn assumed es → IsAsked ns levels log held s.atoms assumed work q
       → StandsAt (theory.at ns) ns q work (clause_in ns log.atoms (told_lits s.bounds s.trail.entries))
       → StandsAt (theory'.at ns) ns q work' (clause_in ns log'.atoms (told_lits s'.bounds s'.trail.entries))
 
@@ -76,8 +76,8 @@ reaches_step {m' = m'} {mid = mid} {log' = log'} {work' = work'} p tells =
       named = p.named;
       learned = p.learned;
       adds = p.adds;
-      stands = λ ns levels assumed q known only asked st.
-          stands_by ns log' mid.atoms mid.bounds mid.trail.entries work' tells (m'.at ns) q (p.ends ns levels assumed q known only asked st);
+      stands = λ ns levels assumed q known on asked st.
+          stands_by ns log' mid.atoms mid.bounds mid.trail.entries work' tells (m'.at ns) q (p.ends ns levels assumed q known on asked st);
     }
 
 -- what was told of a front of a trail comes first
@@ -145,16 +145,16 @@ reaches_cut {m} {m₁} {m₂} {s} {mid} {cut} {es} {log} {log'} {held} {held'} {
       named = p.named;
       learned = p.learned;
       adds = p.adds;
-      stands = λ ns levels assumed q known only asked st.
+      stands = λ ns levels assumed q known on asked st.
           cut_stands m₁ m₂ ns q log' work' (told_lits mid.bounds mid.trail.entries) (told_lits cut.bounds cut.trail.entries) at
-          (told_taken mid.bounds cut.bounds mid.trail.entries cut.trail.entries front bounds) (p.stands ns levels assumed q known only asked st);
+          (told_taken mid.bounds cut.bounds mid.trail.entries cut.trail.entries front bounds) (p.stands ns levels assumed q known on asked st);
     }
 
 -- one step after another
 pub reaches_then : {A : Type 0} → {m m₁ m₂ : TheoryState} → {s mid : Search} → {es es₁ : List Assigned} → {a b c : LogState} → {h h₁ h₂ : List Held} → {w w₁ w₂ : WorkList Note} → {result : Result A Stop}
-    → Reaches m m₁ s es mid a b h h₁ w w₁ → mid.atoms ≡ s.atoms → ((assumed : List Lit) → All (IsAssumed assumed) es → All (IsAssumed assumed) es₁)
+    → Reaches m m₁ s es mid a b h h₁ w w₁ → mid.atoms ≡ s.atoms → ((assumed : List Lit) → AreAssumedOn assumed es → AreAssumedOn assumed es₁)
     → Advances m₁ m₂ mid es₁ b c h₁ h₂ w₁ w₂ result → Advances m m₂ s es a c h h₂ w w₂ result
-reaches_then {m = m} {m₁ = m₁} {m₂ = m₂} {s = s} {mid = mid} {a = a} {b = b} {c = c} {h = h} {h₁ = h₁} {h₂ = h₂} {w = w} {w₁ = w₁} {w₂ = w₂} p same only q =
+reaches_then {m = m} {m₁ = m₁} {m₂ = m₂} {s = s} {mid = mid} {a = a} {b = b} {c = c} {h = h} {h₁ = h₁} {h₂ = h₂} {w = w} {w₁ = w₁} {w₂ = w₂} p same assumed_too q =
     record {
       keeps = keeps_far m m₁ m₂ p.keeps q.keeps;
       grows = grows_far a b c p.grows q.grows;
@@ -171,15 +171,15 @@ reaches_then {m = m} {m₁ = m₁} {m₂ = m₂} {s = s} {mid = mid} {a = a} {b 
       learned = λ before.
           subst (λ (us : List ℕ). HoldsLearned c us h₂ w₂) same (q.learned (subst (λ (us : List ℕ). HoldsLearned b us h₁ w₁) (sym same) (p.learned before)));
       adds = adds_far w w₁ w₂ p.adds q.adds;
-      ends = λ ns levels assumed task known assumed_only asked st.
-          let asked' = asked_on a b s.atoms p.grows (p.sound ns levels known asked.within asked.order) (adds_same ns w w₁ p.adds).under asked in
-          q.ends ns levels assumed task (p.keeps.over ns known) (only assumed assumed_only) (subst (λ (us : List ℕ). IsAsked ns levels b us assumed w₁ task) (sym same) asked')
-          (p.stands ns levels assumed task known assumed_only asked st);
+      ends = λ ns levels assumed task known on asked st.
+          let asked' = asked_on a b s.atoms p.grows (λ x has. subst (λ (xs : List Held). Contains xs x) (sym p.holds_more.joined) (Contains-append_left h p.holds_more.learned x has)) (p.sound ns levels known asked.within asked.order) (adds_same ns w w₁ p.adds).under asked in
+          q.ends ns levels assumed task (p.keeps.over ns known) (assumed_too assumed on) (subst (λ (us : List ℕ). IsAsked ns levels b h₁ us assumed w₁ task) (sym same) asked')
+          (p.stands ns levels assumed task known on asked st);
     }
 
 -- the log alone grows, in a call that answers while the theory stands where the list leads
 pub log_reaches : (m : TheoryState) (s : Search) (es : List Assigned) (a b : LogState) (held : List Held) (work : WorkList Note) → AreHeld a held → Grows a b
-    → StaysInOrder m.over s.atoms a b → {A : Type 0} → (result : Result A Stop) → EndsLegally m m a s.atoms (told_lits s.bounds s.trail.entries) es work work result
+    → StaysInOrder m.over s.atoms a b → {A : Type 0} → (result : Result A Stop) → EndsLegally m m a held s.atoms (told_lits s.bounds s.trail.entries) es work work result
     → Advances m m s es a b held held work work result
 log_reaches m s es a b held work h g sound result ends =
     record {
@@ -194,19 +194,19 @@ log_reaches m s es a b held work h g sound result ends =
     }
 
 -- an error that names no place, before a line that may follow
-narrow_ends : (A : Type 0) (m m' : TheoryState) (log : LogState) (atoms : List ℕ) (told : List Lit) (es : List Assigned) (work : WorkList Note) (e : Stop) → OnWide e (λ place. ⊥)
-    → EndsLegally {A = A} m m' log atoms told es work work (Err Spent) → EndsLegally {A = A} m m' log atoms told es work work (Err e)
-narrow_ends A m m' log atoms told es work (Wide place) narrow wanting = absurd narrow
-narrow_ends A m m' log atoms told es work Spent narrow wanting = wanting
-narrow_ends A m m' log atoms told es work Memory narrow wanting = ends_memory A m m' log atoms told es work
+narrow_ends : (A : Type 0) (m m' : TheoryState) (log : LogState) (held : List Held) (atoms : List ℕ) (told : List Lit) (es : List Assigned) (work : WorkList Note) (e : Stop) → OnWide e (λ place. ⊥)
+    → EndsLegally {A = A} m m' log held atoms told es work work (Err Spent) → EndsLegally {A = A} m m' log held atoms told es work work (Err e)
+narrow_ends A m m' log held atoms told es work (Wide place) narrow wanting = absurd narrow
+narrow_ends A m m' log held atoms told es work Spent narrow wanting = wanting
+narrow_ends A m m' log held atoms told es work Memory narrow wanting = ends_memory A m m' log held atoms told es work
 
 pub narrow_advances : {A : Type 0} → (m : TheoryState) (s : Search) (es : List Assigned) (a b : LogState) (held : List Held) (work : WorkList Note) → AreHeld a held → Grows a b
-    → StaysInOrder m.over s.atoms a b → (e : Stop) → OnWide e (λ place. ⊥) → EndsLegally {A = A} m m a s.atoms (told_lits s.bounds s.trail.entries) es work work (Err Spent)
+    → StaysInOrder m.over s.atoms a b → (e : Stop) → OnWide e (λ place. ⊥) → EndsLegally {A = A} m m a held s.atoms (told_lits s.bounds s.trail.entries) es work work (Err Spent)
     → (result : Result A Stop) → Err e ≡ result → Advances m m s es a b held held work work result
 narrow_advances {A} m s es a b held work h g sound e narrow wanting result is =
     log_reaches m s es a b held work h g sound result
-    (subst (EndsLegally {A = A} m m a s.atoms (told_lits s.bounds s.trail.entries) es work work) is
-    (narrow_ends A m m a s.atoms (told_lits s.bounds s.trail.entries) es work e narrow wanting))
+    (subst (EndsLegally {A = A} m m a held s.atoms (told_lits s.bounds s.trail.entries) es work work) is
+    (narrow_ends A m m a held s.atoms (told_lits s.bounds s.trail.entries) es work e narrow wanting))
 
 -- an error that a step hands on
 ends_on : (A B : Type 0) (IsAt : Standing) (ns : List Node) (q : Task) (work : WorkList Note) (e : Stop) → Ends {A = A} IsAt ns q work (Err e) → Ends {A = B} IsAt ns q work (Err e)
@@ -226,7 +226,7 @@ advances_err {A} {B} {m} {m'} {s} {es} {log} {log'} {held} {held'} {work} {work'
       named = p.named;
       learned = p.learned;
       adds = p.adds;
-      ends = λ ns levels assumed q known only asked st. ends_on A B (m'.at ns) ns q work' e (p.ends ns levels assumed q known only asked st);
+      ends = λ ns levels assumed q known on asked st. ends_on A B (m'.at ns) ns q work' e (p.ends ns levels assumed q known on asked st);
     })
 
 pub advances_same : {A : Type 0} → {m m' : TheoryState} → {s : Search} → {es : List Assigned} → {log log' : LogState} → {held held' : List Held} → {work work' : WorkList Note}

@@ -30,14 +30,15 @@ use Rattle.nz_search.specs.Theories.{IsBoundIn}
 use Rattle.nz_sat.specs.declared.clauses.Held.{Held}
 use Rattle.nz_sat.specs.declared.search.Search.{Search}
 use Rattle.nz_sat.specs.declared.trail.Assigned.{Assigned}
-use Rattle.nz_sat.specs.Clauses.{IsAssumed, IsOpen, by_true, by_two}
+use Rattle.nz_sat.specs.Clauses.{IsOpen, by_true, by_two}
 use Rattle.nz_sat.specs.Conflicts.{is_marked}
 use Rattle.nz_sat.specs.Numbers.{AreNotedIn, atom_literal, noted_atoms, numbered}
-use Rattle.nz_sat.specs.Sats.{AreOn, HasBegun, HoldsLearned, IsAsked, IsSatisfied, IsTheoryMet, IsTrueClause, IsTrueLit, SatState, truth_of, ids}
+use Rattle.nz_sat.specs.Sats.{AreConsistent, AreOn, HasBegun, HoldsLearned, IsAsked, IsSatisfied, IsTheoryMet, IsTrueClause, IsTrueLit, SatState, truth_of, ids}
 use Rattle.nz_sat.specs.Searching.{Advances, IsNoted, IsSearch, Satisfies, StaysInOrder, assumed_entries}
 use Rattle.nz_sat.specs.Theories.{IsMet, TellsTrail, TheoryState, bounds_on, told_literal, told_lits, told_on}
 use Rattle.nz_sat.specs.Trails.{AreTruthsOn, EachBehind, IsNext, IsTrueOn, assigned, is_decision, literals_on}
-use Rattle.nz_sat.proofs.Chains.{filter_has, lit_is}
+use Rattle.nz_sat.proofs.AssumedLiterals.{assumed_first, true_among}
+use Rattle.nz_sat.proofs.Chains.{filter_has}
 use Rattle.nz_sat.proofs.Clausal.{free_missing}
 use Rattle.nz_sat.proofs.TrailGrowth.{held_has}
 use Rattle.nz_sat.proofs.LearnedClauses.{all_from}
@@ -46,7 +47,7 @@ use Rattle.nz_sat.proofs.LearnedLines.{held_named}
 use Rattle.nz_sat.proofs.LogGrowth.{said, says}
 use Rattle.nz_sat.proofs.ToldTrails.{entry_from, front_has, says_itself, stands_by, told_among, told_entry, told_said}
 use Rattle.nz_sat.proofs.AtomTrails.{bound_marked, marked_bound}
-use Rattle.nz_sat.proofs.TrailEntries.{assigned_at, assigned_place}
+use Rattle.nz_sat.proofs.TrailEntries.{assigned_at}
 
 -- ---- At the start
 
@@ -97,11 +98,6 @@ first_noted log held s work atoms same noted begun none =
       take-nil zero = refl
       take-nil (suc n) = refl
 
--- assumed literals are assumed
-assumed_only : (assumed : List Lit) → All (IsAssumed assumed) (assumed_entries assumed)
-assumed_only assumed =
-    All-map (IsAssumed assumed) (λ (l : Lit). record { literal = l; level = 0; reason = None }) assumed (λ k d inside none level. Contains-get_or assumed k d inside)
-
 -- a run of a search over these atoms
 module _ {m m' : TheoryState} {s : Search} {log log' : LogState} {held held' : List Held} {work work' : WorkList Note} {answer : Result (Option ℕ) Stop}
     (assumed : List Lit) (a : Advances m m' s (assumed_entries assumed) log log' held held' work work' answer) (atoms : List ℕ) (same : s.atoms ≡ atoms) where
@@ -115,11 +111,11 @@ module _ {m m' : TheoryState} {s : Search} {log log' : LogState} {held held' : L
   run_named = subst (λ (us : List ℕ). AreOn log us held → AreOn log' us held') same a.named
 
   -- where the list leads to where the theory stands, so it does at the end
-  pub run_ends : TellsTrail log s.atoms s.bounds s.trail.entries work → (ns : List Node) (levels : List (List ℕ)) (q : Task)
-      → m.over ns → IsAsked ns levels log atoms assumed work q → Stands (m.at ns) ns q work → Ends (m'.at ns) ns q work' answer
-  run_ends tells ns levels q known asked stands =
-      let asked' = subst (λ (us : List ℕ). IsAsked ns levels log us assumed work q) (sym same) asked in
-      a.ends ns levels assumed q known (assumed_only assumed) asked'
+  pub run_ends : AreConsistent assumed → TellsTrail log s.atoms s.bounds s.trail.entries work → (ns : List Node) (levels : List (List ℕ)) (q : Task)
+      → m.over ns → IsAsked ns levels log held atoms assumed work q → Stands (m.at ns) ns q work → Ends (m'.at ns) ns q work' answer
+  run_ends consistent tells ns levels q known asked stands =
+      let asked' = subst (λ (us : List ℕ). IsAsked ns levels log held us assumed work q) (sym same) asked in
+      a.ends ns levels assumed q known (assumed_first assumed consistent) asked'
       (stands_by ns log s.atoms s.bounds s.trail.entries work tells (m.at ns) q stands)
 
 -- where the theory stands after the run, also where it can't be told
@@ -172,18 +168,6 @@ satisfied log held assumed atoms s work t same truths h =
 -- the literal of an entry is true
 entry_true : (size : ℕ) (es : List Assigned) → EachBehind (IsNext size) es → (i : ℕ) (e : Assigned) → slice_get es i ≡ Some e → IsTrueOn es e.literal
 entry_true size es order i e at = ap (option_map (λ (x : Assigned). x.literal.sign)) (assigned_at es i e at (order i e at).fresh)
-
--- a true literal is that of an entry
-true_among : (es : List Assigned) (l : Lit) → IsTrueOn es l → Contains (literals_on es) l
-true_among es l on =
-    elim (assigned es l.atom) as (λ o. assigned es l.atom ≡ o → option_map (λ (x : Assigned). x.literal.sign) o ≡ Some l.sign → Contains (literals_on es) l) [
-      | None ↦ λ none there. let clash : None ≡ Some l.sign = there in cc
-      | Some x ↦ λ at there.
-          let place = assigned_place es l.atom x at in
-          let is : x.literal ≡ l = lit_is x.literal l place.0 (same_Some x.literal.sign l.sign there) in
-          has_found (literals_on es) place.1.0 l
-          (slice_get-map (λ (e : Assigned). e.literal) es place.1.0 ∙ ap (option_map (λ (e : Assigned). e.literal)) place.1.1 ∙ ap Some is)
-    ] refl on
 
 -- it was told each true literal on a bound
 told_true : (m : TheoryState) (log : LogState) (held : List Held) (s : Search) → IsSearch log held s → IsMet m s.bounds s.trail.entries → (l : Lit) → IsBoundIn log l

@@ -20,6 +20,7 @@ use Rattle.nz_sat.specs.Numbers.{numbered}
 use Rattle.nz_sat.specs.Searching.{Advances, AreFirst, Carries, ComesTo, Follows, IsConflict, IsNoted, IsSearch, Learns, PropagatedOrConflict, PropagatedOrFalsified, Settles, StaysInOrder, Steps, Turns, TurnsOn, WasNoted}
 use Rattle.nz_sat.specs.Theories.{AddsLines, Consults, EndsLegally, IsMet, IsOfTheory, IsTrailOn, TellsTrail, TheoryState, told_lits}
 use Rattle.nz_sat.specs.Trails.{GoesOn, IsTrueOn, below, depth, literals_on, IsFalseOn, IsFrontOf, level_on}
+use Rattle.nz_sat.proofs.AssumedLiterals.{assumed_carried, assumed_goes}
 use Rattle.nz_sat.proofs.SearchSteps.{Reaches, advances_same, ends_memory, log_reaches, reaches_step, reaches_then, stands_legal, steps_behind}
 use Rattle.nz_sat.proofs.Propagations.{carries_far, goes_first, goes_tells, goes_told}
 use Rattle.nz_sat.proofs.LogGrowth.{atoms_stay, grows_far, grows_none, held_on, holds_none, on_kept, order_over}
@@ -209,7 +210,7 @@ pub falsified_advances : (m : TheoryState) (log : LogState) (held : List Held) (
     → (found : Option ℕ) → Advances m m s s.trail.entries log log held held work work (Ok found)
 falsified_advances m log held s work h tells found =
     log_reaches m s s.trail.entries log log held work h.are_held (grows_none log) (λ ns levels known within order. order) (Ok found)
-    (λ ns levels assumed q known only asked st. stands_so ns log s.atoms s.bounds s.trail.entries work tells (m.at ns) q st)
+    (λ ns levels assumed q known on asked st. stands_so ns log s.atoms s.bounds s.trail.entries work tells (m.at ns) q st)
 
 -- nor where memory is wanted
 pub without_advances : {A : Type 0} → (m : TheoryState) (log : LogState) (held : List Held) (s : Search) (es : List Assigned) (work : WorkList Note) → IsSearch log held s → (result : Result A Stop)
@@ -217,7 +218,7 @@ pub without_advances : {A : Type 0} → (m : TheoryState) (log : LogState) (held
 without_advances {A} m log held s es work h result is =
     advances_same is
     (log_reaches m s es log log held work h.are_held (grows_none log) (λ ns levels known within order. order) (Err Memory)
-    (ends_memory A m m log s.atoms (told_lits s.bounds s.trail.entries) es work))
+    (ends_memory A m m log held s.atoms (told_lits s.bounds s.trail.entries) es work))
 
 -- lines of a theory tell of no clause that is learned
 learned_added : (log : LogState) (atoms : List ℕ) (held : List Held) (work work' : WorkList Note) → AddsLines IsOfTheory work work' → HoldsLearned log atoms held work
@@ -232,9 +233,9 @@ pub consult_advances : (m m' : TheoryState) (log log' : LogState) (held : List H
 consult_advances m m' log log' held s s' b work work' result h h' rest g c =
     let atoms = ap (λ (r : Search). r.atoms) rest in
     let told = follow_told log s s' rest g h.on.inside in
-    let ends : EndsLegally m m' log s.atoms (told_lits s.bounds s.trail.entries) s'.trail.entries work work' result =
-    subst (λ (us : List ℕ). EndsLegally m m' log us (told_lits s.bounds s.trail.entries) s'.trail.entries work work' result) atoms
-    (subst (λ (ls : List Lit). EndsLegally m m' log s'.atoms ls s'.trail.entries work work' result) told c.ends) in
+    let ends : EndsLegally m m' log held s.atoms (told_lits s.bounds s.trail.entries) s'.trail.entries work work' result =
+    subst (λ (us : List ℕ). EndsLegally m m' log held us (told_lits s.bounds s.trail.entries) s'.trail.entries work work' result) atoms
+    (subst (λ (ls : List Lit). EndsLegally m m' log held s'.atoms ls s'.trail.entries work work' result) told (c.ends held)) in
     record {
       keeps = c.keeps;
       grows = c.grows;
@@ -243,7 +244,7 @@ consult_advances m m' log log' held s s' b work work' result h h' rest g c =
       named = on_kept log log' s.atoms held c.grows h.are_held;
       learned = λ before. learned_added log' s.atoms held work work' c.adds (learned_grown log log' s.atoms held c.grows h.are_held work before);
       adds = adds_wider work work' c.adds;
-      ends = λ ns levels assumed q known only asked st. ends ns levels assumed q known (goes_assumed s.trail.entries s'.trail.entries assumed g only) asked st;
+      ends = λ ns levels assumed q known on asked st. ends ns levels assumed q known (assumed_goes s.trail.entries s'.trail.entries assumed g on) asked st;
     }
 
 -- ---- One turn
@@ -275,7 +276,7 @@ turns_on {start} {mid} {new} {log} {log'} {held} {work} {work₁} {work₂} h no
 pub learned_advances : {A B : Type 0} → {m m₁ m₂ : TheoryState} → {s mid : Search} → {log log₁ log₂ : LogState} → {held held₁ held₂ : List Held} → {work work₁ work₂ : WorkList Note} → {x : B}
     → {result : Result A Stop} → Learns log₁ held₁ s mid work work₁ → Advances m m₁ s s.trail.entries log log₁ held held₁ work work₁ (Ok x)
     → Advances m₁ m₂ mid mid.trail.entries log₁ log₂ held₁ held₂ work₁ work₂ result → Advances m m₂ s s.trail.entries log log₂ held held₂ work work₂ result
-learned_advances l first step = reaches_then (reaches_step first l.noted.trail) l.carries.atoms l.carries.assumed_only step
+learned_advances l first step = reaches_then (reaches_step first l.noted.trail) l.carries.atoms (assumed_carried l.carries) step
 
 pub turns_learned : {log log' : LogState} → {held : List Held} → {s mid : Search} → (new : Search) → {work work₁ work₂ : WorkList Note}
     → Learns log held s mid work work₁ → work₁.limit ≡ work.limit → Grows log log' → AddsLines IsOfTheory work₁ work₂ → new.atoms ≡ mid.atoms
@@ -393,8 +394,8 @@ goes_back {start = start} {old = old} {cut = cut} {log' = log'} {held' = held'} 
 pub back_refuted : {A : Type 0} → {m m' : TheoryState} → {start old cut : Search} → {log log' new : LogState} → {held held' : List Held} → {work work' : WorkList Note} → {conflict : Option ℕ}
     → {falsified level : ℕ} → IsSettling m m' start old log log' held held' work work' conflict → IsBack start cut log' held' work work' falsified level → Grows log' new
     → StaysSound cut.trail.entries log' new → (result : Result A Stop)
-    → (EndsLegally m m' log start.atoms (told_lits start.bounds start.trail.entries) start.trail.entries work work' (Ok conflict)
-    → EndsLegally m m' log start.atoms (told_lits start.bounds start.trail.entries) start.trail.entries work work' result)
+    → (EndsLegally m m' log held start.atoms (told_lits start.bounds start.trail.entries) start.trail.entries work work' (Ok conflict)
+    → EndsLegally m m' log held start.atoms (told_lits start.bounds start.trail.entries) start.trail.entries work work' result)
     → Advances m m' start start.trail.entries log new held held' work work' result
 back_refuted {m = m} {m' = m'} {start = start} {cut = cut} {log = log} {log' = log'} {new = new} {held' = held'} {work' = work'} t b grows sound result ends =
     let p = t.advances in
@@ -413,9 +414,9 @@ back_refuted {m = m} {m' = m'} {start = start} {cut = cut} {log = log} {log' = l
     }
 
 -- where memory is wanted the list is legal
-pub ends_without : (A B : Type 0) (x : A) (m m' : TheoryState) (log : LogState) (atoms : List ℕ) (told : List Lit) (es : List Assigned) (work work' : WorkList Note)
-    → EndsLegally {A = A} m m' log atoms told es work work' (Ok x) → EndsLegally {A = B} m m' log atoms told es work work' (Err Memory)
-ends_without A B x m m' log atoms told es work work' ends ns levels assumed q known only asked st = stands_legal (ends ns levels assumed q known only asked st)
+pub ends_without : (A B : Type 0) (x : A) (m m' : TheoryState) (log : LogState) (held : List Held) (atoms : List ℕ) (told : List Lit) (es : List Assigned) (work work' : WorkList Note)
+    → EndsLegally {A = A} m m' log held atoms told es work work' (Ok x) → EndsLegally {A = B} m m' log held atoms told es work work' (Err Memory)
+ends_without A B x m m' log held atoms told es work work' ends ns levels assumed q known on asked st = stands_legal (ends ns levels assumed q known on asked st)
 
 module _ {start cut : Search} {log' : LogState} {held' : List Held} {work work' : WorkList Note} {falsified level : ℕ} (b : IsBack start cut log' held' work work' falsified level) where
   pub back_falsified : (assumed : List Lit) → IsFalsifiedUnder assumed cut.trail.entries (literals_at log' falsified)
@@ -429,7 +430,7 @@ module _ {start cut : Search} {log' : LogState} {held' : List Held} {work work' 
   settles_on {new = new} {work₁ = work₁} reaches step is_told on =
       let t = on.turns in
       record {
-        advances = reaches_then reaches b.carries.atoms b.carries.assumed_only step.advances;
+        advances = reaches_then reaches b.carries.atoms (assumed_carried b.carries) step.advances;
         turns = record {
           may = t.may;
           told_so = t.told_so;
@@ -443,4 +444,4 @@ module _ {start cut : Search} {log' : LogState} {held' : List Held} {work work' 
   pub steps_on : {m m' m'' : TheoryState} → {new : Search} → {log log₁ : LogState} → {held held₁ : List Held} → {work₁ : WorkList Note} → {answer : Result (Option ℕ) Stop}
       → Reaches m m' start start.trail.entries cut log log' held held' work work' → Steps m' m'' cut cut.trail.entries new log' log₁ held' held₁ work' work₁ answer
       → Steps m m'' start start.trail.entries new log log₁ held held₁ work work₁ answer
-  steps_on reaches step = steps_behind (reaches_then reaches b.carries.atoms b.carries.assumed_only step.advances) step
+  steps_on reaches step = steps_behind (reaches_then reaches b.carries.atoms (assumed_carried b.carries) step.advances) step

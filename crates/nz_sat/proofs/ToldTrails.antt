@@ -36,6 +36,7 @@ use Rattle.nz_search.specs.Notes.{noted_list}
 use Rattle.nz_search.specs.Standing.{Standing, Stands, search_after}
 use Rattle.nz_search.specs.Theories.{AddsPivots, IsClash, Leads}
 use Rattle.nz_log.specs.Growth.{Grows}
+use Rattle.nz_sat.specs.declared.clauses.Held.{Held}
 use Rattle.nz_sat.specs.declared.consult.Bounds.{Bounds}
 use Rattle.nz_sat.specs.declared.trail.Assigned.{Assigned}
 use Rattle.nz_sat.specs.Clauses.{IsAssumed, IsFalsified}
@@ -113,7 +114,7 @@ told_each ns all (e ∷ es) = let rest = told_each ns all es in λ i. literal_in
 
 module _ (ns : List Node) (log : LogState) (atoms : List ℕ) (b : Bounds) (es : List Assigned) (work : WorkList Note) (tells : TellsTrail log atoms b es work) where
   -- what the list says by the number of an atom
-  says_numbered : (l : Lit) → Contains atoms l.atom → literal_by (search_after ns work).atoms (numbered atoms l) ≡ literal_in ns log.atoms l
+  pub says_numbered : (l : Lit) → Contains atoms l.atom → literal_by (search_after ns work).atoms (numbered atoms l) ≡ literal_in ns log.atoms l
   says_numbered l has = ap (λ (xs : List spec.Literal). literal_by xs (numbered atoms l)) (tells.named ns) ∙ literal_numbered ns log.atoms atoms l has
 
   pub told_said : told_literals (search_after ns work) ≡ clause_in ns log.atoms (told_lits b es)
@@ -168,7 +169,8 @@ pub record Laws : Type 0 where
   pub other : NegationIsOther
   pub repeats : LegalWorkDoesNotRepeat
 
-missing : (es : List Assigned) (x : Assigned) → Contains es x → assigned es x.literal.atom ≡ None → ⊥
+-- the atom of an entry has one
+pub missing : (es : List Assigned) (x : Assigned) → Contains es x → assigned es x.literal.atom ≡ None → ⊥
 missing [] x has none = omega (arith, has.1)
 missing (y ∷ ys) x has none =
     elim (eqb_tells y.literal.atom x.literal.atom) [
@@ -259,7 +261,7 @@ module _ (log : LogState) (atoms : List ℕ) (b : Bounds) (t : TrailState) (h : 
       let x = entry_from es l (next_among l has) in
       subst (λ (m : Lit). Contains atoms m.atom) x.3 (All-contains (λ (y : Assigned). Contains atoms y.literal.atom) es x.1 h.on_trail (has_found es x.0 x.1 x.2))
 
-  module _ (laws : Laws) (ns : List Node) (levels : List (List ℕ)) (assumed : List Lit) (q : Task) (work : WorkList Note) (asked : IsAsked ns levels log atoms assumed work q)
+  module _ (laws : Laws) (ns : List Node) (levels : List (List ℕ)) (assumed : List Lit) (q : Task) {held : List Held} (work : WorkList Note) (asked : IsAsked ns levels log held atoms assumed work q)
       (only : All (IsAssumed assumed) es) (tells : TellsTrail log atoms b es work) (x : Point) (lead : Lead q at_first no_point (noted_list ns work).lines x) where
     abbrev r : legal.Search
     r = search_after ns work
@@ -324,7 +326,7 @@ consults_none m log atoms b t work h told tells =
       told = told;
       noted = tells;
       clash = tt;
-      ends = λ ns levels assumed q known only asked stands. stands_so ns log atoms b t.entries work tells (m.at ns) q stands;
+      ends = λ held ns levels assumed q known on asked stands. stands_so ns log atoms b t.entries work tells (m.at ns) q stands;
     }
 
 module _ {m m₁ : TheoryState} {log log₁ : LogState} {atoms : List ℕ} {b b₁ : Bounds} {t : TrailState} {work work₁ : WorkList Note} (c : Consults m m₁ log log₁ atoms b b₁ t work work₁ (Ok None))
@@ -367,13 +369,13 @@ module _ {m m₁ : TheoryState} {log log₁ : LogState} {atoms : List ℕ} {b b�
         (λ x l. lit_stays log.atoms log₁.atoms c.grows.atoms ns x.literal l) t.entries within in
         o.sound ls ns levels c.told (c.keeps.over ns known) (one_within ns within') (c.sound ns levels known within order)
 
-    one_ends : Laws → EndsLegally m m₂ log atoms (told_lits b t.entries) t.entries work work₂ r
-    one_ends laws ns levels assumed q known only asked stands =
+    one_ends : Laws → (held : List Held) → EndsLegally m m₂ log held atoms (told_lits b t.entries) t.entries work work₂ r
+    one_ends laws held ns levels assumed q known on asked stands =
         let under = (adds_same ns work work₁ (adds_wider work work₁ c.adds)).under in
-        let asked' = asked_on log log₁ atoms c.grows (order_over m.over atoms t.entries c.trail.on_trail log log₁ c.sound ns levels known asked.within asked.order) under asked in
-        let st = c.ends ns levels assumed q known only asked stands in
-        o.ends ns q (next_may log₁ atoms b₁ t c.trail e at laws ns levels assumed q work₁ asked' only c.noted st.point st.legal)
-        (next_says log₁ atoms b₁ t c.trail e at laws ns levels assumed q work₁ asked' only c.noted st.point st.legal) st
+        let asked' = asked_on log log₁ atoms c.grows (λ h has. has) (order_over m.over atoms t.entries c.trail.on_trail log log₁ c.sound ns levels known asked.within asked.order) under asked in
+        let st = c.ends held ns levels assumed q known on asked stands in
+        o.ends ns q (next_may log₁ atoms b₁ t c.trail e at laws ns levels assumed q work₁ asked' on.only c.noted st.point st.legal)
+        (next_says log₁ atoms b₁ t c.trail e at laws ns levels assumed q work₁ asked' on.only c.noted st.point st.legal) st
 
     one_clash : IfOk r (λ found. IfSome found (IsClash log₂ (literals_on t.entries)))
     one_clash =
@@ -475,8 +477,8 @@ consults_checked laws on {m} {m₁} {m₂} {log} {log₁} {log₂} {atoms} {b} {
       noted = on_ok (TellsTrail log₂ atoms b₁ es work₂) r after;
       clash = IfOk-weaker r (λ (found : Option ℕ). IfSome found (IsClash log₂ ls)) (λ (found : Option ℕ). IfSome found (IsClash log₂ (literals_on es)))
           (λ found h. IfSome_then found h (λ id k. record { live = k.live; once = k.once; negations = λ l has. told_among b₁ es (negated_lit l) (k.negations l has) })) (clash ls c.told);
-      ends = λ ns levels assumed q known only asked stands.
-          let s = c.ends ns levels assumed q known only asked stands in
+      ends = λ held ns levels assumed q known given asked stands.
+          let s = c.ends held ns levels assumed q known given asked stands in
           let at = search_after ns work₁ in
           check_ends laws ns work₁ work₂ on q (Option ℕ) (m₁.at ns) (m₂.at ns) s r (leads ns at.forms (told_literals at) s.point s.at);
     }

@@ -6,7 +6,7 @@ use Rattle.nz_log.specs.Logs.{LogState, IsLive, literals_at}
 use Rattle.nz_sat.specs.declared.clauses.Held.{Held}
 use Rattle.nz_sat.specs.declared.clauses.WatchedClause.{WatchedClause}
 use Rattle.nz_sat.specs.declared.trail.Assigned.{Assigned}
-use Rattle.nz_sat.specs.Trails.{EachBehind, GoesOn, IsFalseOn, IsFreeOn, IsTrail, IsTrueOn, TrailState}
+use Rattle.nz_sat.specs.Trails.{EachBehind, GoesOn, IsFalseOn, IsFreeOn, IsTrail, IsTrueOn, TrailState, below}
 
 -- ---- The status of a clause
 
@@ -61,15 +61,20 @@ HasReasonOf us e = IsReasonOneOf us e.reason
 abbrev pub IsAssumed : List Lit → Assigned → Type 0
 IsAssumed assumed e = e.reason ≡ None → e.level ≡ 0 → Contains assumed e.literal
 
+-- Each of these literals is true under no decision, and each entry there without a reason is one of them.
+pub record AreAssumedOn (assumed : List Lit) (es : List Assigned) : Type 0 where
+  pub only : All (IsAssumed assumed) es
+  pub hold : All (IsTrueOn (below 0 es)) assumed
+
 -- ---- Clauses that are watched
 
 -- the clause, as it is held
 abbrev pub held_as : WatchedClause → Held
-held_as c = record { id = c.id; level = c.level; is_learned = c.is_learned }
+held_as c = record { id = c.id; level = c.level; is_learned = c.is_learned; glue = c.glue }
 
 -- a clause that is held, with the two literals that are watched
 abbrev pub watched_as : Held → Lit × Lit → WatchedClause
-watched_as h pair = record { id = h.id; level = h.level; is_learned = h.is_learned; first = pair.0; second = pair.1 }
+watched_as h pair = record { id = h.id; level = h.level; is_learned = h.is_learned; glue = h.glue; first = pair.0; second = pair.1 }
 
 -- A clause of the log with atoms below a number.
 pub record IsUsable (s : LogState) (size : ℕ) (i : ℕ) : Type 0 where

@@ -1,8 +1,9 @@
 -- A search over clauses of a log, as its callers see it.
-use Rattle.std.specs.Prelude.{◌≡◌, ◌==◌, ℕ, ◌++◌, Bool, true, false, not, All, Contains, List, [], map, filter, nat_le, Option, Some, None, IsSome, option_map, slice_index_or}
+use Rattle.std.specs.Prelude.{◌≡◌, ◌==◌, ◌&&◌, ℕ, ◌++◌, Bool, true, false, not, All, Contains, List, [], ◌∷◌, map, filter, nat_le, nat_lt, Option, Some, None, IsSome, option_map, slice_index_or}
 use Rattle.nz_spec.specs.terms.Table.{Node, IsTable}
 use Rattle.nz_spec.specs.search.Decide.{asserted_terms}
 use Rattle.nz_spec.specs.search.Search.{Task, Search}
+use Rattle.nz_spec.specs.clauses.Gates.{holds}
 use Rattle.nz_spec.specs.search.Work.{WorkList}
 use Rattle.nz_spec.specs.clauses.Literal.{are_same_sign, StandOnce}
 use Rattle.nz_log.specs.declared.lits.Lit.{Lit}
@@ -15,7 +16,7 @@ use Rattle.nz_search.specs.Standing.{search_after}
 use Rattle.nz_search.specs.Theories.{IsBoundIn}
 use Rattle.nz_sat.specs.declared.clauses.Held.{Held}
 use Rattle.nz_sat.specs.declared.clauses.Part.{Part}
-use Rattle.nz_sat.specs.declared.clauses.Part.TheVariants.{But, UpTo}
+use Rattle.nz_sat.specs.declared.clauses.Part.TheVariants.{But, Shed, UpTo}
 use Rattle.nz_sat.specs.Numbers.{IsAtomAt, numbered}
 
 -- The clauses, by the numbers of atoms in the log the truths that the last search left, the theory, and the log as it was seen last.
@@ -77,11 +78,11 @@ AreSameSince (Some seen) log held = All (IsSameIn seen log) held
 
 -- a clause that is added, with its level
 abbrev pub held_of : LogState → ℕ → Held
-held_of log id = record { id = id; level = level_at log id; is_learned = false }
+held_of log id = record { id = id; level = level_at log id; is_learned = false; glue = 0 }
 
--- a clause that the search learned, with its level
-abbrev pub learned_of : LogState → ℕ → Held
-learned_of log id = record { id = id; level = level_at log id; is_learned = true }
+-- a clause that the search learned, with its level, and its measure
+abbrev pub learned_of : LogState → ℕ → ℕ → Held
+learned_of log id glue = record { id = id; level = level_at log id; is_learned = true; glue = glue }
 
 -- each clause is one that the search learned
 abbrev pub AreLearned : List Held → Type 0
@@ -95,10 +96,19 @@ held_up_to level held = filter (λ (h : Held). nat_le h.level level) held
 abbrev pub held_but : ℕ → List Held → List Held
 held_but id held = filter (λ (h : Held). not (h.id == id)) held
 
+-- whether a clause was learned before the one of a number, with literals of more than so many levels
+abbrev pub is_shed : (before glue : ℕ) → Held → Bool
+is_shed before glue h = h.is_learned && (nat_lt h.id before && nat_lt glue h.glue)
+
+-- those but the ones that were
+abbrev pub held_shed : (before glue : ℕ) → List Held → List Held
+held_shed before glue held = filter (λ (h : Held). not (is_shed before glue h)) held
+
 -- whether a clause stays where some go
 abbrev pub is_in : Part → Held → Bool
 is_in (UpTo level) h = nat_le h.level level
 is_in (But id) h = not (h.id == id)
+is_in (Shed before glue) h = not (is_shed before glue h)
 
 -- those that stay
 abbrev pub held_part : Part → List Held → List Held
@@ -147,12 +157,22 @@ pub record AreNamed (log : LogState) (held : List Held) (assumed : List Lit) (at
   pub assumed_named : All (λ (l : Lit). Contains atoms l.atom) assumed
   pub once : StandOnce atoms
 
+-- One of the clauses is live and has just this literal.
+pub record StandsAlone (log : LogState) (held : List Held) (l : Lit) : Type 0 where
+  pub clause : Held
+  pub has : Contains held clause
+  pub live : IsLive log clause.id
+  pub alone : literals_at log clause.id ≡ l ∷ []
+
 -- The task of a search: over a table that has what the atoms name, and levels of assertions, of which all are asserted. The list says that the search
--- goes under just the assumed literals.
-pub record IsAsked (ns : List Node) (levels : List (List ℕ)) (log : LogState) (atoms : List ℕ) (assumed : List Lit) (work : WorkList Note) (q : Task) : Type 0 where
+-- goes under just the assumed literals. Of the literals on its atoms, those that are asserted stand alone in clauses, and those that say what an assumed one
+-- says are assumed.
+pub record IsAsked (ns : List Node) (levels : List (List ℕ)) (log : LogState) (held : List Held) (atoms : List ℕ) (assumed : List Lit) (work : WorkList Note) (q : Task) : Type 0 where
   pub table : IsTable ns
   pub within : All (IsAtomAt ns log.atoms) atoms
   pub named : All (λ (l : Lit). Contains atoms l.atom) assumed
   pub order : IsLog ns levels log
   pub asserted : q.asserted ≡ asserted_terms ns levels
   pub under : (search_after ns work).under ≡ map (literal_in ns log.atoms) assumed
+  pub units : (l : Lit) → Contains atoms l.atom → Contains (map holds q.asserted) (literal_in ns log.atoms l) → StandsAlone log held l
+  pub assumes : (l : Lit) → Contains atoms l.atom → Contains (map (literal_in ns log.atoms) assumed) (literal_in ns log.atoms l) → Contains assumed l

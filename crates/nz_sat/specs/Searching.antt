@@ -133,7 +133,7 @@ pub record Advances {A : Type 0} (theory theory' : TheoryState) (s : Search) (es
   pub named : AreOn log s.atoms held → AreOn log' s.atoms held'
   pub learned : HoldsLearned log s.atoms held work → HoldsLearned log' s.atoms held' work'
   pub adds : AddsLines IsOfSearch work work'
-  pub ends : EndsLegally theory theory' log s.atoms (told_lits s.bounds s.trail.entries) es work work' result
+  pub ends : EndsLegally theory theory' log held s.atoms (told_lits s.bounds s.trail.entries) es work work' result
 
 -- What a step of a search keeps, and its answer: where no clause is answered, some values meet the bounds of the trail, and no unit is left where
 -- one more was wanted.

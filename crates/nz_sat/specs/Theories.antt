@@ -24,7 +24,8 @@ use Rattle.nz_search.specs.Theories.{IsClash, told_after}
 use Rattle.nz_log.specs.Growth.{Grows}
 use Rattle.nz_sat.specs.declared.consult.Bounds.{Bounds}
 use Rattle.nz_sat.specs.declared.trail.Assigned.{Assigned}
-use Rattle.nz_sat.specs.Clauses.{IsAssumed, IsImplied}
+use Rattle.nz_sat.specs.declared.clauses.Held.{Held}
+use Rattle.nz_sat.specs.Clauses.{AreAssumedOn, IsImplied}
 use Rattle.nz_sat.specs.Conflicts.{is_marked}
 use Rattle.nz_sat.specs.Numbers.{atom_literal, number_of, numbered}
 use Rattle.nz_sat.specs.Sats.{IsAsked}
@@ -161,9 +162,9 @@ pub record StandsAt (IsAt : Standing) (ns : List Node) (q : Task) (work : WorkLi
   pub at : IsAt (search_after ns work).forms ls point
 
 -- Where the theory stands where the old list leads, the new one is legal, and leads to where the theory stands then, or stopped.
-abbrev pub EndsLegally : {A : Type 0} → (old new : TheoryState) → LogState → List ℕ → List Lit → List Assigned → (work work' : WorkList Note) → Result A Stop → Type 0
-EndsLegally old new log atoms told es work work' result = (ns : List Node) (levels : List (List ℕ)) (assumed : List Lit) (q : Task) → old.over ns → All (IsAssumed assumed) es
-    → IsAsked ns levels log atoms assumed work q → StandsAt (old.at ns) ns q work (clause_in ns log.atoms told) → Ends (new.at ns) ns q work' result
+abbrev pub EndsLegally : {A : Type 0} → (old new : TheoryState) → LogState → List Held → List ℕ → List Lit → List Assigned → (work work' : WorkList Note) → Result A Stop → Type 0
+EndsLegally old new log held atoms told es work work' result = (ns : List Node) (levels : List (List ℕ)) (assumed : List Lit) (q : Task) → old.over ns → AreAssumedOn assumed es
+    → IsAsked ns levels log held atoms assumed work q → StandsAt (old.at ns) ns q work (clause_in ns log.atoms told) → Ends (new.at ns) ns q work' result
 
 -- A theory is told bounds of a trail, from a place on and up to another one, and answers a clause that says that not all entries are true, if it sees
 -- that.
@@ -178,7 +179,7 @@ pub record Consults (theory theory' : TheoryState) (log log' : LogState) (atoms 
   pub told : OnOk result (theory'.has_told (told_lits bounds' on.entries))
   pub noted : OnOk result (TellsTrail log' atoms bounds' on.entries work')
   pub clash : IfOk result (λ found. IfSome found (IsClash log' (literals_on on.entries)))
-  pub ends : EndsLegally theory theory' log atoms (told_lits bounds on.entries) on.entries work work' result
+  pub ends : (held : List Held) → EndsLegally theory theory' log held atoms (told_lits bounds on.entries) on.entries work work' result
 
 -- A theory is told a literal: it takes it, or answers a clause that refutes it. The list has a note of it where it was taken. Where the literal may be
 -- told, the list stays legal, and leads to where the theory stands.

@@ -27,6 +27,8 @@ pub struct Learned {
     pub keep: usize,
     /// Another literal, of that level.
     pub beside: Option<Lit>,
+    /// Of how many levels its literals are.
+    pub glue: usize,
 }
 
 impl Learned {
@@ -198,8 +200,14 @@ fn deepest_but(trail: &Trail, literals: &[Lit], but: Lit) -> Option<Lit>
     deepest
 }
 
-/// What a clause is where it is learned for this literal.
-fn asserting(trail: &Trail, literals: &[Lit], clause: ClauseId, literal: Lit) -> Learned
+/// What a clause is where it is learned for this literal, with literals of so many levels.
+fn asserting(
+    trail: &Trail,
+    literals: &[Lit],
+    clause: ClauseId,
+    literal: Lit,
+    glue: usize,
+) -> Learned
     ensures clause { result.clause ≡ clause }
     ensures literal { result.literal ≡ literal }
     ensures kept { result.keep ≡ result.level }
@@ -217,6 +225,7 @@ fn asserting(trail: &Trail, literals: &[Lit], clause: ClauseId, literal: Lit) ->
         level,
         keep: level,
         beside,
+        glue,
     }
 }
 
@@ -284,7 +293,8 @@ fn learn_from(
     let clause = log.chain(falsified, &links)?;
     let literals = log.clause(clause);
     unmark(seen, literals);
-    Ok(asserting(trail, literals, clause, literal))
+    let glue = redundancy.glue.of(trail, literals);
+    Ok(asserting(trail, literals, clause, literal, glue))
 }
 
 /// What is learned from a clause in which each literal is false, one of them of the last level: where just one is, the clause itself.
@@ -313,7 +323,10 @@ pub fn learned_clause(
 {
     let literals = log.clause(falsified);
     match lone_last(trail, literals) {
-        Some(literal) => Ok(asserting(trail, literals, falsified, literal)),
+        Some(literal) => {
+            let glue = redundancy.glue.of(trail, literals);
+            Ok(asserting(trail, literals, falsified, literal, glue))
+        }
         None => learn_from(alloc, log, trail, order, seen, redundancy, falsified),
     }
 }

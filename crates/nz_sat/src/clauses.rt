@@ -13,6 +13,8 @@ pub struct Held {
     pub level: usize,
     /// Whether the search learned it itself.
     pub is_learned: bool,
+    /// Of a learned one, of how many levels its literals were when it was learned, and 0 of one that was added.
+    pub glue: usize,
 }
 
 impl Held {
@@ -25,18 +27,20 @@ impl Held {
             id,
             level: log.level(id),
             is_learned: false,
+            glue: 0,
         }
     }
 
-    /// A clause of the log that the search learned.
-    pub(crate) fn learned(log: &Log, id: ClauseId) -> Held
+    /// A clause of the log that the search learned, with literals of so many levels.
+    pub(crate) fn learned(log: &Log, id: ClauseId, glue: usize) -> Held
         requires live { IsLive log.now id }
-        ensures held { result ≡ learned_of log.now id }
+        ensures held { result ≡ learned_of log.now id glue }
     {
         Held {
             id,
             level: log.level(id),
             is_learned: true,
+            glue,
         }
     }
 }
@@ -48,6 +52,8 @@ pub enum Part {
     UpTo(usize),
     /// All but those of this number.
     But(ClauseId),
+    /// All but the learned ones below a number whose literals were of more than so many levels.
+    Shed { before: ClauseId, glue: usize },
 }
 
 impl Part {
@@ -58,6 +64,9 @@ impl Part {
         match self {
             Part::UpTo(level) => held.level <= level,
             Part::But(id) => held.id != id,
+            Part::Shed { before, glue } => {
+                !(held.is_learned && held.id < before && glue < held.glue)
+            }
         }
     }
 }
@@ -70,6 +79,8 @@ pub struct WatchedClause {
     pub level: usize,
     /// Whether the search learned it itself.
     pub is_learned: bool,
+    /// Of a learned one, of how many levels its literals were when it was learned.
+    pub glue: usize,
     pub first: Lit,
     pub second: Lit,
 }
@@ -83,6 +94,7 @@ impl WatchedClause {
             id: held.id,
             level: held.level,
             is_learned: held.is_learned,
+            glue: held.glue,
             first,
             second,
         }
@@ -96,6 +108,7 @@ impl WatchedClause {
             id: self.id,
             level: self.level,
             is_learned: self.is_learned,
+            glue: self.glue,
         }
     }
 

@@ -6,6 +6,7 @@ mod analyze;
 mod atoms;
 mod clauses;
 mod consult;
+mod glue;
 mod heap;
 mod kept;
 mod leaving;

@@ -6,6 +6,7 @@ ghost use Rattle.nz_sat.specs.Clauses.{IsImplied};
 ghost use Rattle.nz_sat.specs.declared.trail.Assigned.{Assigned};
 ghost use Rattle.nz_sat.specs.Trails.{EachBehind, assigned};
 
+use crate::glue::Glue;
 use crate::trail::Trail;
 use nz_base::Memory;
 use nz_log::{AtomId, ClauseId, Link, Lit, Log};
@@ -40,6 +41,7 @@ pub struct Redundancy {
     redundant: Vec<AtomId>,
     // The levels of the clause, each by its last five bits.
     levels: u32,
+    pub glue: Glue,
 }
 
 impl Redundancy {
@@ -50,6 +52,7 @@ impl Redundancy {
             known: Vec::new(alloc),
             redundant: Vec::new(alloc),
             levels: 0,
+            glue: Glue::new(alloc, size)?,
         })
     }
 

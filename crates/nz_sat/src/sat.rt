@@ -15,7 +15,7 @@ ghost use Rattle.nz_search.specs.Standing.{Ends, Stands, search_after};
 ghost use Rattle.nz_log.specs.Growth.{Grows};
 ghost use Rattle.nz_sat.specs.Conflicts.{Refutes};
 ghost use Rattle.nz_sat.specs.Numbers.{AreNotedIn, IsAtomAt, noted_atoms};
-ghost use Rattle.nz_sat.specs.Sats.{AreConsistent, AreHeld, AreNamed, AreOn, AreSameSince, HasBegun, HoldsLearned, HoldsMore, IsAsked, IsSameSearch, IsSatisfied, IsTheoryMet, held_but, held_of, held_part, held_up_to, is_in, literal_truth};
+ghost use Rattle.nz_sat.specs.Sats.{AreConsistent, AreHeld, AreNamed, AreOn, AreSameSince, HasBegun, HoldsLearned, HoldsMore, IsAsked, IsSameSearch, IsSatisfied, IsTheoryMet, held_but, held_of, held_part, held_shed, held_up_to, is_in, literal_truth};
 ghost use Rattle.nz_sat.specs.Trails.{AreTruthsOn};
 
 use crate::clauses::{Held, Part};
@@ -143,7 +143,7 @@ impl<T: Theory> Sat<T> {
         // Where the atoms are over a table in which what the theory knows of terms is so, the log stays in order.
         ensures sound { (ns : List Node) (levels : List (List ℕ)) → T.is_over self.old.theory ns → All (IsAtomAt ns log.old.atoms) atoms.now → IsLog ns levels log.old → IsLog ns levels log.new }
         // Where the notes are legal and lead to where the theory stands, so is the whole list, and leads to where it stands at the end.
-        ensures ends { (ns : List Node) (levels : List (List ℕ)) (q : Task) → T.is_over self.old.theory ns → IsAsked ns levels log.old atoms.now assumed.now work.old q
+        ensures ends { (ns : List Node) (levels : List (List ℕ)) (q : Task) → T.is_over self.old.theory ns → IsAsked ns levels log.old self.old.clauses atoms.now assumed.now work.old q
             → Stands (T.is_at self.old.theory ns) ns q work.old → Ends (T.is_at self.new.theory ns) ns q work.new result }
         // What the notes name is in each table that had it before; no atom is named that wasn't, no form joins, and the search goes on under the same
         // literals.
@@ -198,6 +198,16 @@ impl<T: Theory> Sat<T> {
         ensures seen { self.new.seen ≡ self.old.seen }
     {
         self.keep(Part::But(id));
+    }
+
+    /// Takes those out that were learned before the clause of a number, with literals of more than so many levels. Takes no memory.
+    pub fn shed(&mut self, before: ClauseId, glue: usize)
+        ensures clauses { self.new.clauses ≡ held_shed before glue self.old.clauses }
+        ensures truths { self.new.truths ≡ self.old.truths }
+        ensures theory { self.new.theory ≡ self.old.theory }
+        ensures seen { self.new.seen ≡ self.old.seen }
+    {
+        self.keep(Part::Shed { before, glue });
     }
 
     /// Leaves just these clauses. Takes no memory.

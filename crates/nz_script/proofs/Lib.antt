@@ -1,4 +1,5 @@
 pub mod Arguments
+mod BooleanChecks
 pub mod ByteClasses
 pub mod Examples
 pub mod ExpansionSorts
@@ -15,4 +16,5 @@ pub mod SortedStates
 pub mod SortedTerms
 pub mod ToldTexts
 pub mod Transcripts
+mod WorkedBooleans
 pub mod WrittenTerms

@@ -114,7 +114,7 @@ nothing_sorted : AreSortedItems []
 nothing_sorted = record { definitions = tt; assertions = tt; bodies_over = tt; assertions_over = tt; bodies_linear = tt; assertions_linear = tt }
 
 -- all items that are live
-sorted_items : (levels : List (List LiveItem)) → AreSortedLevels levels → AreSortedItems (items_of levels)
+pub sorted_items : (levels : List (List LiveItem)) → AreSortedLevels levels → AreSortedItems (items_of levels)
 sorted_items [] h = nothing_sorted
 sorted_items (items ∷ older) h = h.0
 

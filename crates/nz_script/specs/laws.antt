@@ -1,1 +1,2 @@
+pub mod BooleanChecks
 pub mod Sorts

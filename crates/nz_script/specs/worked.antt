@@ -1,6 +1,7 @@
 pub mod Example
 pub mod Samples
 pub mod Texts
+pub mod WorkedBooleans
 pub mod WorkedLinear
 pub mod WorkedListings
 pub mod WorkedNormals

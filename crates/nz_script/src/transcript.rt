@@ -1,9 +1,13 @@
 //! Laws of transcripts.
+ghost use Rattle.nz_script.specs.laws.BooleanChecks.{BooleanChecksAreAnswered};
 ghost use Rattle.nz_script.specs.laws.Sorts.{AssertionsAreGated, AssertionsAreOver, AssumptionsAreTaken, StatesStaySorted, TermsHaveTheirSorts};
 ghost use Rattle.nz_script.specs.run.Transcript.{TranscriptGrows};
 
 use nz_spec::deciding::normal_terms_are_taken;
 use nz_spec::term::{normal_stays_sorted, normal_terms_are_gated, sorts_tell};
+use nz_spec::work::{
+    boolean_listings_are_gated, boolean_work_is_bounded, boolean_work_is_never_stopped,
+};
 
 /// A transcript goes on by one thing told and its right reply.
 pub fn transcript_grows()
@@ -47,4 +51,16 @@ pub fn assertions_are_gated()
     ensures gated { AssertionsAreGated }
 {
     normal_terms_are_gated();
+}
+
+/// A check over n Boolean terms is answered `unknown` for want of units only under a limit of at most `n * (3 ^ n + 1)`, and for no other cause
+/// where the checks before had no numbers.
+pub fn boolean_checks_are_answered()
+    ensures answered { BooleanChecksAreAnswered }
+{
+    boolean_work_is_bounded();
+    boolean_work_is_never_stopped();
+    boolean_listings_are_gated();
+    states_stay_sorted();
+    assumptions_are_taken();
 }

@@ -9,6 +9,7 @@ ghost use Rattle.nz_script.specs.worked.WorkedScripts.{IsWorked};
 ghost use Rattle.nz_script.specs.worked.WorkedReplies.{HasErrorTexts, HasReadings, HasReplyTexts, HasSpellings, HasValueTexts, HasValuesTold};
 ghost use Rattle.nz_script.specs.worked.WorkedScript.{HasAdditions, HasAsking, HasEffects, HasLevels, HasRefusals};
 ghost use Rattle.nz_spec.specs.worked.TruthTables.{HasNormalTerms};
+ghost use Rattle.nz_script.specs.worked.WorkedBooleans.{HasFourClauses};
 ghost use Rattle.nz_script.specs.worked.WorkedLinear.{HasConstants, HasLinearTerms};
 ghost use Rattle.nz_script.specs.worked.WorkedListings.{HasListings};
 ghost use Rattle.nz_script.specs.worked.WorkedNormals.{HasChains, HasGroups};
@@ -16,6 +17,7 @@ ghost use Rattle.nz_script.specs.worked.WorkedNumbers.{HasArithmetic, HasCompari
 ghost use Rattle.nz_script.specs.text.Text.{script_limits};
 ghost use Rattle.nz_script.specs.worked.Texts.{AreHeard, comment_samples, string_samples, quoted_samples, word_samples, group_samples, narrow_limits, limit_samples};
 
+use crate::transcript::boolean_checks_are_answered;
 use nz_spec::term::sorts_tell;
 
 /// The terms of short texts, by the definitions alone.
@@ -86,6 +88,13 @@ pub fn worked_linear_terms()
 pub fn worked_listings()
     ensures listings { HasListings }
 {}
+
+/// Four clauses over two Boolean constants, whose check is answered under any limit above 52496.
+pub fn worked_clauses()
+    ensures clauses { HasFourClauses }
+{
+    boolean_checks_are_answered();
+}
 
 /// What is heard in short texts that show each part of the lexicon.
 pub fn worked_texts()

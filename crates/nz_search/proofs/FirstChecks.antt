@@ -42,11 +42,12 @@ may_start ns levels assumed q work asked none =
         room = subst (HasRoom q) (sym first) (omega arith);
       };
       under = λ x lead k d below. inl (asked.assumed_of k d below);
+      no_others = asked.no_others;
     }
 
 pub checks_may_start : ChecksMayStart
 checks_may_start =
     record {
       asked = may_start;
-      alone = λ ns levels assumed earlier. record { asserted = refl; numbering = refl; listed = λ t has. has; assumed_of = All-contains_itself (map (literal_of ns) assumed) };
+      alone = λ ns levels assumed earlier. record { asserted = refl; numbering = refl; listed = λ t has. has; assumed_of = All-contains_itself (map (literal_of ns) assumed); no_others = λ none. All-contains_itself (map (literal_of ns) assumed) };
     }

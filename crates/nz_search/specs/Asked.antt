@@ -42,10 +42,11 @@ pub record MayGoOn (ns : List Node) (levels : List Level) (ls : List TermLit) (q
   pub few : AreFew q (search_after ns work)
   pub room : HasRoom q (search_after ns work)
 
--- The search may go under the assumed literals.
+-- The search may go under the assumed literals. Where the task asks of no goal, it assumes no others.
 pub record MayCheck (ns : List Node) (levels : List Level) (assumed : List TermLit) (q : Task) (work : WorkList Note) : Type 0 where
   pub goes_on : MayGoOn ns levels assumed q work
   pub under : (x : Point) → Lead q at_first no_point (noted_list ns work).lines x → MaySearchUnder q (search_after ns work) x (map (literal_of ns) assumed)
+  pub no_others : q.goals ≡ [] → All (Contains (map (literal_of ns) assumed)) q.assumed
 
 -- A climb along the route may begin: its model is one at which the goal before it has the value that was found last, and its goal is that.
 pub record MayClimb (ns : List Node) (levels : List Level) (route : Route) (q : Task) (work : WorkList Note) : Type 0 where
@@ -73,12 +74,14 @@ pub record IsOneMore (old new : Search) : Type 0 where
 
 -- ---- Laws
 
--- The task is of what is asserted and lists what all that was added is made of, and the same of the assumed literals, which it assumes.
+-- The task is of what is asserted and lists what all that was added is made of, and the same of the assumed literals, which it assumes. Where it asks of no
+-- goal, it assumes no others.
 pub record IsAskedOf (ns : List Node) (levels : List Level) (assumed : List TermLit) (q : Task) : Type 0 where
   pub asserted : q.asserted ≡ asserted_terms ns (asserted_by_level levels)
   pub numbering : q.numbering ≡ number_in ns
   pub listed : AreListedIn ns levels assumed q.listed
   pub assumed_of : All (Contains q.assumed) (map (literal_of ns) assumed)
+  pub no_others : q.goals ≡ [] → All (Contains (map (literal_of ns) assumed)) q.assumed
 
 -- A check may be made of a list without lines that is asked so.
 pub record ChecksMayStart : Type 0 where

@@ -11,6 +11,6 @@ mod theory;
 
 pub use climb::{Climb, Peak, Route};
 pub use decide::{Decide, Verdict};
-pub use note::{Note, StartNote};
+pub use note::{Boxed, Note, StartNote};
 pub use stop::Stop;
 pub use theory::{NoNumbers, Theory};

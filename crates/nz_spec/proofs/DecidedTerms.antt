@@ -7,42 +7,36 @@ use Rattle.std.proofs.lemmas.Option.{same_Some}
 use Rattle.std.proofs.lemmas.List.Elements.{Contains-append_left, Contains-append_right, Contains-push}
 use Rattle.std.proofs.lemmas.List.Folds.{Any-from_list_any}
 use Rattle.nz_lists.proofs.Elements.{AllByRecursion-weaker}
-use Rattle.nz_fractions.specs.Fraction.{Fraction, whole, ◌=ℚ◌, ◌≤ℚ◌, ◌<ℚ◌, neg_ℚ, fraction_cmp, fraction_eq, Difference}
+use Rattle.nz_fractions.specs.Fraction.{Fraction, whole, ◌=ℚ◌, ◌≤ℚ◌, ◌<ℚ◌, fraction_eq}
 use Rattle.nz_spec.specs.numbers.Computation.{Computation, in_turn}
 use Rattle.nz_spec.specs.terms.Term.{NumberSort, over_int, over_real, sort_over, bool_sort, int_sort, real_sort, are_same_sort, is_bool, Constant, Head, constant, integer, decimal_number, verum, falsum, negation, conjunction, disjunction, exclusion, equality, choice, less, at_most, sum, difference, product, quotient, to_real, Term, apply, Terms, no_terms, terms, Value, truth, Assignment, is_true, number_of, are_equal, decimal_value, value_of, values_of, sort_of, IsOfSort}
 use Rattle.nz_spec.specs.terms.Linear.{constant_values, is_linear_node, is_linear, are_linear}
 use Rattle.nz_spec.specs.terms.Model.{IsAssignment}
 use Rattle.nz_spec.specs.terms.Order.{post_order, post_orders, listing_order}
-use Rattle.nz_spec.specs.terms.Form.{Numbering, Form, unit_value}
-use Rattle.nz_spec.specs.terms.FormOf.{form_of, forms_of, is_taken_whole}
+use Rattle.nz_spec.specs.terms.Form.{Numbering, unit_value}
+use Rattle.nz_spec.specs.terms.FormOf.{forms_of, is_taken_whole}
 use Rattle.nz_spec.specs.clauses.Literal.{Literal, are_same_term, Clause}
 use Rattle.nz_spec.specs.clauses.Gates.{holds, fails, is_boolean_term, gate_clauses, IsRow}
-use Rattle.nz_spec.specs.clauses.Links.{minus, at_most_literal, below_literal, link_clauses}
+use Rattle.nz_spec.specs.clauses.Links.{at_most_literal, below_literal, link_clauses}
+use Rattle.nz_spec.specs.clauses.Forced.{worth_of}
 use Rattle.nz_spec.specs.clauses.Units.{unit_clauses}
-use Rattle.nz_spec.specs.simplex.Basis.{Valuation, worth}
+use Rattle.nz_spec.specs.simplex.Basis.{Valuation}
 use Rattle.nz_spec.specs.terms.WellSorted.{AllAre, HaveOperands, IsWellSorted, AreWellSorted}
 use Rattle.nz_spec.specs.terms.Taken.{IsTakenHead, HasTakenHeads, HaveTakenHeads, IsTaken}
 use Rattle.nz_spec.specs.search.Branches.{is_integer_of}
 use Rattle.nz_spec.specs.laws.Deciding.{IsMet, HasMetLiteral, MeetsTables, TablesDecide}
 use Rattle.nz_fractions.proofs.Laws.{=ℚ_refl, =ℚ_sym, =ℚ_trans, =ℚ-from_same, ≤ℚ-from_eq, ≤ℚ_antisymm, <ℚ_irrefl}
-use Rattle.nz_fractions.proofs.Order.{same-fraction_eq, fraction_eq-same, lt_is, lt_is_not, le_is, le_is_not}
-use Rattle.nz_fractions.proofs.Arithmetic.{+ℚ-same, neg_ℚ-same}
-use Rattle.nz_fractions.proofs.Bounds.{lt-carried, le-carried}
+use Rattle.nz_fractions.proofs.Order.{fraction_eq-same, lt_is, lt_is_not, le_is, le_is_not}
+use Rattle.nz_spec.proofs.ArgumentTruths.{alone}
 use Rattle.nz_spec.proofs.FormTerms.{Own, term-worth}
-use Rattle.nz_spec.proofs.FormValues.{by_difference, form_worth, form_joined-worth, Match, constant-worth, unit-worth}
-use Rattle.nz_spec.proofs.GateDecisions.{SaysOne, says_one, others, alone, IsSettled, AreSettled, node_settled}
-use Rattle.nz_spec.proofs.LinkTruths.{moved_over, and-true, equal_numbers}
+use Rattle.nz_spec.proofs.FormValues.{Match, constant-worth, unit-worth}
+use Rattle.nz_spec.proofs.GateDecisions.{SaysOne, says_one, others, IsSettled, AreSettled, node_settled}
+use Rattle.nz_spec.proofs.LinkTruths.{and-true, equal_numbers}
+use Rattle.nz_spec.proofs.MetBounds.{apart, at_most_said, below_said}
 use Rattle.nz_spec.proofs.OperandSorts.{operands_are}
 use Rattle.nz_spec.proofs.Same.{same_term}
 use Rattle.nz_spec.proofs.Sorted.{value_is, same_sorts}
 use Rattle.nz_spec.proofs.TakenTerms.{taken_terms_are_in_order}
-
-apart : (p q : Fraction) → (p =ℚ q → ⊥) → fraction_eq p q ≡ false
-apart p q n = by_test (fraction_eq p q) refl
-  where
-    by_test : (b : Bool) → fraction_eq p q ≡ b → fraction_eq p q ≡ false
-    by_test true e = absurd (n (same-fraction_eq p q e))
-    by_test false e = e
 
 own_term : (t : Term) → Contains (post_order t) t
 own_term (apply h ts) = Contains-push (post_orders ts) (apply h ts)
@@ -78,39 +72,18 @@ module _ (number : Numbering) (a : Assignment) (truths : Term → Option Bool) (
 
   -- what the second one says where it is the last
   last_said : (t : Term) (sign : Bool) (R : Type 0) → truths t ≡ Some sign → (truths t ≡ Some (not sign)) ⊎ (R ⊎ ⊥) → R
-  last_said t sign R has h = alone a Says one_truth R (rest_said t sign (R ⊎ ⊥) has h)
+  last_said t sign R has h = alone R (rest_said t sign (R ⊎ ⊥) has h)
 
   -- the rows that stand where a test fails
   other_rows : (b : Bool) (rows : List (List (Computation Literal))) → b ≡ false → AllSaid (map in_turn (if b then [] else rows)) → AllSaid (map in_turn rows)
   other_rows true rows e h = absurd (true≢false e)
   other_rows false rows e h = h
 
-  -- ---- Comparisons of forms
-
-  abbrev worth_of : Term → Fraction
-  worth_of t = form_worth v (form_of number t).result
-
-  abbrev difference_of : (x y : Term) → Form
-  difference_of x y = (minus number (form_of number x) (form_of number y)).result
-
-  compared : (x y : Term) (p q : Fraction) → worth_of x =ℚ p → worth_of y =ℚ q
-      → fraction_cmp (worth v (difference_of x y).parts) (neg_ℚ (difference_of x y).offset) ≡ fraction_cmp p q
-  compared x y p q h k =
-      let f = difference_of x y in
-      moved_over (worth v f.parts) f.offset p q
-      (=ℚ_trans (form_joined-worth number v Difference by_difference (form_of number x).result (form_of number y).result) (+ℚ-same h (neg_ℚ-same k)))
-
-  at_most_said : (x y : Term) (p q : Fraction) → worth_of x =ℚ p → worth_of y =ℚ q → Says (at_most_literal number x y).result → p ≤ℚ q
-  at_most_said x y p q h k m = le-carried (worth v (difference_of x y).parts) (neg_ℚ (difference_of x y).offset) p q (compared x y p q h k) m
-
-  below_said : (x y : Term) (p q : Fraction) → worth_of x =ℚ p → worth_of y =ℚ q → Says (below_literal number x y).result → p <ℚ q
-  below_said x y p q h k m = lt-carried (worth v (difference_of x y).parts) (neg_ℚ (difference_of x y).offset) p q (compared x y p q h k) m
-
   -- ---- Comparisons
 
   -- what the term's form is worth is its value
   abbrev HasWorth : Term → Type 0
-  HasWorth t = worth_of t =ℚ unit_value a t
+  HasWorth t = worth_of number v t =ℚ unit_value a t
 
   module _ (x y : Term) (h : HasWorth x) (k : HasWorth y) where
     abbrev both : Terms
@@ -135,16 +108,16 @@ module _ (number : Numbering) (a : Assignment) (truths : Term → Option Bool) (
     NotLow = Says (at_most_literal number y x).result
 
     low : Low → left_value <ℚ right_value
-    low m = below_said x y left_value right_value h k m
+    low m = below_said number truths v x y left_value right_value h k m
 
     high : High → right_value <ℚ left_value
-    high m = below_said y x right_value left_value k h m
+    high m = below_said number truths v y x right_value left_value k h m
 
     not_high : NotHigh → left_value ≤ℚ right_value
-    not_high m = at_most_said x y left_value right_value h k m
+    not_high m = at_most_said number truths v x y left_value right_value h k m
 
     not_low : NotLow → right_value ≤ℚ left_value
-    not_low m = at_most_said y x right_value left_value k h m
+    not_low m = at_most_said number truths v y x right_value left_value k h m
 
     less_settled : AllSaid (link_clauses number (apply less both)) → Settled (apply less both)
     less_settled m true has =
@@ -160,7 +133,7 @@ module _ (number : Numbering) (a : Assignment) (truths : Term → Option Bool) (
 
     either_apart : Low ⊎ (High ⊎ ⊥) → fraction_eq left_value right_value ≡ false
     either_apart (inl m) = apart left_value right_value (λ e. <ℚ_irrefl (low m) (≤ℚ-from_eq (=ℚ_sym e)))
-    either_apart (inr m) = apart left_value right_value (λ e. <ℚ_irrefl (high (alone a Says one_truth High m)) (≤ℚ-from_eq e))
+    either_apart (inr m) = apart left_value right_value (λ e. <ℚ_irrefl (high (alone High m)) (≤ℚ-from_eq e))
 
     equality_settled : IsOfSort (sort_of x) (value_of a x) → is_boolean_term x ≡ false → AllSaid (link_clauses number (apply equality both))
         → Settled (apply equality both)
@@ -180,11 +153,11 @@ module _ (number : Numbering) (a : Assignment) (truths : Term → Option Bool) (
 
   -- ---- ite over Real
 
-  chosen : (u x : Term) → HasWorth x → Says (at_most_literal number u x).result → Says (at_most_literal number x u).result → worth_of u =ℚ unit_value a x
+  chosen : (u x : Term) → HasWorth x → Says (at_most_literal number u x).result → Says (at_most_literal number x u).result → worth_of number v u =ℚ unit_value a x
   chosen u x h m k =
       ≤ℚ_antisymm
-      (at_most_said u x (worth_of u) (unit_value a x) (=ℚ_refl (worth_of u)) h m)
-      (at_most_said x u (unit_value a x) (worth_of u) h (=ℚ_refl (worth_of u)) k)
+      (at_most_said number truths v u x (worth_of number v u) (unit_value a x) (=ℚ_refl (worth_of number v u)) h m)
+      (at_most_said number truths v x u (unit_value a x) (worth_of number v u) h (=ℚ_refl (worth_of number v u)) k)
 
   abbrev chosen_of : (c x y : Term) → Term
   chosen_of c x y = apply (choice real_sort) (terms c (terms x (terms y no_terms)))

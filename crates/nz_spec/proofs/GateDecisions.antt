@@ -1,16 +1,17 @@
 -- Truths that meet the clauses of the gate table are those of the values.
-use Rattle.std.proofs.Common.{◌≡◌, ℕ, zero, suc, ◌<◌, ◌⊎◌, inl, inr, Bool, true, false, not, ◌&&◌, ◌||◌, List, [], ◌∷◌, ◌++◌, length, map, refl, sym, ap, subst, ◌∙◌, true≢false, arith}
-use Rattle.std.specs.Prelude.{Contains, ⊤, slice_index_or, if◌then◌else◌}
-use Rattle.std.specs.List.{AllByRecursion, list_all, list_any}
-use Rattle.std.proofs.Math.Bool.{and-false, or-true}
+use Rattle.std.proofs.Common.{◌≡◌, ◌⊎◌, inl, inr, Bool, true, false, not, ◌&&◌, ◌||◌, List, [], ◌∷◌, ◌++◌, map, refl, sym, ap, subst, ◌∙◌, true≢false}
+use Rattle.std.specs.Prelude.{Contains, ⊤, if◌then◌else◌}
+use Rattle.std.specs.List.{AllByRecursion}
 use Rattle.std.proofs.lemmas.Option.{same_Some}
 use Rattle.std.proofs.lemmas.List.Elements.{Contains-append_left, Contains-append_right, Contains-push}
 use Rattle.nz_lists.proofs.Elements.{AllByRecursion-weaker}
-use Rattle.nz_spec.specs.terms.Term.{Sort, bool_sort, Head, constant, verum, falsum, negation, conjunction, disjunction, exclusion, equality, choice, Term, apply, Terms, no_terms, terms, Value, truth, Assignment, is_true, are_equal, excluded, all_true, some_true, head_sort, sort_of, is_bool, is_numeric, holds_number, hold_number, value_of, values_of}
+use Rattle.nz_spec.specs.terms.Term.{Sort, bool_sort, Head, constant, verum, falsum, negation, conjunction, disjunction, exclusion, equality, choice, Term, apply, Terms, no_terms, terms, Value, truth, Assignment, is_true, are_equal, excluded, head_sort, sort_of, is_bool, is_numeric, holds_number, hold_number, value_of}
 use Rattle.nz_spec.specs.terms.Order.{post_order, post_orders}
 use Rattle.nz_spec.specs.terms.WellSorted.{AllAre}
 use Rattle.nz_spec.specs.clauses.Literal.{Literal, term_literal, is_at_most, is_below, Clause}
 use Rattle.nz_spec.specs.clauses.Gates.{list_of, holds, fails, is_boolean_term, gate_clauses, IsRow, IsGated, AreGated, HasTrueLiteral, MeetsGates, IsTruthBy, IsTruthAt, GatesDecide, NumberedGatesDecide}
+use Rattle.nz_spec.proofs.ArgumentTruths.{alone, EachIs, OneIs, all_is, all_fails, some_fails, some_is}
+use Rattle.nz_spec.proofs.SaidClauses.{OneSaid, said_from}
 
 -- a term of the table is of sort Bool
 row_boolean : (h : Head) (ts : Terms) → IsRow h ts → is_bool (head_sort h) ≡ true
@@ -25,7 +26,7 @@ row_boolean equality (terms t (terms u no_terms)) r = refl
 row_boolean (choice bool_sort) (terms c (terms t (terms u no_terms))) r = refl
 row_boolean h ts r = absurd r
 
-gated_boolean : (t : Term) → IsGated t → is_boolean_term t ≡ true
+pub gated_boolean : (t : Term) → IsGated t → is_boolean_term t ≡ true
 gated_boolean (apply h ts) g = row_boolean h ts g.0
 
 gated_arguments : (ts : Terms) → AreGated ts → AllAre true ts
@@ -45,7 +46,7 @@ row_plain (choice bool_sort) (terms c (terms t (terms u no_terms))) r = refl
 row_plain h ts r = absurd r
 
 -- where neither is so, nor is one of them
-neither : (a b : Bool) → a ≡ false → b ≡ false → (a || b) ≡ false
+pub neither : (a b : Bool) → a ≡ false → b ≡ false → (a || b) ≡ false
 neither true b e f = absurd (true≢false e)
 neither false b e f = f
 
@@ -79,16 +80,10 @@ module _ (a : Assignment) (Says : Literal → Type 0) (consistent : (t : Term) �
   HasTruth t sign = Says (term_literal t sign)
 
   abbrev pub SaysOne : Clause → Type 0
-  SaysOne [] = ⊥
-  SaysOne (l ∷ ls) = Says l ⊎ SaysOne ls
-
-  says_at : (c : Clause) (l : Literal) (k : ℕ) → k < length c → slice_index_or c k l ≡ l → Says l → SaysOne c
-  says_at [] l k below e has = absurd (omega (arith, below))
-  says_at (m ∷ ms) l zero below e has = inl (subst Says (sym e) has)
-  says_at (m ∷ ms) l (suc k) below e has = inr (says_at ms l k (omega (arith, below)) e has)
+  SaysOne c = OneSaid Says c
 
   pub says_one : (c : Clause) (l : Literal) → Contains c l → Says l → SaysOne c
-  says_one c l at has = says_at c l at.0 at.1 at.2 has
+  says_one c l at has = said_from Says c l at has
 
   -- no term has both truths
   never : (t : Term) (sign : Bool) → HasTruth t sign → HasTruth t (not sign) → ⊥
@@ -100,10 +95,6 @@ module _ (a : Assignment) (Says : Literal → Type 0) (consistent : (t : Term) �
   others t sign rest h (inl k) = absurd (never t sign h k)
   others t sign rest h (inr r) = r
 
-  pub alone : (P : Type 0) → P ⊎ ⊥ → P
-  alone P (inl p) = p
-  alone P (inr e) = absurd e
-
   -- ---- Values
 
   -- where the term has a truth, that is its value
@@ -114,20 +105,11 @@ module _ (a : Assignment) (Says : Literal → Type 0) (consistent : (t : Term) �
   AreSettled no_terms = ⊤
   AreSettled (terms t ts) = IsSettled t × AreSettled ts
 
-  -- each has this truth, or one of them has
-  abbrev EachIs : Bool → Terms → Type 0
-  EachIs sign no_terms = ⊤
-  EachIs sign (terms t ts) = (value_of a t ≡ truth sign) × EachIs sign ts
-
-  abbrev OneIs : Bool → Terms → Type 0
-  OneIs sign no_terms = ⊥
-  OneIs sign (terms t ts) = (value_of a t ≡ truth sign) ⊎ OneIs sign ts
-
   -- the clauses that say of each argument that it is as the term is
   abbrev Pairs : Term → Bool → Terms → List Clause
   Pairs t sign ts = map (λ u. term_literal t (not sign) ∷ term_literal u sign ∷ []) (list_of ts)
 
-  each_is : (t : Term) (sign : Bool) → HasTruth t sign → (ts : Terms) (more : List Clause) → AllByRecursion SaysOne (Pairs t sign ts ++ more) → AreSettled ts → EachIs sign ts
+  each_is : (t : Term) (sign : Bool) → HasTruth t sign → (ts : Terms) (more : List Clause) → AllByRecursion SaysOne (Pairs t sign ts ++ more) → AreSettled ts → EachIs a sign ts
   each_is t sign has no_terms more h s = tt
   each_is t sign has (terms u us) more h s =
       (s.0 sign (alone (HasTruth u sign) (others t sign (HasTruth u sign ⊎ ⊥) has h.0)), each_is t sign has us more h.1 s.1)
@@ -136,65 +118,27 @@ module _ (a : Assignment) (Says : Literal → Type 0) (consistent : (t : Term) �
   last_says t sign no_terms c h = h.0
   last_says t sign (terms u us) c h = last_says t sign us c h.1
 
-  one_is : (sign : Bool) (ts : Terms) → SaysOne (map (λ u. term_literal u sign) (list_of ts)) → AreSettled ts → OneIs sign ts
+  one_is : (sign : Bool) (ts : Terms) → SaysOne (map (λ u. term_literal u sign) (list_of ts)) → AreSettled ts → OneIs a sign ts
   one_is sign no_terms h s = absurd h
   one_is sign (terms u us) (inl h) s = inl (s.0 sign h)
   one_is sign (terms u us) (inr h) s = inr (one_is sign us h s.1)
 
   -- ---- Conjunctions and disjunctions
 
-  all_pass : (ts : Terms) → EachIs true ts → list_all is_true (values_of a ts) ≡ true
-  all_pass no_terms h = refl
-  all_pass (terms t ts) h = rw (h.0, all_pass ts h.1) refl
-
-  some_fail : (ts : Terms) → OneIs false ts → list_all is_true (values_of a ts) ≡ false
-  some_fail no_terms h = absurd h
-  some_fail (terms t ts) (inl h) = rw h refl
-  some_fail (terms t ts) (inr h) = ap (λ b. is_true (value_of a t) && b) (some_fail ts h) ∙ and-false (is_true (value_of a t))
-
-  none_pass : (ts : Terms) → EachIs false ts → list_any is_true (values_of a ts) ≡ false
-  none_pass no_terms h = refl
-  none_pass (terms t ts) h = rw (h.0, none_pass ts h.1) refl
-
-  some_pass : (ts : Terms) → OneIs true ts → list_any is_true (values_of a ts) ≡ true
-  some_pass no_terms h = absurd h
-  some_pass (terms t ts) (inl h) = rw h refl
-  some_pass (terms t ts) (inr h) = ap (λ b. is_true (value_of a t) || b) (some_pass ts h) ∙ or-true (is_true (value_of a t))
-
-  all_is : (ts : Terms) → EachIs true ts → all_true (values_of a ts) ≡ truth true
-  all_is no_terms h = refl
-  all_is (terms t no_terms) h = h.0
-  all_is (terms t (terms u ts)) h = ap truth (all_pass (terms t (terms u ts)) h)
-
-  all_fails : (ts : Terms) → OneIs false ts → all_true (values_of a ts) ≡ truth false
-  all_fails no_terms h = absurd h
-  all_fails (terms t no_terms) h = alone (value_of a t ≡ truth false) h
-  all_fails (terms t (terms u ts)) h = ap truth (some_fail (terms t (terms u ts)) h)
-
-  some_fails : (ts : Terms) → EachIs false ts → some_true (values_of a ts) ≡ truth false
-  some_fails no_terms h = refl
-  some_fails (terms t no_terms) h = h.0
-  some_fails (terms t (terms u ts)) h = ap truth (none_pass (terms t (terms u ts)) h)
-
-  some_is : (ts : Terms) → OneIs true ts → some_true (values_of a ts) ≡ truth true
-  some_is no_terms h = absurd h
-  some_is (terms t no_terms) h = alone (value_of a t ≡ truth true) h
-  some_is (terms t (terms u ts)) h = ap truth (some_pass (terms t (terms u ts)) h)
-
   abbrev pub Met : Term → Type 0
   Met t = AllByRecursion SaysOne (gate_clauses t)
 
   conjunction_settled : (ts : Terms) → Met (apply conjunction ts) → AreSettled ts → IsSettled (apply conjunction ts)
-  conjunction_settled ts h s true has = all_is ts (each_is (apply conjunction ts) true has ts _ h s)
+  conjunction_settled ts h s true has = all_is a ts (each_is (apply conjunction ts) true has ts _ h s)
   conjunction_settled ts h s false has =
       let rest = map fails (list_of ts) in
-      all_fails ts (one_is false ts (others (apply conjunction ts) false (SaysOne rest) has (last_says (apply conjunction ts) true ts (holds (apply conjunction ts) ∷ rest) h)) s)
+      all_fails a ts (one_is false ts (others (apply conjunction ts) false (SaysOne rest) has (last_says (apply conjunction ts) true ts (holds (apply conjunction ts) ∷ rest) h)) s)
 
   disjunction_settled : (ts : Terms) → Met (apply disjunction ts) → AreSettled ts → IsSettled (apply disjunction ts)
-  disjunction_settled ts h s false has = some_fails ts (each_is (apply disjunction ts) false has ts _ h s)
+  disjunction_settled ts h s false has = some_fails a ts (each_is (apply disjunction ts) false has ts _ h s)
   disjunction_settled ts h s true has =
       let rest = map holds (list_of ts) in
-      some_is ts (one_is true ts (others (apply disjunction ts) true (SaysOne rest) has (last_says (apply disjunction ts) false ts (fails (apply disjunction ts) ∷ rest) h)) s)
+      some_is a ts (one_is true ts (others (apply disjunction ts) true (SaysOne rest) has (last_says (apply disjunction ts) false ts (fails (apply disjunction ts) ∷ rest) h)) s)
 
   -- ---- Operators of a fixed number of arguments
 

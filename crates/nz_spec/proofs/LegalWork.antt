@@ -40,7 +40,7 @@ goes_on = record {
 -- ---- Lists of which no two are related
 
 -- related elements stand at one place
-abbrev Once : {X : Type 0} → (X → X → Type 0) → List X → Type 0
+abbrev pub Once : {X : Type 0} → (X → X → Type 0) → List X → Type 0
 Once R xs = (i j : ℕ) (x y : _) → slice_get xs i ≡ Some x → slice_get xs j ≡ Some y → R x y → i ≡ j
 
 front_at : {X : Type 0} (n : ℕ) (xs : List X) (i : ℕ) (x : X) → slice_get (take n xs) i ≡ Some x → slice_get xs i ≡ Some x
@@ -97,7 +97,7 @@ zero_no_suc e = absurd (omega (arith, e))
 suc_injective : {m n : ℕ} → suc m ≡ suc n → m ≡ n
 suc_injective e = omega (arith, e)
 
-abbrev numbers_of : List (ℕ × Bool) → List ℕ
+abbrev pub numbers_of : List (ℕ × Bool) → List ℕ
 numbers_of ps = map (λ (p : ℕ × Bool). p.0) ps
 
 undecided_numbers : (ps : List (ℕ × Bool)) (atom : ℕ) → All (λ (p : ℕ × Bool). p.0 ≢ atom) ps → Contains (numbers_of ps) atom → ⊥
@@ -147,7 +147,7 @@ module _ {X K : Type 0} (test : X → Bool) (key : X → K) where
 
 -- ---- Atoms
 
-abbrev AreOpposite : Literal → Literal → Type 0
+abbrev pub AreOpposite : Literal → Literal → Type 0
 AreOpposite l m = SayTheSame l m ⊎ SayTheSame l (negation_of m)
 
 -- where the negation of one says the same as another, so does that one's negation
@@ -176,13 +176,13 @@ literal_of_number atoms i a l at = ap (λ m. signed_literal m a) (get_or_from_sl
 -- ---- What stands once
 
 -- the same, with atoms that aren't one another's negations
-record StandApart (s : Search) : Type 0 where
-  atoms : Once AreOpposite s.atoms
-  decided : StandOnce (numbers_of s.decided)
-  told : StandOnce (told_literals s)
-  learned : Once AreSameSet s.learned
+pub record StandApart (s : Search) : Type 0 where
+  pub atoms : Once AreOpposite s.atoms
+  pub decided : StandOnce (numbers_of s.decided)
+  pub told : StandOnce (told_literals s)
+  pub learned : Once AreSameSet s.learned
 
-kept : (q : Task) (s : Search) (x y : Point) (line : WorkLine Note) → MayFollow q s x line y → StandApart s → StandApart (after_line s line)
+pub kept : (q : Task) (s : Search) (x y : Point) (line : WorkLine Note) → MayFollow q s x line y → StandApart s → StandApart (after_line s line)
 kept q s x y (NoteLine (start_note fs places)) may h = record { atoms = h.atoms; decided = h.decided; told = h.told; learned = h.learned }
 kept q s x y (NoteLine (atom_note l)) may h = record {
   atoms = once_more AreOpposite opposite_back s.atoms l h.atoms (new_atom s.atoms l may.0.fresh may.0.negation_fresh);

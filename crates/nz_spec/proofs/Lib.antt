@@ -1,3 +1,4 @@
+pub mod ArgumentTruths
 pub mod BasisExchange
 pub mod BasisJoins
 pub mod BasisRows
@@ -13,11 +14,17 @@ pub mod BlandReturns
 pub mod BlandSteps
 pub mod BlandTells
 pub mod BlandValues
+mod BooleanDecisions
+mod BooleanListings
+mod BooleanPlaces
+mod BooleanStates
+mod BooleanWork
 pub mod BoundChanges
 pub mod BranchMarks
 pub mod ChosenFractions
 pub mod ClimbSteps
 pub mod Climbs
+mod ClauseCounts
 mod ComparedGoals
 pub mod ConstantValues
 pub mod CutSums
@@ -28,6 +35,8 @@ pub mod Divisions
 mod FamilyLines
 pub mod FarkasSums
 mod FlatLists
+pub mod ForcedOnce
+pub mod ForcedTerms
 pub mod FormNumbers
 pub mod FormPlaces
 pub mod FormSums
@@ -35,6 +44,7 @@ pub mod FormTerms
 pub mod FormValues
 pub mod FormWorth
 pub mod Gaps
+mod FreeConstants
 pub mod GateDecisions
 pub mod GateTruths
 pub mod InfinitesimalLaws
@@ -49,7 +59,11 @@ pub mod LinearLiterals
 pub mod LinkTruths
 mod Listings
 pub mod Literals
+pub mod MetBounds
 mod MoreTerms
+pub mod NeededRows
+pub mod NeededTerms
+pub mod NeededTruths
 mod Negations
 pub mod Normal
 pub mod NormalGates
@@ -66,6 +80,7 @@ mod RenumberedSums
 mod RenumberedTerms
 mod RenumberedWishes
 mod RenumberedWork
+pub mod SaidClauses
 pub mod Same
 pub mod SameSorts
 pub mod SameSums
@@ -81,6 +96,7 @@ pub mod UnitTruths
 mod Uses
 mod WishValues
 pub mod WorkedBases
+mod WorkedBooleans
 pub mod WorkedClimb
 mod WorkedFamilies
 pub mod WorkedPivot

@@ -103,7 +103,7 @@ row to_real (terms t no_terms) k i e f = absurd (true≢false e)
 row h ts k i e f = absurd k
 
 mutual
-  gated : (t : Term) → IsWellSorted [] t → HasTakenHeads t → holds_number t ≡ false → IsGated t
+  pub gated : (t : Term) → IsWellSorted [] t → HasTakenHeads t → holds_number t ≡ false → IsGated t
   gated (apply h ts) w k e =
       let parts = or_parts (is_numeric h) (hold_number ts) e in
       (row h ts k.0 w.0 parts.0 parts.1, all_gated ts w.1 k.1 parts.1)

@@ -288,7 +288,7 @@ module _ (q : Task) (listed earlier : List Term) (earlier_goals : List Goal) (nu
   line-more s x y (NoteLine (under_note ls)) may = (under-more s x ls may.0, may.1)
   line-more s x y (NoteLine (told_note t)) may =
       (record { there = may.0.there; new = may.0.new; follows = λ a be. may.0.follows a (may-be-fewer s a be) }, may.1)
-  line-more s x y (UnitLine (DecisionEntry atom sign)) may = may
+  line-more s x y (UnitLine (DecisionEntry atom sign)) may = (record { named = may.0.named; undecided = may.0.undecided; free = may.0.free }, may.1)
   line-more s x y (UnitLine (LearnedEntry keep clause)) may = (
     record {
       fewer = may.0.fewer;
@@ -375,6 +375,7 @@ module _ (q : Task) (listed earlier : List Term) (earlier_goals : List Goal) (nu
     wanted = h.wanted;
     after = h.after;
     may = line-more (after_lines at_first work.lines) h.legal.point h.after (UnitLine h.wanted) h.may;
+    under = h.under;
   }
 
   model-more : (p : Position) (bs : List Binding) → IsModelAt q p bs → IsModelAt r p bs

@@ -29,7 +29,7 @@ line_finds q none s x y (UnitLine (PivotEntry i j)) may e = e
 line_finds q none s x y (UnitLine (BranchEntry atom)) may e = e
 line_finds q none s x y (UnitLine (FoundEntry goal value)) may e = absurd (nothing-at goal may.0.goal (subst (λ (gs : List Goal). slice_get gs goal ≡ Some may.0.goal) none may.0.listed))
 
-lines_find : (q : Task) → q.goals ≡ [] → (s : Search) (x y : Point) (lines : List (WorkLine Note)) → Lead q s x lines y → s.found ≡ [] → (after_lines s lines).found ≡ []
+pub lines_find : (q : Task) → q.goals ≡ [] → (s : Search) (x y : Point) (lines : List (WorkLine Note)) → Lead q s x lines y → s.found ≡ [] → (after_lines s lines).found ≡ []
 lines_find q none s x y [] legal e = e
 lines_find q none s x y (line ∷ lines) (start, end, drift, may, legal) e = lines_find q none (after_line s line) end y lines legal (line_finds q none s start end line may e)
 

@@ -64,11 +64,11 @@ exchange-based q s x y i j (inl (agree, step)) h =
     record { basis = check_steps_keep_basis.basis (position_of s x) (position_of s y) i j h.basis step; once = h.once }
 exchange-based q s x y i j (inr (apart, climbing)) h = climbing-based q s x y i j climbing h
 
-drifts-based : (q : Task) (s : Search) (x y : Point) (js : List ℕ) → Drifts q s x js y → IsBasedAt s x → IsBasedAt s y
+pub drifts-based : (q : Task) (s : Search) (x y : Point) (js : List ℕ) → Drifts q s x js y → IsBasedAt s x → IsBasedAt s y
 drifts-based q s x y [] same h = same-point s x y same h
 drifts-based q s x y (j ∷ js) (mid, climbing, rest) h = drifts-based q s mid y js rest (climbing-based q s x mid j j climbing h)
 
-line-based : (q : Task) (s : Search) (x y : Point) (line : WorkLine Note) → MayFollow q s x line y → IsBasedAt s x → IsBasedAt (after_line s line) y
+pub line-based : (q : Task) (s : Search) (x y : Point) (line : WorkLine Note) → MayFollow q s x line y → IsBasedAt s x → IsBasedAt (after_line s line) y
 line-based q s x y (NoteLine (start_note fs places)) may h =
     let t = after_line s (NoteLine (start_note fs places)) in
     based t y (subst (λ (z : Point). IsBasis fs (is_nonbasic z)) (sym may.1) may.0.may_begin.basis) may.0.may_begin.once

@@ -133,7 +133,7 @@ sort_itself bool_sort = refl
 sort_itself int_sort = refl
 sort_itself real_sort = refl
 
-constant_itself : (c : Constant) → are_same_constant c c ≡ true
+pub constant_itself : (c : Constant) → are_same_constant c c ≡ true
 constant_itself c = and_from (bytes_eq c.name c.name) (are_same_sort c.sort c.sort) ((bytes_eq-Decides c.name c.name).1 refl) (sort_itself c.sort)
 
 -- a head that is a constant

@@ -21,19 +21,19 @@ normal_terms_are_taken t w linear whole = record { sorted = (normal_stays_sorted
 -- ---- What a term is made of
 
 -- the arguments of a taken term, together
-record AreTaken (ts : Terms) : Type 0 where
-  sorted : AreWellSorted [] ts
-  linear : are_linear ts ≡ true
-  heads : HaveTakenHeads ts
+pub record AreTaken (ts : Terms) : Type 0 where
+  pub sorted : AreWellSorted [] ts
+  pub linear : are_linear ts ≡ true
+  pub heads : HaveTakenHeads ts
 
-arguments_taken : (h : Head) (ts : Terms) → IsTaken (apply h ts) → AreTaken ts
+pub arguments_taken : (h : Head) (ts : Terms) → IsTaken (apply h ts) → AreTaken ts
 arguments_taken h ts k =
     record { sorted = k.sorted.1; linear = (and_parts (is_linear_node h (constant_values ts)) (are_linear ts) k.linear).1; heads = k.heads.1 }
 
-first_taken : (t : Term) (ts : Terms) → AreTaken (terms t ts) → IsTaken t
+pub first_taken : (t : Term) (ts : Terms) → AreTaken (terms t ts) → IsTaken t
 first_taken t ts k = record { sorted = k.sorted.0; linear = (and_parts (is_linear t) (are_linear ts) k.linear).0; heads = k.heads.0 }
 
-rest_taken : (t : Term) (ts : Terms) → AreTaken (terms t ts) → AreTaken ts
+pub rest_taken : (t : Term) (ts : Terms) → AreTaken (terms t ts) → AreTaken ts
 rest_taken t ts k = record { sorted = k.sorted.1; linear = (and_parts (is_linear t) (are_linear ts) k.linear).1; heads = k.heads.1 }
 
 mutual

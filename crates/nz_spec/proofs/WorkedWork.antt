@@ -14,6 +14,7 @@ use Rattle.nz_fractions.proofs.Order.{lt_from, fraction_eq-same}
 use Rattle.nz_spec.specs.numbers.Infinitesimal.{Infinitesimal, ◌=δ◌, infinitesimal_cmp}
 use Rattle.nz_spec.specs.numbers.Computation.{Computation, at_once, in_turn}
 use Rattle.nz_spec.specs.terms.Term.{Assignment, is_true, value_of, decimal_number, Term}
+use Rattle.nz_spec.specs.terms.Normal.{negated}
 use Rattle.nz_spec.specs.terms.Form.{Part}
 use Rattle.nz_spec.specs.terms.Model.{IsAssignment, IsModel}
 use Rattle.nz_spec.specs.clauses.Literal.{Literal, StandOnce, is_below, Clause, negation_of, SayTheSame, is_literal_true}
@@ -28,13 +29,13 @@ use Rattle.nz_spec.specs.simplex.LiteralBounds.{turned, joined, moved_by}
 use Rattle.nz_spec.specs.search.Branches.{Branch, branch_at}
 use Rattle.nz_spec.specs.search.Work.{DecisionEntry, PivotEntry, BranchEntry, UnitLine, NoteLine}
 use Rattle.nz_spec.specs.search.Notes.{atom_note}
-use Rattle.nz_spec.specs.search.Search.{Task, Search, at_first, no_point, position_of, HasWorth, Found}
+use Rattle.nz_spec.specs.search.Search.{Task, signed_literal, Search, at_first, no_point, position_of, HasWorth, Found}
 use Rattle.nz_spec.specs.search.Legal.{after_lines, MayFollow, Lead, AreSpread}
 use Rattle.nz_spec.specs.search.Atoms.{IsTruth, IsBoundOf, of_term, of_table, IsTabled, IsBroken, HasUnit, WasTold, LiesBetween, MayBranch, of_split, of_branch, on_unit, branch_by}
 use Rattle.nz_spec.specs.search.Beginnings.{IsComparison}
 use Rattle.nz_spec.specs.worked.TermSamples.{a_term, x_term, alone, numeral_term, real_of}
-use Rattle.nz_spec.specs.worked.WorkedSteps.{a_true}
-use Rattle.nz_spec.specs.worked.WorkedWork.{boolean_task, boolean_lines, HasSearches, HasSpentUnits, half_term, x_from_half, branch_task, opening, lines_to_half, branching_lines, one_term, x_up_to_one, HasBranch, HasRefusals}
+use Rattle.nz_spec.specs.worked.WorkedSteps.{a_true, a_false}
+use Rattle.nz_spec.specs.worked.WorkedWork.{not_a_true, boolean_task, boolean_lines, HasSearches, HasSpentUnits, half_term, x_from_half, branch_task, opening, lines_to_half, branching_lines, one_term, x_up_to_one, HasBranch, HasRefusals}
 use Rattle.nz_spec.specs.worked.WorkedArithmetic.{sample_order, part, one_half, x_up_to_zero, x_from_one}
 use Rattle.nz_spec.proofs.SameSums.{say_itself, say_limits, broken_below}
 use Rattle.nz_spec.proofs.LinkTruths.{links_are_true}
@@ -77,7 +78,15 @@ once_alone x (suc i) j y at_i at_j = cc
 -- ---- Two searches over a Boolean constant
 
 a_is_truth : IsTruth boolean_task.listed a_true
-a_is_truth = record { term = a_term; boolean = refl; listed = has_first a_term (x_term ∷ []); is = refl }
+a_is_truth = record { term = a_term; boolean = refl; listed = has_first a_term (negated a_term ∷ x_term ∷ []); is = refl }
+
+-- where a search goes under `(not a)` alone, or under nothing, neither sign of the atom is held
+not_given : (under : List Literal) → ((m : Literal) → Contains under m → not_a_true ≡ m) → (l : Literal) → (not_a_true ≡ l → ⊥) → Contains (not_a_true ∷ under) l → ⊥
+not_given under only l other has = elim (has_cases not_a_true l under has) [ inl asserted ↦ other asserted | inr more ↦ other (only l more) ]
+
+a_is_free : (under : List Literal) → ((m : Literal) → Contains under m → not_a_true ≡ m) → (sign : Bool) → Contains (not_a_true ∷ under) (signed_literal a_true sign) → ⊥
+a_is_free under only true = not_given under only a_true (λ same. cc)
+a_is_free under only false = not_given under only a_false (λ same. cc)
 
 or_nothing : (b : Bool) → IsTrue b → IsTrue (b || false)
 or_nothing true h = h
@@ -89,7 +98,7 @@ searches_lead =
       x,
       x,
       ([], refl),
-      (record { literals = inl (All-cons (λ (l : Literal). Contains boolean_task.assumed l ⊎ IsComparison boolean_task at_first no_point l) a_true [] (inl (has_first a_true [])) (All-nil _)); first = λ e. (refl, refl, refl) }, refl),
+      (record { literals = inl (All-cons (λ (l : Literal). Contains boolean_task.assumed l ⊎ IsComparison boolean_task at_first no_point l) not_a_true [] (inl (has_first not_a_true [])) (All-nil _)); first = λ e. (refl, refl, refl) }, refl),
       (
         x,
         x,
@@ -106,7 +115,7 @@ searches_lead =
           x,
           x,
           ([], refl),
-          (record { named = omega arith; undecided = All-nil _ }, refl),
+          (record { named = omega arith; undecided = All-nil _; free = a_is_free (not_a_true ∷ []) (λ m has. elim (has_cases not_a_true m [] has) [ inl same ↦ same | inr none ↦ absurd (has_none m none) ]) }, refl),
           (
             x,
             x,
@@ -114,9 +123,9 @@ searches_lead =
             (
               record {
                 fewer = omega arith;
-                dead_end = λ a may. no_contradiction (is_true (value_of a a_term)) may.model.asserted_hold.0 may.decided.0;
-                follows = λ a model. or_nothing (is_true (value_of a a_term)) model.asserted_hold.0;
-                named = All-cons (λ (p : ℕ × Bool). p.0 < 1) (0, true) [] (omega arith) (All-nil _);
+                dead_end = λ a may. no_contradiction (is_true (value_of a a_term)) may.decided.0 may.model.asserted_hold.0;
+                follows = λ a model. or_nothing (not (is_true (value_of a a_term))) model.asserted_hold.0;
+                named = All-cons (λ (p : ℕ × Bool). p.0 < 1) (0, false) [] (omega arith) (All-nil _);
                 once = once_alone 0;
                 new = All-nil _;
               },
@@ -152,7 +161,8 @@ spent_units = record {
   legal = searches;
   wanted = DecisionEntry 0 true;
   after = no_point;
-  may = (record { named = omega arith; undecided = All-nil _ }, refl);
+  may = (record { named = omega arith; undecided = All-nil _; free = a_is_free [] (λ m has. absurd (has_none m has)) }, refl);
+  under = λ none. cc;
 }
 
 -- ---- A branch

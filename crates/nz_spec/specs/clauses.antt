@@ -1,10 +1,12 @@
 pub mod Cuts
 pub mod Farkas
+pub mod Forced
 pub mod Gates
 pub mod Goals
 pub mod LinearLiteral
 pub mod Links
 pub mod Literal
+pub mod Polarity
 pub mod Steps
 pub mod Units
 pub mod Wishes

@@ -1,5 +1,7 @@
 pub mod BlandRuns
+pub mod BooleanWork
 pub mod Deciding
+pub mod Forcing
 pub mod FormPlace
 pub mod InfinitesimalMoves
 pub mod LegalWork

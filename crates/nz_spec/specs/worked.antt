@@ -2,7 +2,9 @@ pub mod TermSamples
 pub mod TruthTables
 pub mod WorkedArithmetic
 pub mod WorkedBasis
+pub mod WorkedBooleans
 pub mod WorkedFamilies
+pub mod WorkedNeeds
 pub mod WorkedPlaces
 pub mod WorkedSteps
 pub mod WorkedWishes

@@ -1,7 +1,9 @@
 //! Laws of the terms that checks take, and of what decides them.
 ghost use Rattle.nz_spec.specs.laws.Deciding.{TablesDecide};
+ghost use Rattle.nz_spec.specs.laws.Forcing.{AssertedTermsAreTrue, ForcedTermsHaveValues, NeededClausesAreTrue, NeededClausesForce};
 ghost use Rattle.nz_spec.specs.terms.Taken.{NormalTermsAreTaken, TakenTermsAreInOrder};
 ghost use Rattle.nz_spec.specs.simplex.LiteralBounds.{TellingSetsBounds};
+ghost use Rattle.nz_spec.specs.worked.WorkedNeeds.{HasForcedTerms, HasNeeds};
 ghost use Rattle.nz_spec.specs.laws.ToldBounds.{ChosenFractionsKeepBounds, ToldBoundsAreMet};
 
 /// Which normal terms are taken.
@@ -17,6 +19,32 @@ pub fn taken_terms_are_in_order()
 /// Truths and numbers that meet the clauses of the tables are the values of the terms.
 pub fn tables_decide()
     ensures decide { TablesDecide }
+{}
+
+/// Terms that are forced have their values under each assignment that agrees, though atoms are open.
+pub fn forced_terms_have_values()
+    ensures values { ForcedTermsHaveValues }
+{}
+
+/// Clauses of the signs with which terms are needed force them, and what is asserted, where they are met.
+pub fn needed_clauses_force()
+    ensures force { NeededClausesForce }
+{}
+
+/// So what is asserted is true under each assignment that agrees.
+pub fn asserted_terms_are_true()
+    ensures hold { AssertedTermsAreTrue }
+{}
+
+/// The clauses of needed terms, and those that state asserted ones, exclude no model.
+pub fn needed_clauses_are_true()
+    ensures are_true { NeededClausesAreTrue }
+{}
+
+/// Needs of assertions, and what is forced while atoms are open, by the definitions alone.
+pub fn worked_needs()
+    ensures needs { HasNeeds }
+    ensures forced { HasForcedTerms }
 {}
 
 /// What a literal does to a position when it is told, and when it is taken back.

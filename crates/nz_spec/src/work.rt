@@ -1,7 +1,9 @@
 //! Laws of work lists.
 ghost use Rattle.nz_spec.specs.search.Branches.{BranchesAreFew};
+ghost use Rattle.nz_spec.specs.laws.BooleanWork.{BooleanListingsAreGated, BooleanWorkIsBounded, BooleanWorkIsNeverStopped};
 ghost use Rattle.nz_spec.specs.laws.LegalWork.{LegalBranchesAreFew, LegalWorkDoesNotRepeat, LegalWorkGoesOn, LegalWorkMayBegin, MoreTermsMayBegin, NegationsHaveNoRows, PivotsAreLegal, PlainAtomsAreOne, PlainWorkIsLegal, RenumberedWorkIsLegal};
 ghost use Rattle.nz_spec.specs.laws.MoreTerms.{MoreTermsEndLegally};
+ghost use Rattle.nz_spec.specs.worked.WorkedBooleans.{HasFourClauses};
 ghost use Rattle.nz_spec.specs.worked.WorkedPlaces.{HasGreatWorth, HasScaling};
 ghost use Rattle.nz_spec.specs.worked.WorkedWishes.{HasWishes};
 ghost use Rattle.nz_spec.specs.worked.WorkedWork.{HasBranch, HasClimb, HasEitherOrder, HasLaterCheck, HasPivot, HasRefusals, HasSearches, HasSpentUnits};
@@ -67,6 +69,21 @@ pub fn legal_branches_are_few()
     ensures few { LegalBranchesAreFew }
 {}
 
+/// A legal list over n Boolean terms, without a goal, has at most `n * (3 ^ n + 1)` units.
+pub fn boolean_work_is_bounded()
+    ensures bounded { BooleanWorkIsBounded }
+{}
+
+/// No operation leaves the numbers in a check over Booleans, where the checks before were over Booleans too.
+pub fn boolean_work_is_never_stopped()
+    ensures never { BooleanWorkIsNeverStopped }
+{}
+
+/// Terms that list Booleans alone are of the gate table.
+pub fn boolean_listings_are_gated()
+    ensures gated { BooleanListingsAreGated }
+{}
+
 /// Lists of work that are legal line by line, and lines that may not follow.
 pub fn worked_work()
     ensures searches { HasSearches }
@@ -77,6 +94,12 @@ pub fn worked_work()
     ensures later { HasLaterCheck }
     ensures refusals { HasRefusals }
     ensures orders { HasEitherOrder }
+{}
+
+/// The four clauses over two Boolean constants, whose check has at most 52496 units.
+#[tactic(auto, using(crate::proofs::WorkedBooleans::four_clauses_bounded))]
+pub fn worked_booleans()
+    ensures clauses { HasFourClauses }
 {}
 
 /// A list that ends where the value of a term leaves the numbers, and columns that are scaled to integers.

@@ -196,7 +196,7 @@ const PAIRS: &[(usize, bool)] = &[(3, true), (0, false)];
 
 #[test]
 fn test_literals_give_their_list_back(rt: HostRuntime) -> Result<(), Fail> {
-    let literals = Literals::from(PAIRS.to_vec(rt.alloc())?);
+    let literals = Literals::new(PAIRS.to_vec(rt.alloc())?)?;
     is(&rt, literals.as_slice(), PAIRS);
     is(&rt, literals.into_vec().len(), 2);
     Ok(())
@@ -235,7 +235,7 @@ fn decide(work: &mut Work<u8>, atom: usize) -> Result<(), Spent> {
 }
 
 fn learn(alloc: Global, work: &mut Work<u8>) -> Result<(), Fail> {
-    let lits = Literals::from([(5, true)].to_vec(alloc)?);
+    let lits = Literals::new([(5, true)].to_vec(alloc)?)?;
     work.unit(Entry::Learned { keep: 0, lits })?;
     Ok(())
 }

@@ -8,7 +8,7 @@ ghost use Rattle.nz_engine.specs.Preparing.{Names, boolean_term, boolean_terms};
 use super::values::marks_of;
 use nz_base::{Memory, Work};
 use nz_log::{Atom, AtomId, Log};
-use nz_search::Note;
+use nz_search::{Boxed, Note};
 use nz_term::{Sort, TermId, Terms};
 use std::alloc::Global;
 
@@ -57,7 +57,7 @@ fn noted(alloc: Global, atom: &Atom) -> Result<Note, Memory>
 {
     match atom {
         Atom::Term(term) => Ok(Note::Atom(*term)),
-        Atom::AtMost(bound) => Ok(Note::Bound(bound.copied(alloc)?)),
+        Atom::AtMost(bound) => Ok(Note::Bound(Boxed::new(alloc, bound.copied(alloc)?)?)),
     }
 }
 

@@ -1,5 +1,5 @@
 //! The search: what it is handed, what comes before it, and the search itself.
-ghost use Rattle.std.specs.Prelude.{◌≡◌, ℕ, ◌≤◌, ◌++◌, [], List, length, take, None, IfErr, IfOk, IfSome, OnErr, OnOk};
+ghost use Rattle.std.specs.Prelude.{◌≡◌, ℕ, ◌≤◌, ◌++◌, [], List, length, map, take, None, IfErr, IfOk, IfSome, OnErr, OnOk};
 ghost use Rattle.nz_spec.specs.search.Search.{Task};
 ghost use Rattle.nz_spec.specs.search.Places.{AreAllTold};
 ghost use Rattle.nz_spec.specs.search.Work.{IsSpent};
@@ -9,7 +9,7 @@ ghost use Rattle.nz_log.specs.Logs.{JoinsAtoms};
 ghost use Rattle.nz_search.specs.Asked.{NamesParts};
 ghost use Rattle.nz_search.specs.Levels.{Level};
 ghost use Rattle.nz_search.specs.Standing.{search_after};
-ghost use Rattle.nz_term.specs.TermLits.{AreConsistent, AreNegations};
+ghost use Rattle.nz_term.specs.TermLits.{AreConsistent, AreNegations, literal_of};
 ghost use Rattle.nz_search.specs.Verdicts.{OnSpent};
 ghost use Rattle.nz_cform.specs.Covering.{Covers};
 ghost use Rattle.nz_engine.specs.Checking.{AreHanded, EndsWith, HasFound, IsBegun, IsPlain, IsPosed, IsReady, IsUnderWay, MayBeNamed, MaySearch, NotesUnder, Works};
@@ -23,10 +23,10 @@ use super::exclusions::exclude;
 use super::theory::{begin_anew, learn_on, untell};
 use nz_base::{Memory, Work};
 use nz_cform::laws::covers_stay;
-use nz_log::laws::{atoms_of_terms, logs_stay, logs_stay_leveled};
+use nz_log::laws::{atoms_of_terms, logs_stay, logs_stay_leveled, tells_lits};
 use nz_log::{ClauseId, Lit};
 use nz_reals::laws::theories_restart;
-use nz_search::{Note, Stop};
+use nz_search::{Boxed, Note, Stop};
 use nz_spec::form::forms_are_sums;
 use nz_spec::table::term_of_node;
 use nz_spec::term::operands_are_sorted;
@@ -62,6 +62,8 @@ impl Prepared {
         ensures told { IfOk result (λ r. r ≡ None → AreAllTold (search_after terms.now work.new)) }
         ensures works { Works terms.now work.old work.new }
         ensures spent { IfErr result (λ s. OnSpent s (IsSpent work.new)) }
+        // Where one more unit was wanted, it goes under the assumed literals.
+        ensures under { IfErr result (λ s. OnSpent s ((search_after terms.now work.new).under ≡ map (literal_of terms.now) assumed.now)) }
         ensures excluded { OnOk result (BeganExcluded terms.now self.new) }
     {
         let literals = self.begin(terms, assumed, work)?;
@@ -206,7 +208,7 @@ fn go_under(alloc: Global, assumed: &[TermLit], work: &mut Work<Note>) -> Result
     ensures unchanged { OnErr result (work.new ≡ work.old) }
 {
     let literals = Vec::from_slice(alloc, assumed)?;
-    work.note(Note::Under(literals))?;
+    work.note(Note::Under(Boxed::new(alloc, literals)?))?;
     Ok(())
 }
 
@@ -221,4 +223,5 @@ fn search_laws()
     term_of_node();
     theories_restart();
     legal_work_goes_on();
+    tells_lits();
 }

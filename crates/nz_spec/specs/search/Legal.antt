@@ -16,16 +16,17 @@ use Rattle.nz_spec.specs.simplex.Climb.{linear_literals}
 use Rattle.nz_spec.specs.search.Work.{WorkEntry, DecisionEntry, LearnedEntry, PivotEntry, BranchEntry, FoundEntry, WorkLine, UnitLine, NoteLine, WorkList, IsSpent}
 use Rattle.nz_spec.specs.search.Notes.{Telling, told_atom, told_under, Note, start_note, atom_note, form_note, goal_note, under_note, told_note}
 use Rattle.nz_spec.specs.clauses.Goals.{Goal, goal_value, IsBest, IsBetter}
-use Rattle.nz_spec.specs.search.Search.{Task, ToldLiteral, Found, Search, at_first, no_point, point_at, never, literals_by, AreNamed, literal_told, told_literals, position_of, MayBe, last_value, IsHeld}
+use Rattle.nz_spec.specs.search.Search.{Task, ToldLiteral, Found, Search, at_first, no_point, point_at, never, literal_by, literals_by, AreNamed, literal_told, told_literals, position_of, literals_held, IsUnderAll, MayBe, last_value, IsHeld}
 use Rattle.nz_spec.specs.search.Atoms.{IsTruth, IsBoundOf, branch_by, MayName, MayBranchOn}
 use Rattle.nz_spec.specs.search.Beginnings.{sum_of_atom, MayStart, MayJoin, MayJoinGoal, MayGoUnder}
 
 -- ---- Decisions, clauses, and what is told
 
--- What is decided is an atom that isn't decided yet.
-pub record MayDecide (s : Search) (atom : ℕ) : Type 0 where
+-- What is decided is an atom that isn't decided yet, and of which neither sign is asserted or a literal that the search goes under.
+pub record MayDecide (q : Task) (s : Search) (atom : ℕ) : Type 0 where
   pub named : atom < length s.atoms
   pub undecided : All (λ (p : ℕ × Bool). p.0 ≢ atom) s.decided
+  pub free : (sign : Bool) → Contains (literals_held q s) (literal_by s.atoms (atom, sign)) → ⊥
 
 -- No assignment makes true what is asserted, what the search goes under and what it decided.
 abbrev pub IsDeadEnd : Task → Search → Type 0
@@ -148,7 +149,7 @@ MayFollow q s x (NoteLine (form_note atom)) y = MayJoin s atom × (y ≡ (joined
 MayFollow q s x (NoteLine (goal_note sum)) y = MayJoinGoal q s sum × (y ≡ (joined (position_of s x) sum).point)
 MayFollow q s x (NoteLine (under_note ls)) y = MayGoUnder q s x ls × (y ≡ x)
 MayFollow q s x (NoteLine (told_note t)) y = MayTell q s t × (y ≡ moved_by s.forms (literal_told s t) x)
-MayFollow q s x (UnitLine (DecisionEntry atom sign)) y = MayDecide s atom × (y ≡ x)
+MayFollow q s x (UnitLine (DecisionEntry atom sign)) y = MayDecide q s atom × (y ≡ x)
 MayFollow q s x (UnitLine (LearnedEntry keep clause)) y = MayLearn q s keep clause × (y ≡ x)
 MayFollow q s x (UnitLine (PivotEntry i j)) y = IsExchange q s x y i j
 MayFollow q s x (UnitLine (BranchEntry atom)) y = MayBranchOn q s x atom × (y ≡ x)
@@ -195,10 +196,12 @@ pub record AreLegal (q : Task) (lines : List (WorkLine Note)) : Type 0 where
   pub lead : Lead q at_first no_point lines point
   pub few : AreFew q (after_lines at_first lines)
 
--- The list of a check that used each of its units, step by step, where one more may follow.
+-- The list of a check that used each of its units, step by step, where one more may follow. Where no goal is asked of, the search that wants it goes under
+-- all that is assumed.
 pub record IsSpentLegally (q : Task) (work : WorkList Note) : Type 0 where
   pub spent : IsSpent work
   pub legal : AreLegal q work.lines
   pub wanted : WorkEntry
   pub after : Point
   pub may : MayFollow q (after_lines at_first work.lines) legal.point (UnitLine wanted) after
+  pub under : q.goals ≡ [] → IsUnderAll q (after_lines at_first work.lines)

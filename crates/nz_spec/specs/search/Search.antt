@@ -2,7 +2,7 @@
 -- its simplex. A list holds many searches and climbs, one after another.
 -- Sources: Marques-Silva and Sakallah 1999 (clause learning); Dutertre and de Moura, A Fast Linear-Arithmetic Solver for DPLL(T), CAV 2006, section 4
 -- (asserted bounds); Bjørner, Phan and Fleckenstein, νZ - An Optimizing SMT Solver, TACAS 2015 (goals in order).
-use Rattle.std.specs.Prelude.{◌≡◌, ℕ, ◌<◌, ◌==◌, Bool, true, false, List, [], ◌∷◌, ◌++◌, length, map, fold, All, Option, Some, None, slice_get, slice_index_or, if◌then◌else◌}
+use Rattle.std.specs.Prelude.{◌≡◌, ℕ, ◌<◌, ◌==◌, Bool, true, false, List, [], ◌∷◌, ◌++◌, length, map, fold, All, Contains, Option, Some, None, slice_get, slice_index_or, if◌then◌else◌}
 use Rattle.nz_fractions.specs.Fraction.{Fraction, ◌=ℚ◌}
 use Rattle.nz_spec.specs.numbers.Infinitesimal.{Infinitesimal, ◌=δ◌}
 use Rattle.nz_spec.specs.terms.Term.{Term, apply, falsum, no_terms, Assignment}
@@ -40,6 +40,10 @@ terms_known q = q.earlier ++ q.listed
 
 abbrev pub goals_known : Task → List Goal
 goals_known q = q.earlier_goals ++ q.goals
+
+-- what is asserted and what is assumed, as literals
+abbrev pub literals_asked : Task → List Literal
+literals_asked q = map holds q.asserted ++ q.assumed
 
 -- ---- Where it stands
 
@@ -124,6 +128,14 @@ pub record HasWorth (p : Position) (ps : List Part) (x : Infinitesimal) : Type 0
   pub at_basic : IsZeroAtBasic (is_nonbasic p.point) row
   pub equal : (v : Valuation) → worth v ps =ℚ mix p.forms row v
   pub at : x =δ sum_at (length p.forms) row (value_in p.point)
+
+-- what is asserted and what the search goes under, as literals
+abbrev pub literals_held : Task → Search → List Literal
+literals_held q s = map holds q.asserted ++ s.under
+
+-- The search goes under all that is assumed.
+abbrev pub IsUnderAll : Task → Search → Type 0
+IsUnderAll q s = All (Contains s.under) q.assumed
 
 -- ---- What can be true
 

@@ -2,10 +2,11 @@
 use Rattle.std.specs.Prelude.{ℕ, true, false, List, [], ◌∷◌, ◌++◌, Contains, Some, None, pos, negsuc}
 use Rattle.nz_fractions.specs.Fraction.{whole, over}
 use Rattle.nz_spec.specs.terms.Term.{over_int, at_most, decimal_number, sum, Term}
-use Rattle.nz_spec.specs.terms.Normal.{paired}
+use Rattle.nz_spec.specs.terms.Normal.{negated, paired}
 use Rattle.nz_spec.specs.terms.Form.{Part, unit_form}
 use Rattle.nz_spec.specs.terms.Order.{listing_order}
 use Rattle.nz_spec.specs.clauses.Literal.{Literal, is_at_most}
+use Rattle.nz_spec.specs.clauses.Gates.{holds}
 use Rattle.nz_spec.specs.simplex.Bland.{Point, zero_infinitesimal, standing}
 use Rattle.nz_spec.specs.search.Work.{DecisionEntry, LearnedEntry, PivotEntry, BranchEntry, FoundEntry, WorkLine, UnitLine, NoteLine}
 use Rattle.nz_spec.specs.search.Notes.{told_atom, told_under, Note, start_note, atom_note, form_note, goal_note, under_note, told_note}
@@ -32,14 +33,18 @@ opening l = NoteLine (under_note []) ∷ NoteLine (atom_note l) ∷ NoteLine (fo
 abbrev pub x_goal : Goal
 x_goal = record { form = unit_form x_term; up = true }
 
--- `a` is asserted, and it is assumed
-abbrev pub boolean_task : Task
-boolean_task = record (task_of (a_term ∷ []) (a_term ∷ x_term ∷ [])) { assumed = a_true ∷ []; goals = x_goal ∷ [] }
+-- that `(not a)` is true
+abbrev pub not_a_true : Literal
+not_a_true = holds (negated a_term)
 
--- A search under what is assumed comes to a dead end where it decides that `a` is false. It learns that `a` is true, and a search under nothing follows.
+-- `(not a)` is asserted, and it is assumed
+abbrev pub boolean_task : Task
+boolean_task = record (task_of (negated a_term ∷ []) (a_term ∷ negated a_term ∷ x_term ∷ [])) { assumed = not_a_true ∷ []; goals = x_goal ∷ [] }
+
+-- A search under what is assumed comes to a dead end where it decides that `a` is true. It learns that `a` is false, and a search under nothing follows.
 abbrev pub boolean_lines : List (WorkLine Note)
 boolean_lines =
-    NoteLine (under_note (a_true ∷ [])) ∷ NoteLine (atom_note a_true) ∷ UnitLine (DecisionEntry 0 false) ∷ UnitLine (LearnedEntry 0 ((0, true) ∷ []))
+    NoteLine (under_note (not_a_true ∷ [])) ∷ NoteLine (atom_note a_true) ∷ UnitLine (DecisionEntry 0 true) ∷ UnitLine (LearnedEntry 0 ((0, false) ∷ []))
     ∷ NoteLine (under_note []) ∷ []
 
 abbrev pub HasSearches : Type 0

@@ -126,7 +126,8 @@ returns-in_err-refuted-clause-spent c =
     (on_spent_all May (λ q. IsSpentLegally q (noted_list ns work)) e
     (λ q may.
     let at = (c.in_ok-prepared.ensures.may q may).0 in
-    spent_of ns levels assumed q c.args.work.now work e may.asked (c.solve.ensures.plain levels q at) (c.in_err-refuted.ensures.stopped levels q at) c.in_err-refuted.ensures.spent))
+    spent_of ns levels assumed q c.args.work.now work e may.asked (c.solve.ensures.plain levels q at) (c.in_err-refuted.ensures.stopped levels q at) c.in_err-refuted.ensures.spent
+    c.in_err-refuted.ensures.under))
 
 pub returns-in_err-refuted-clause-more : goal.returns-in_err-refuted-clause-more
 returns-in_err-refuted-clause-more c = one_more (c.solve.ensures.plain c.args.levels.now c.requires.from.0 (c.in_ok-prepared.ensures.may c.requires.from.0 c.requires.from.1).0)

@@ -1,4 +1,4 @@
-use Rattle.std.proofs.Common.{rules, ◌≡◌, ◌+◌, ◌++◌, ◌∷◌, [], ℕ, List, Bool, ap, length, subst, subst₂, sym, ◌∙◌}
+use Rattle.std.proofs.Common.{rules, ◌≡◌, ◌+◌, ◌++◌, ◌∷◌, [], ℕ, ap, length, subst, sym, ◌∙◌}
 use Rattle.std.proofs.lemmas.List.{length-append}
 use Rattle.nz_reals.specs.Exclusions.{AreJoined, AreMarked, AreOpen}
 use Rattle.nz_reals.proofs.Joints.{joined_pushed, open_pushed}
@@ -6,7 +6,7 @@ use Rattle.nz_reals.proofs.neighbours.joined.Goals as goal
 
 pub is_joined-requires-clause-noted : goal.is_joined-requires-clause-noted
 is_joined-requires-clause-noted c =
-    subst₂ (λ (ps : List ℕ) (ms : List Bool). AreMarked c.args.log.now c.args.held.now c.args.lowers.now ps ms) (c.deref.ensures.value ∙ sym c.deref-in-loop-place.ensures.value) (sym c.deref-in-loop-place-2.ensures.value) c.in_ok-marks.ensures.noted
+    subst (AreMarked c.args.log.now c.args.held.now c.args.lowers.now c.args.slots.now c.args.places.now) (sym c.deref.ensures.value) c.in_ok-marks.ensures.noted
 
 pub loop-place-preserved : goal.loop-place-preserved
 loop-place-preserved c =

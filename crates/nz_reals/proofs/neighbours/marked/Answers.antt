@@ -11,6 +11,7 @@ loop-id-preserved c =
     let held = c.args.held.now in
     let xs = c.args.lowers.now in
     let log = c.args.log.now in
+    let slots = c.args.slots.now in
     let places = c.args.places.now in
     let i = c.loop-id.id-index in
     let old = c.loop-id.marks.items in
@@ -21,10 +22,10 @@ loop-id-preserved c =
       long = marks.long ∙ c.loop-id.invariant.long;
       joined = joined_too log held xs i below old new (c.requires.live i 0 below) c.loop-id.invariant.joined marks;
       noted =
-          marked_too log held xs i below places old new marks
+          marked_too log held xs i below slots places old new marks
           (λ k first noted joins. c.mark.ensures.noted k first noted (subst (λ (l : List Lit). Joins xs k l) (sym c.clause.ensures.literals) joins)) c.loop-id.invariant.noted;
     }
 
 pub returns-clause-noted : goal.returns-clause-noted
 returns-clause-noted c =
-    subst (λ (ids : List ℕ). AreMarked c.args.log.now ids c.args.lowers.now c.args.places.now c.loop-id.marks.items) (take_all c.loop-id.id-index c.args.held.now (omega arith)) c.loop-id.invariant.noted
+    subst (λ (ids : List ℕ). AreMarked c.args.log.now ids c.args.lowers.now c.args.slots.now c.args.places.now c.loop-id.marks.items) (take_all c.loop-id.id-index c.args.held.now (omega arith)) c.loop-id.invariant.noted

@@ -7,5 +7,5 @@ abbrev pub invariant-loop-id : goal.invariant-loop-id
 invariant-loop-id l = record {
   long : length l.marks.items ≡ length l.lowers;
   joined : AreJoined l.log l.held l.lowers l.marks.items;
-  noted : AreMarked l.log (take l.id-index l.held) l.lowers l.places l.marks.items;
+  noted : AreMarked l.log (take l.id-index l.held) l.lowers l.slots l.places l.marks.items;
 }

@@ -10,7 +10,7 @@ use Rattle.nz_cform.specs.Covering.{Covers}
 use Rattle.nz_cform.specs.Forms.{covered_at}
 use Rattle.nz_cform.specs.Listings.{IsListing, listed_at}
 use Rattle.nz_engine.specs.Checking.{MayBeNamed}
-use Rattle.nz_engine.specs.Preparing.{Names, PreparedState, atoms_of, boolean_terms}
+use Rattle.nz_engine.specs.Preparing.{IsSearched, Names, PreparedState, atoms_of, boolean_terms}
 use Rattle.nz_engine.proofs.ExclusionClauses.{prepared_in}
 use Rattle.nz_engine.proofs.LevelPreservation.{some_of}
 use Rattle.nz_engine.proofs.SearchAtoms.{named_numbers, places_stay, terms_stay}
@@ -72,6 +72,17 @@ booleans_of-requires c =
           c.requires.covers.within t n.0 (ap (λ (p : PreparedState). covered_at p.form t) (sym c.self.view_is) ∙ n.1))
           atoms (All-contains_itself atoms);
     }
+
+pub name_atoms-requires-clause-old_within : goal.name_atoms-requires-clause-old_within
+name_atoms-requires-clause-old_within c =
+    let ns = c.args.terms.now in
+    let new = c.lits_of.new.self.atoms in
+    let old = prepared_in c.self.inside in
+    let may = subst (MayBeNamed ns old) (sym c.truncate.ensures.items) (subst (λ (s : PreparedState). MayBeNamed ns s (take c.args.first s.noted)) (sym c.self.view_is) c.requires.named) in
+    All-weaker (IsSearched ns old.log old.form) (λ i. i < c.atom_count-count.result)
+    (λ i s.
+    let at = c.lits_of.ensures.joins.atoms i s.atom (c.term_atoms.ensures.joins.atoms i s.atom s.at) in
+    subst (λ n. i < n) (sym c.atom_count-count.ensures.count) (slice_get_within new i s.atom at)) c.truncate.new.self.items may.searched
 
 pub name_atoms-requires-clause-within : goal.name_atoms-requires-clause-within
 name_atoms-requires-clause-within c =

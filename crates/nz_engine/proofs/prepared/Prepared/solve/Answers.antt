@@ -1,12 +1,15 @@
 -- All is done that comes before a search, and then it runs.
-use Rattle.std.proofs.Common.{rules, ◌≡◌, List, Err, IfErr, ap, subst, ◌∙◌}
+use Rattle.std.proofs.Common.{rules, ◌≡◌, List, map, Err, IfErr, ap, subst, ◌∙◌}
 use Rattle.nz_spec.specs.search.Search.{Task}
 use Rattle.nz_search.specs.declared.stop.Stop.{Stop}
+use Rattle.nz_search.specs.Standing.{search_after}
+use Rattle.nz_search.specs.Verdicts.{OnSpent}
+use Rattle.nz_term.specs.TermLits.{literal_of}
 use Rattle.nz_search.specs.Levels.{Level}
 use Rattle.nz_engine.specs.Checking.{EndsWith, MaySearch}
 use Rattle.nz_engine.specs.Preparing.{PreparedState}
-use Rattle.nz_engine.proofs.CheckEnds.{works_solved}
-use Rattle.nz_engine.proofs.SearchRuns.{begun_as, search_begun, search_consistent, search_excluded, search_found, search_named, search_parts, search_plain, search_posed, search_refuted, search_since, search_stopped, search_told, search_told_terms, search_under_way}
+use Rattle.nz_engine.proofs.CheckEnds.{none_spent, works_solved}
+use Rattle.nz_engine.proofs.SearchRuns.{begun_as, search_begun, search_consistent, search_excluded, search_found, search_named, search_parts, search_plain, search_posed, search_refuted, search_since, search_stopped, search_told, search_told_terms, search_under, search_under_way}
 use Rattle.nz_engine.proofs.prepared.Prepared.solve.Goals as goal
 
 pub returns-in_err-literals-clause-stopped : goal.returns-in_err-literals-clause-stopped
@@ -16,6 +19,14 @@ returns-in_err-literals-clause-stopped c =
     let assumed = c.args.assumed.now in
     subst (λ r. IfErr r (λ (e : Stop). (levels : List Level) (q : Task) → MaySearch ns levels assumed q c.args.work.now c.args.self.now → EndsWith ns q c.begin.new.work e)) same
     c.in_err-literals.ensures.stopped
+
+pub returns-in_err-literals-clause-under : goal.returns-in_err-literals-clause-under
+returns-in_err-literals-clause-under c =
+    let e = c.in_err-literals.field-0.0 in
+    let same : Err e ≡ c.from_residual.result = search rules in
+    let ns = c.args.terms.now in
+    let Is : Type 0 = (search_after ns c.begin.new.work).under ≡ map (literal_of ns) c.args.assumed.now in
+    subst (λ r. IfErr r (λ (s : Stop). OnSpent s Is)) same (none_spent e Is c.in_err-literals.ensures.unspent)
 
 pub solve-requires-clause-since : goal.solve-requires-clause-since
 solve-requires-clause-since c = search_since (begun_as c.self.view_is (c.deref.ensures.value ∙ ap (λ (s : PreparedState). s.noted) c.self.view_is) c.deref-2.ensures.value c.in_ok-literals.ensures.begun.1)
@@ -69,6 +80,11 @@ pub returns-clause-plain : goal.returns-clause-plain
 returns-clause-plain c =
     let b = begun_as c.self.view_is (c.deref.ensures.value ∙ ap (λ (s : PreparedState). s.noted) c.self.view_is) c.deref-2.ensures.value c.in_ok-literals.ensures.begun.1 in
     search_plain b c.solve.new.log c.solve.new.self c.solve.new.work c.solve.result c.solve.ensures.grows c.solve.ensures.stays
+
+pub returns-clause-under : goal.returns-clause-under
+returns-clause-under c =
+    let b = begun_as c.self.view_is (c.deref.ensures.value ∙ ap (λ (s : PreparedState). s.noted) c.self.view_is) c.deref-2.ensures.value c.in_ok-literals.ensures.begun.1 in
+    search_under b c.solve.new.log c.solve.new.self c.solve.new.work c.solve.result c.solve.ensures.grows c.solve.ensures.stays
 
 pub returns-clause-parts : goal.returns-clause-parts
 returns-clause-parts c =

@@ -10,14 +10,14 @@ use Rattle.nz_tab.specs.Units.{unit_of}
 use Rattle.nz_reals.specs.Arranging.{MayHaveJoined}
 use Rattle.nz_reals.specs.Joins.{MayAddSum}
 use Rattle.nz_reals.specs.Stands.{IsOver}
-use Rattle.nz_reals.specs.State.{Theory, known_list}
+use Rattle.nz_reals.specs.State.{Theory}
 use Rattle.nz_reals.proofs.Arranged.{joined_alone, stored_alone, unit_is}
 use Rattle.nz_reals.proofs.reals.Reals.add_unit.Goals as goal
 
 pub invariant_of-self : goal.invariant_of-self
 invariant_of-self c =
-    let old : Theory = record { simplex = c.self.inside.simplex; known = known_list c.self.inside.bounded.items; told = c.self.inside.told.items } in
-    let new : Theory = record { simplex = c.add_form.new.self; known = known_list c.self.inside.bounded.items; told = c.self.inside.told.items } in
+    let old : Theory = record { simplex = c.self.inside.simplex; known = c.self.inside.bounded; told = c.self.inside.told.items } in
+    let new : Theory = record { simplex = c.add_form.new.self; known = c.self.inside.bounded; told = c.self.inside.told.items } in
     let p = c.args.part in
     let may : MayAddSum old (unit_of p) = subst (λ (t : Theory). MayAddSum t (unit_of p)) (sym c.self.view_is) c.requires.may in
     let is = unit_is c.one_number.ensures.one may.table may.over.table p c.in_ok-form.form c.whole.result c.whole.ensures may.units c.in_ok-form.ensures.form c.in_ok-form.ensures.units in
@@ -26,8 +26,8 @@ invariant_of-self c =
 
 pub returns-in-Ok : goal.returns-in-Ok
 returns-in-Ok c =
-    let old : Theory = record { simplex = c.self.inside.simplex; known = known_list c.self.inside.bounded.items; told = c.self.inside.told.items } in
-    let new : Theory = record { simplex = c.add_form.new.self; known = known_list c.self.inside.bounded.items; told = c.self.inside.told.items } in
+    let old : Theory = record { simplex = c.self.inside.simplex; known = c.self.inside.bounded; told = c.self.inside.told.items } in
+    let new : Theory = record { simplex = c.add_form.new.self; known = c.self.inside.bounded; told = c.self.inside.told.items } in
     let p = c.args.part in
     let may : MayAddSum old (unit_of p) = subst (λ (t : Theory). MayAddSum t (unit_of p)) (sym c.self.view_is) c.requires.may in
     let is = unit_is c.one_number.ensures.one may.table may.over.table p c.in_ok-form.form c.whole.result c.whole.ensures may.units c.in_ok-form.ensures.form c.in_ok-form.ensures.units in

@@ -4,7 +4,7 @@ use Rattle.std.proofs.lemmas.Option.{get_or_from_slice_get, slice_get_within}
 use Rattle.nz_log.specs.Keys.{are_same_atom}
 use Rattle.nz_reals.specs.declared.reals.MarkedLiteral.{MarkedLiteral}
 use Rattle.nz_reals.specs.Known.{known_of, said_of}
-use Rattle.nz_reals.specs.State.{Theory, known_at, known_list}
+use Rattle.nz_reals.specs.State.{Theory, known_at}
 use Rattle.nz_reals.specs.Stored.{IsStored}
 use Rattle.nz_reals.specs.Tells.{Clashes, told_now}
 use Rattle.nz_reals.proofs.Tolds.{clash_place, clashes_here, stored_more, told_here}
@@ -12,7 +12,7 @@ use Rattle.nz_reals.proofs.reals.Reals.assert_said.Goals as goal
 
 pub index-requires : goal.index-requires
 index-requires c =
-    let x = clash_place (record { simplex = c.self.inside.simplex; known = known_list c.self.inside.bounded.items; told = c.self.inside.told.items }) _ c.in-Clash.other c.self.invariant.tolds
+    let x = clash_place (record { simplex = c.self.inside.simplex; known = c.self.inside.bounded; told = c.self.inside.told.items }) _ c.in-Clash.other c.self.invariant.tolds
     ((c.in_ok-other.ensures.clash c.in-Clash.field-0 c.in-Clash.other).0 c.in-Clash.is).1 in
     let less = slice_get_within c.self.inside.told.items c.in-Clash.other x.0 x.1 in
     omega (arith, less, c.reserve.ensures.len, c.self.inside.told.ok.0)
@@ -21,12 +21,12 @@ pub invariant_of-self-in-Clash : goal.invariant_of-self-in-Clash
 invariant_of-self-in-Clash c =
     let same : c.assert_bound.new.self ≡ c.self.inside.simplex = search rules in
     let told : c.reserve.new.self.items ≡ c.self.inside.told.items = c.in_ok-reserve.ensures.items in
-    subst (IsStored (get are_same_atom c.self.inside.forms)) (λ i. record { simplex = sym same i; known = known_list c.self.inside.bounded.items; told = sym told i }) c.self.invariant
+    subst (IsStored (get are_same_atom c.self.inside.forms)) (λ i. record { simplex = sym same i; known = c.self.inside.bounded; told = sym told i }) c.self.invariant
 
 pub invariant_of-self-in-Kept : goal.invariant_of-self-in-Kept
 invariant_of-self-in-Kept c =
-    let old : Theory = record { simplex = c.self.inside.simplex; known = known_list c.self.inside.bounded.items; told = c.self.inside.told.items } in
-    let new : Theory = record { simplex = c.assert_bound.new.self; known = known_list c.self.inside.bounded.items; told = c.push.new.self.items } in
+    let old : Theory = record { simplex = c.self.inside.simplex; known = c.self.inside.bounded; told = c.self.inside.told.items } in
+    let new : Theory = record { simplex = c.assert_bound.new.self; known = c.self.inside.bounded; told = c.push.new.self.items } in
     let told : new.told ≡ old.told ++ told_now old c.args.literal ∷ [] = search rules in
     let same : new.simplex ≡ old.simplex = search rules in
     let knows : known_at old c.args.literal.atom ≡ Some (known_of c.args.bounded.now) = search rules in
@@ -37,8 +37,8 @@ invariant_of-self-in-Kept c =
 
 pub invariant_of-self-in-Tighter : goal.invariant_of-self-in-Tighter
 invariant_of-self-in-Tighter c =
-    let old : Theory = record { simplex = c.self.inside.simplex; known = known_list c.self.inside.bounded.items; told = c.self.inside.told.items } in
-    let new : Theory = record { simplex = c.assert_bound.new.self; known = known_list c.self.inside.bounded.items; told = c.push-in-Tighter.new.self.items } in
+    let old : Theory = record { simplex = c.self.inside.simplex; known = c.self.inside.bounded; told = c.self.inside.told.items } in
+    let new : Theory = record { simplex = c.assert_bound.new.self; known = c.self.inside.bounded; told = c.push-in-Tighter.new.self.items } in
     let told : new.told ≡ old.told ++ told_now old c.args.literal ∷ [] = search rules in
     let knows : known_at old c.args.literal.atom ≡ Some (known_of c.args.bounded.now) = search rules in
     let place : c.len-reason.result ≡ length old.told = search rules in
@@ -48,7 +48,7 @@ invariant_of-self-in-Tighter c =
 
 pub returns-in-Clash-clause-clash : goal.returns-in-Clash-clause-clash
 returns-in-Clash-clause-clash c =
-    let old : Theory = record { simplex = c.self.inside.simplex; known = known_list c.self.inside.bounded.items; told = c.self.inside.told.items } in
+    let old : Theory = record { simplex = c.self.inside.simplex; known = c.self.inside.bounded; told = c.self.inside.told.items } in
     let place : c.len-reason.result ≡ length old.told = search rules in
     let clash = ((c.in_ok-other.ensures.clash c.in-Clash.field-0 c.in-Clash.other).0 c.in-Clash.is).1 in
     let e = c.index.ensures in

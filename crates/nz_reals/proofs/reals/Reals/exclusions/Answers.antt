@@ -48,7 +48,7 @@ loop-i-preserved c =
           let mark : c.index.result.now ≡ get_or marks i c.index.result.now = search rules in
           let long : i < length marks = search rules in
           let at : slice_get marks i ≡ Some false = slice_get-get_or marks i c.index.result.now long ∙ ap Some (sym mark ∙ unmarked) in
-          let others : AreOpen start held xs marks = subst (λ (ys : List Lower). AreOpen start held ys marks) c.deref.ensures.value c.in_ok-joined.ensures.others in
+          let others : AreOpen start held xs marks = subst (λ (ys : List Lower). AreOpen start held ys marks) c.deref-2.ensures.value c.in_ok-joined.ensures.others in
           let none : HasNone start held stronger.literal w.not.result =
           subst (HasNone start held stronger.literal) (sym w.not.ensures.negation)
           (none_joined t start.atoms c.requires.of.0 atoms c.requires.of.1 start held xs i c.in_ok-lowers.ensures.lowers first (others i at) stronger weaker
@@ -65,7 +65,7 @@ loop-i-preserved c =
           let read : c.index.result.now ≡ get_or marks i c.index.result.now = search rules in
           let long : i < length marks = search rules in
           let at : slice_get marks i ≡ Some true = slice_get-get_or marks i c.index.result.now long ∙ ap Some (sym read ∙ here) in
-          let joined : AreJoined start held xs marks = subst (λ (ys : List Lower). AreJoined start held ys marks) c.deref.ensures.value c.in_ok-joined.ensures.joined in
+          let joined : AreJoined start held xs marks = subst (λ (ys : List Lower). AreJoined start held ys marks) c.deref-2.ensures.value c.in_ok-joined.ensures.joined in
           subst₂ (λ l v. IsExcluding t start l atoms held v.items xs (i + 1)) (sym w.log-is) (sym w.clauses-is)
           (excluding_held t start log atoms held cs xs i first c.loop-i.invariant start marks c.loop-i.invariant.adds.keeps joined at)
     ]

@@ -8,7 +8,7 @@ use Rattle.nz_log.specs.Keys.{are_same_atom}
 use Rattle.nz_simplex.specs.Moves.{IsJoined}
 use Rattle.nz_reals.specs.Arranging.{HasMoved, IsAtZero}
 use Rattle.nz_reals.specs.Joins.{AddsForm, IsFree, MayAddSum}
-use Rattle.nz_reals.specs.State.{Theory, known_list}
+use Rattle.nz_reals.specs.State.{Theory}
 use Rattle.nz_reals.specs.Sums.{zero_bound}
 use Rattle.nz_reals.proofs.Arranged.{moves_then}
 use Rattle.nz_reals.proofs.JoinedForms.{adds_form, key_apart, key_decided, finds_then, form_then, forms_then, tolds_then}
@@ -16,8 +16,8 @@ use Rattle.nz_reals.proofs.reals.Reals.join.Goals as goal
 
 pub invariant_of-self-2 : goal.invariant_of-self-2
 invariant_of-self-2 c =
-    let old : Theory = record { simplex = c.self.inside.simplex; known = known_list c.self.inside.bounded.items; told = c.self.inside.told.items } in
-    let new : Theory = record { simplex = c.add_form.new.self; known = known_list c.self.inside.bounded.items; told = c.self.inside.told.items } in
+    let old : Theory = record { simplex = c.self.inside.simplex; known = c.self.inside.bounded; told = c.self.inside.told.items } in
+    let new : Theory = record { simplex = c.add_form.new.self; known = c.self.inside.bounded; told = c.self.inside.told.items } in
     let f = c.args.sum.sides.parts in
     let joined : IsJoined old.simplex new.simplex f c.in-Ok.var = subst (λ (x : Numbered). IsJoined old.simplex new.simplex x.parts c.in-Ok.var) c.form.ensures.form c.in-Ok.ensures.joined in
     let may : MayAddSum old f = subst (λ (t : Theory). MayAddSum t f) (sym c.self.view_is) c.requires.may in
@@ -37,8 +37,8 @@ invariant_of-self-2 c =
 
 pub returns-clause-form : goal.returns-clause-form
 returns-clause-form c =
-    let old : Theory = record { simplex = c.self.inside.simplex; known = known_list c.self.inside.bounded.items; told = c.self.inside.told.items } in
-    let new : Theory = record { simplex = c.add_form.new.self; known = known_list c.self.inside.bounded.items; told = c.self.inside.told.items } in
+    let old : Theory = record { simplex = c.self.inside.simplex; known = c.self.inside.bounded; told = c.self.inside.told.items } in
+    let new : Theory = record { simplex = c.add_form.new.self; known = c.self.inside.bounded; told = c.self.inside.told.items } in
     let f = c.args.sum.sides.parts in
     let joined : IsJoined old.simplex new.simplex f c.in-Ok.var = subst (λ (x : Numbered). IsJoined old.simplex new.simplex x.parts c.in-Ok.var) c.form.ensures.form c.in-Ok.ensures.joined in
     let may : MayAddSum old f = subst (λ (t : Theory). MayAddSum t f) (sym c.self.view_is) c.requires.may in
@@ -46,8 +46,8 @@ returns-clause-form c =
 
 pub returns-clause-adds : goal.returns-clause-adds
 returns-clause-adds c =
-    let old : Theory = record { simplex = c.self.inside.simplex; known = known_list c.self.inside.bounded.items; told = c.self.inside.told.items } in
-    let new : Theory = record { simplex = c.add_form.new.self; known = known_list c.self.inside.bounded.items; told = c.self.inside.told.items } in
+    let old : Theory = record { simplex = c.self.inside.simplex; known = c.self.inside.bounded; told = c.self.inside.told.items } in
+    let new : Theory = record { simplex = c.add_form.new.self; known = c.self.inside.bounded; told = c.self.inside.told.items } in
     let f = c.args.sum.sides.parts in
     let joined : IsJoined old.simplex new.simplex f c.in-Ok.var = subst (λ (x : Numbered). IsJoined old.simplex new.simplex x.parts c.in-Ok.var) c.form.ensures.form c.in-Ok.ensures.joined in
     let may : MayAddSum old f = subst (λ (t : Theory). MayAddSum t f) (sym c.self.view_is) c.requires.may in
@@ -55,8 +55,8 @@ returns-clause-adds c =
 
 pub returns-clause-moves : goal.returns-clause-moves
 returns-clause-moves c =
-    let old : Theory = record { simplex = c.self.inside.simplex; known = known_list c.self.inside.bounded.items; told = c.self.inside.told.items } in
-    let new : Theory = record { simplex = c.add_form.new.self; known = known_list c.self.inside.bounded.items; told = c.self.inside.told.items } in
+    let old : Theory = record { simplex = c.self.inside.simplex; known = c.self.inside.bounded; told = c.self.inside.told.items } in
+    let new : Theory = record { simplex = c.add_form.new.self; known = c.self.inside.bounded; told = c.self.inside.told.items } in
     let f = c.args.sum.sides.parts in
     let joined : IsJoined old.simplex new.simplex f c.in-Ok.var = subst (λ (x : Numbered). IsJoined old.simplex new.simplex x.parts c.in-Ok.var) c.form.ensures.form c.in-Ok.ensures.joined in
     subst (λ (t : Theory). HasMoved t new IsAtZero) c.self.view_is (moves_then old new f c.in-Ok.var joined)

@@ -3,7 +3,7 @@ use Rattle.std.specs.Prelude.{IfErr}
 use Rattle.nz_spec.specs.simplex.PositionMoves.{AreConsistent}
 use Rattle.nz_simplex.specs.State.{position_over}
 use Rattle.nz_reals.specs.Stands.{IsOver}
-use Rattle.nz_reals.specs.State.{Theory, known_list}
+use Rattle.nz_reals.specs.State.{Theory}
 use Rattle.nz_reals.specs.Tells.{IsMoved}
 use Rattle.nz_reals.proofs.WidePlaces.{Wants, noted_joined, place_in, spent_answer, stop_answer}
 use Rattle.nz_reals.proofs.reals.Reals.seek.Goals as goal
@@ -14,8 +14,8 @@ use Rattle.nz_search.specs.Places.{OnWide}
 pub returns-clause-moved : goal.returns-clause-moved
 returns-clause-moved c =
     let s = c.check.ensures.steps in
-    let old : Theory = record { simplex = c.self.inside.simplex; known = known_list c.self.inside.bounded.items; told = c.self.inside.told.items } in
-    let new : Theory = record { simplex = c.check.new.self; known = known_list c.self.inside.bounded.items; told = c.self.inside.told.items } in
+    let old : Theory = record { simplex = c.self.inside.simplex; known = c.self.inside.bounded; told = c.self.inside.told.items } in
+    let new : Theory = record { simplex = c.check.new.self; known = c.self.inside.bounded; told = c.self.inside.told.items } in
     let moved : IsMoved old new c.args.work.now c.check.new.work = record {
       known = λ i. old.known;
       told = λ i. old.told;

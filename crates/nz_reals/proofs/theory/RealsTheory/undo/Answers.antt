@@ -6,17 +6,17 @@ use Rattle.std.proofs.lemmas.Option.{slice_get-get_or}
 use Rattle.nz_reals.specs.declared.reals.MarkedLiteral.{MarkedLiteral}
 use Rattle.nz_simplex.specs.State.{State}
 use Rattle.nz_reals.specs.Stands.{IsAt, IsOf}
-use Rattle.nz_reals.specs.State.{Theory, known_list, told_lits}
+use Rattle.nz_reals.specs.State.{Theory, told_lits}
 use Rattle.nz_reals.proofs.KnownAtoms.{of_kept, told_then}
 use Rattle.nz_reals.proofs.TheoryPositions.{undone_at}
 use Rattle.nz_reals.proofs.Tolds.{IsUndone, stored_undone}
 use Rattle.nz_reals.proofs.theory.RealsTheory.undo.Goals as goal
 
 abbrev before : goal.After-truncate → Theory
-before c = record { simplex = c.self.inside.simplex; known = known_list c.self.inside.bounded.items; told = c.self.inside.told.items }
+before c = record { simplex = c.self.inside.simplex; known = c.self.inside.bounded; told = c.self.inside.told.items }
 
 abbrev after : goal.After-truncate → Theory
-after c = record { simplex = c.undo.new.self; known = known_list c.self.inside.bounded.items; told = c.truncate.new.self.items }
+after c = record { simplex = c.undo.new.self; known = c.self.inside.bounded; told = c.truncate.new.self.items }
 
 undone : (c : goal.After-truncate) → IsUndone (before c) (after c) c.args.mark c.in-Some.first.now
 undone c =

@@ -7,7 +7,7 @@ use Rattle.nz_search.specs.declared.stop.Stop.TheVariants as stop
 use Rattle.nz_log.specs.Logs.{LogState, literals_at}
 use Rattle.nz_search.specs.Standing.{Ends, Stands}
 use Rattle.nz_sat.specs.declared.clauses.Held.{Held}
-use Rattle.nz_sat.specs.Sats.{AreHeld, AreOn, AreSameSince, HasBegun, HoldsLearned, SatState}
+use Rattle.nz_sat.specs.Sats.{AreHeld, AreOn, AreSameSince, HasBegun, HoldsLearned, IsAsked, SatState}
 use Rattle.nz_sat.specs.Searching.{Satisfies}
 use Rattle.nz_sat.specs.Theories.{state_of}
 use Rattle.nz_sat.specs.Stored.{log_of}
@@ -88,9 +88,10 @@ returns-in_err-refuted-clause-stays g c ns = adds_same ns c.args.work.now c.run-
 pub returns-in_err-refuted-clause-ends : goal.returns-in_err-refuted-clause-ends
 returns-in_err-refuted-clause-ends g c ns levels q known asked stands =
     let same : Err c.in_err-refuted.field-0.0 ≡ c.from_residual-in_err-refuted.result = search rules in
-    run_ends c.args.assumed.now (advances_same same c.in_err-refuted.ensures.steps.advances) c.args.atoms.now c.in_ok-search.ensures.atoms
+    run_ends c.args.assumed.now (advances_same same c.in_err-refuted.ensures.steps.advances) c.args.atoms.now c.in_ok-search.ensures.atoms c.requires.consistent
     (first_noted c.args.log.now c.self.inside.clauses.items c.in_ok-search.search c.args.work.now c.args.atoms.now c.in_ok-search.ensures.atoms c.requires.noted
-    (subst (λ (s : SatState g.row.T.Denot). HasBegun c.args.log.now c.args.atoms.now s.clauses c.args.work.now) (sym c.self.view_is) c.requires.begun) c.in_ok-search.ensures.none).trail ns levels q (subst (λ (s : SatState g.row.T.Denot). g.T.Theory.is_over s.theory ns) (sym c.self.view_is) known) asked
+    (subst (λ (s : SatState g.row.T.Denot). HasBegun c.args.log.now c.args.atoms.now s.clauses c.args.work.now) (sym c.self.view_is) c.requires.begun) c.in_ok-search.ensures.none).trail ns levels q (subst (λ (s : SatState g.row.T.Denot). g.T.Theory.is_over s.theory ns) (sym c.self.view_is) known)
+    (subst (λ (s : SatState g.row.T.Denot). IsAsked ns levels c.args.log.now s.clauses c.args.atoms.now c.args.assumed.now c.args.work.now q) (sym c.self.view_is) asked)
     (subst (λ (s : SatState g.row.T.Denot). Stands (g.T.Theory.is_at s.theory ns) ns q c.args.work.now) (sym c.self.view_is) stands)
 
 pub invariant_of-self-in_err-self-inside : goal.invariant_of-self-in_err-self-inside
@@ -123,9 +124,10 @@ pub returns-in_err-self-inside-clause-ends : goal.returns-in_err-self-inside-cla
 returns-in_err-self-inside-clause-ends g c ns levels q known asked stands =
     let same : Err stop.Memory ≡ c.from_residual-in_err-self-inside.result = search rules in
     let IsAt = g.T.Theory.is_at c.run-refuted.new.theory ns in
-    let led = run_ends c.args.assumed.now c.in_ok-refuted.ensures.steps.advances c.args.atoms.now c.in_ok-search.ensures.atoms
+    let led = run_ends c.args.assumed.now c.in_ok-refuted.ensures.steps.advances c.args.atoms.now c.in_ok-search.ensures.atoms c.requires.consistent
     (first_noted c.args.log.now c.self.inside.clauses.items c.in_ok-search.search c.args.work.now c.args.atoms.now c.in_ok-search.ensures.atoms c.requires.noted
-    (subst (λ (s : SatState g.row.T.Denot). HasBegun c.args.log.now c.args.atoms.now s.clauses c.args.work.now) (sym c.self.view_is) c.requires.begun) c.in_ok-search.ensures.none).trail ns levels q (subst (λ (s : SatState g.row.T.Denot). g.T.Theory.is_over s.theory ns) (sym c.self.view_is) known) asked
+    (subst (λ (s : SatState g.row.T.Denot). HasBegun c.args.log.now c.args.atoms.now s.clauses c.args.work.now) (sym c.self.view_is) c.requires.begun) c.in_ok-search.ensures.none).trail ns levels q (subst (λ (s : SatState g.row.T.Denot). g.T.Theory.is_over s.theory ns) (sym c.self.view_is) known)
+    (subst (λ (s : SatState g.row.T.Denot). IsAsked ns levels c.args.log.now s.clauses c.args.atoms.now c.args.assumed.now c.args.work.now q) (sym c.self.view_is) asked)
     (subst (λ (s : SatState g.row.T.Denot). Stands (g.T.Theory.is_at s.theory ns) ns q c.args.work.now) (sym c.self.view_is) stands) in
     subst (Ends {A = Option ℕ} IsAt ns q c.run-refuted.new.work) same (ends_later (Option ℕ) IsAt ns q c.run-refuted.new.work c.in_ok-refuted.refuted led)
 
@@ -152,9 +154,10 @@ returns-clause-stays g c ns = adds_same ns c.args.work.now c.run-refuted.new.wor
 
 pub returns-clause-ends : goal.returns-clause-ends
 returns-clause-ends g c ns levels q known asked stands =
-    run_ends c.args.assumed.now c.in_ok-refuted.ensures.steps.advances c.args.atoms.now c.in_ok-search.ensures.atoms
+    run_ends c.args.assumed.now c.in_ok-refuted.ensures.steps.advances c.args.atoms.now c.in_ok-search.ensures.atoms c.requires.consistent
     (first_noted c.args.log.now c.self.inside.clauses.items c.in_ok-search.search c.args.work.now c.args.atoms.now c.in_ok-search.ensures.atoms c.requires.noted
-    (subst (λ (s : SatState g.row.T.Denot). HasBegun c.args.log.now c.args.atoms.now s.clauses c.args.work.now) (sym c.self.view_is) c.requires.begun) c.in_ok-search.ensures.none).trail ns levels q (subst (λ (s : SatState g.row.T.Denot). g.T.Theory.is_over s.theory ns) (sym c.self.view_is) known) asked
+    (subst (λ (s : SatState g.row.T.Denot). HasBegun c.args.log.now c.args.atoms.now s.clauses c.args.work.now) (sym c.self.view_is) c.requires.begun) c.in_ok-search.ensures.none).trail ns levels q (subst (λ (s : SatState g.row.T.Denot). g.T.Theory.is_over s.theory ns) (sym c.self.view_is) known)
+    (subst (λ (s : SatState g.row.T.Denot). IsAsked ns levels c.args.log.now s.clauses c.args.atoms.now c.args.assumed.now c.args.work.now q) (sym c.self.view_is) asked)
     (subst (λ (s : SatState g.row.T.Denot). Stands (g.T.Theory.is_at s.theory ns) ns q c.args.work.now) (sym c.self.view_is) stands)
 
 pub returns-clause-satisfied : goal.returns-clause-satisfied

@@ -54,7 +54,7 @@ returns-in_err-refute-clause-steps g c =
     record {
       advances = advances_same same
           (first_refuted c.args.self.now c.requires.none c.args.log.now c.args.held.now.items c.requires.search m c.args.work.now c.assume_all.ensures.rest a c.refute.ensures.grows c.refute.ensures.sound (Err stop.Memory)
-          (ends_memory (Option ℕ) m m c.args.log.now s.atoms (told_lits s.bounds s.trail.entries) (assumed_entries c.args.assumed.now) c.args.work.now));
+          (ends_memory (Option ℕ) m m c.args.log.now c.args.held.now.items s.atoms (told_lits s.bounds s.trail.entries) (assumed_entries c.args.assumed.now) c.args.work.now));
       met = search rules;
       spent = search rules;
     }
@@ -100,7 +100,8 @@ settle-requires-clause-told g c =
 
 pub returns-clause-steps : goal.returns-clause-steps
 returns-clause-steps g c =
-    let a = c.in_ok-falsified.ensures.comes c.args.held.now.items c.requires.search in
+    let none : c.in_ok-falsified.field-0 ≡ None = search rules in
+    let a = subst (AssumesAll c.args.log.now c.args.held.now.items c.args.assumed.now c.assume_all.new.self) none (c.in_ok-falsified.ensures.comes c.args.held.now.items c.requires.search) in
     steps_behind (first_advances c.args.self.now c.requires.none c.args.log.now c.args.held.now.items c.requires.search c.assume_all.ensures.rest a c.settle.ensures.steps.advances) c.settle.ensures.steps
 
 pub returns-clause-runs : goal.returns-clause-runs

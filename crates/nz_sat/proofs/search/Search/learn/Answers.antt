@@ -33,7 +33,7 @@ returns-in_err-learned_clause-clause-advances g c =
     advances_same same
     (log_reaches m s s.trail.entries c.args.log.now c.learned_clause.new.log c.args.held.now.items c.args.work.now c.requires.search.are_held c.learned_clause.ensures.grows
     (order_over (g.T.Theory.is_over c.args.theory.now) s.atoms s.trail.entries c.requires.search.on.on_trail c.args.log.now c.learned_clause.new.log (λ ns levels known. c.learned_clause.ensures.sound ns levels))
-    (Err stop.Memory) (ends_memory ⊤ m m c.args.log.now s.atoms (told_lits s.bounds s.trail.entries) s.trail.entries c.args.work.now))
+    (Err stop.Memory) (ends_memory ⊤ m m c.args.log.now c.args.held.now.items s.atoms (told_lits s.bounds s.trail.entries) s.trail.entries c.args.work.now))
 
 pub note_learned-requires-clause-named : goal.note_learned-requires-clause-named
 note_learned-requires-clause-named g c =
@@ -96,7 +96,7 @@ returns-in_err-hold-clause-advances g c =
     advances_same same
     (line_advances c.args.log.now log c.args.held.now.items s c.args.work.now c.args.falsified l before m m' c.go_back.ensures.keeps
     c.hold.new.held.items (subst (λ (hs : List Held). HoldsMore log hs c.hold.new.held.items) old c.hold.ensures.more)
-    (c.hold.ensures.held ∙ ap (λ (hs : List Held). hs ++ learned_of log l.clause ∷ []) old)
+    (c.hold.ensures.held ∙ ap (λ (hs : List Held). hs ++ learned_of log l.clause l.glue ∷ []) old)
     (subst (λ (hs : List Held). AreOn log s.atoms hs → AreOn log s.atoms c.hold.new.held.items) old
     (c.hold.ensures.named s.atoms (lits_named c.args.log.now log c.args.held.now.items s c.args.work.now c.args.falsified l before)))
     c.note_learned.new.work c.in_ok-note_learned.ensures.noted (Err stop.Memory)
@@ -119,9 +119,9 @@ returns-clause-advances g c =
     let lengths : length new.seen.items ≡ length s.seen.items = ap (λ (x : Search). length x.seen.items) back ∙ search rules in
     let unmarked : AreUnmarked new.seen.items = subst (λ (x : Search). AreUnmarked x.seen.items) (sym back) (subst AreUnmarked (sym same) c.in_ok-learned_clause.ensures.unmarked) in
     let old = c.note_learned.ensures.held in
-    let all_held = c.hold.ensures.held ∙ ap (λ (hs : List Held). hs ++ learned_of log l.clause ∷ []) old in
+    let all_held = c.hold.ensures.held ∙ ap (λ (hs : List Held). hs ++ learned_of log l.clause l.glue ∷ []) old in
     let told = c.in_ok-hold.ensures in
-    let holds : Holds log (learned_of log l.clause) (watched_pair l) p q =
+    let holds : Holds log (learned_of log l.clause l.glue) (watched_pair l) p q =
     subst (λ (one : Held). Holds log one (watched_pair l) p q) c.learned-one.ensures.held
     (subst (λ (pair : Option (Lit × Lit)). Holds log c.learned-one.result pair p q) c.watched.ensures.watched
     (record { watched = told.watched; has = told.has; kept = told.kept; only = told.only; lone = told.lone; no_more_lone = told.no_more_lone })) in
@@ -155,9 +155,9 @@ returns-clause-learned g c =
     let lengths : length new.seen.items ≡ length s.seen.items = ap (λ (x : Search). length x.seen.items) back ∙ search rules in
     let unmarked : AreUnmarked new.seen.items = subst (λ (x : Search). AreUnmarked x.seen.items) (sym back) (subst AreUnmarked (sym same) c.in_ok-learned_clause.ensures.unmarked) in
     let old = c.note_learned.ensures.held in
-    let all_held = c.hold.ensures.held ∙ ap (λ (hs : List Held). hs ++ learned_of log l.clause ∷ []) old in
+    let all_held = c.hold.ensures.held ∙ ap (λ (hs : List Held). hs ++ learned_of log l.clause l.glue ∷ []) old in
     let told = c.in_ok-hold.ensures in
-    let holds : Holds log (learned_of log l.clause) (watched_pair l) p q =
+    let holds : Holds log (learned_of log l.clause l.glue) (watched_pair l) p q =
     subst (λ (one : Held). Holds log one (watched_pair l) p q) c.learned-one.ensures.held
     (subst (λ (pair : Option (Lit × Lit)). Holds log c.learned-one.result pair p q) c.watched.ensures.watched
     (record { watched = told.watched; has = told.has; kept = told.kept; only = told.only; lone = told.lone; no_more_lone = told.no_more_lone })) in
@@ -166,4 +166,4 @@ returns-clause-learned g c =
     new (ap (λ (x : Search). x.atoms) back) c.go_back.ensures.size c.go_back.ensures.entries c.go_back.ensures.bounds p c.go_back.ensures.looked holds lengths unmarked
     (subst (AreHeld log) all_held c.hold.ensures.more.held) c.go_back.ensures.order c.in_ok-note_learned.ensures.free in
     subst (λ (hs : List Held). Learns log hs s new c.args.work.now c.note_learned.new.work) (sym all_held)
-    (subst (λ (w : WorkList Note). Learns log (c.args.held.now.items ++ learned_of log l.clause ∷ []) s new c.args.work.now w) (sym c.in_ok-note_learned.ensures.noted) there)
+    (subst (λ (w : WorkList Note). Learns log (c.args.held.now.items ++ learned_of log l.clause l.glue ∷ []) s new c.args.work.now w) (sym c.in_ok-note_learned.ensures.noted) there)

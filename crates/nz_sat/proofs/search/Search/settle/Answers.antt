@@ -47,7 +47,7 @@ returns-in_err-refute-clause-steps g c =
           (sym (c.back_to.ensures.left none))
           (advances_same same
           (back_refuted t b c.refute.ensures.grows c.refute.ensures.sound (Err stop.Memory)
-          (ends_without (Option ℕ) (Option ℕ) c.loop-conflict.conflict (theory c.args.theory.now) (theory c.loop-conflict.theory) c.args.log.now start.atoms
+          (ends_without (Option ℕ) (Option ℕ) c.loop-conflict.conflict (theory c.args.theory.now) (theory c.loop-conflict.theory) c.args.log.now c.args.held.now.items start.atoms
           (told_lits start.bounds start.trail.entries) start.trail.entries c.args.work.now c.loop-conflict.work)));
       met = search rules;
       spent = search rules;

@@ -7,6 +7,7 @@ use Rattle.nz_search.specs.declared.note.Note.{Note}
 use Rattle.nz_sat.specs.Searching.{Advances, Settles, SettlesOn}
 use Rattle.nz_sat.specs.Theories.{state_of}
 use Rattle.nz_sat.proofs.AtomTrails.{names_small}
+use Rattle.nz_sat.proofs.AssumedLiterals.{assumed_carried}
 use Rattle.nz_sat.proofs.SearchSteps.{narrow_advances, reaches_then, steps_behind}
 use Rattle.nz_sat.proofs.LogGrowth.{grows_none}
 use Rattle.nz_sat.proofs.SearchRuns.{decided_wanting, has_decided, refutes_far, settles_far}
@@ -31,7 +32,7 @@ returns-in_err-decide-clause-steps g c =
     record {
       advances = subst (λ (w : WorkList Note). Advances m m s s.trail.entries log log held held c.args.work.now w c.from_residual.result) (sym c.in_err-decide.ensures.err)
           (narrow_advances m s s.trail.entries log log held c.args.work.now c.requires.search.are_held (grows_none log) (λ ns levels known within order. order) e c.in_err-decide.ensures.narrow
-          (decided_wanting log held s c.requires.search c.args.atom true c.requires.free c.requires.named c.requires.whole (Option ℕ) m m c.args.work.now c.requires.noted) c.from_residual.result same);
+          (decided_wanting log held s c.requires.search c.args.atom true c.requires.free c.requires.named c.requires.whole (Option ℕ) m m c.args.work.now c.requires.noted c.requires.ready) c.from_residual.result same);
       met = search rules;
       spent = search rules;
     }
@@ -67,7 +68,7 @@ pub returns-clause-steps : goal.returns-clause-steps
 returns-clause-steps g c =
     let d = has_decided c.legal_work_goes_on.ensures.goes_on (state_of g.T.Theory.is_over g.T.Theory.has_told g.T.Theory.is_feasible g.T.Theory.is_of g.T.Theory.is_at c.args.theory.now) c.args.atom c.requires.search c.requires.ready c.requires.noted c.requires.free
     c.requires.named c.requires.whole c.in_ok-decide.ensures.rest c.in_ok-decide.ensures.decides in
-    steps_behind (reaches_then d.reaches d.carries.atoms d.carries.assumed_only c.settle.ensures.steps.advances) c.settle.ensures.steps
+    steps_behind (reaches_then d.reaches d.carries.atoms (assumed_carried d.carries) c.settle.ensures.steps.advances) c.settle.ensures.steps
 
 pub returns-clause-settled : goal.returns-clause-settled
 returns-clause-settled g c =

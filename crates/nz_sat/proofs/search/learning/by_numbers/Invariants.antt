@@ -1,6 +1,6 @@
 use Rattle.std.proofs.Common.{◌≡◌, map, take}
 use Rattle.nz_sat.specs.Numbers.{numbered}
-use Rattle.nz_sat.proofs.search.by_numbers.Given as goal
+use Rattle.nz_sat.proofs.search.learning.by_numbers.Given as goal
 
 -- the literals so far
 abbrev pub invariant-loop-literal : goal.invariant-loop-literal

@@ -3,7 +3,7 @@ use Rattle.std.proofs.Common.{◌<◌, Contains, length, subst, sym, ap, ◌∙�
 use Rattle.nz_log.specs.declared.lits.Lit.{Lit}
 use Rattle.nz_sat.specs.Numbers.{number_of}
 use Rattle.nz_sat.proofs.AtomNumbers.{unnamed}
-use Rattle.nz_sat.proofs.search.by_numbers.Goals as goal
+use Rattle.nz_sat.proofs.search.learning.by_numbers.Goals as goal
 
 pub unreachable-requires : goal.unreachable-requires
 unreachable-requires c =
