@@ -52,7 +52,7 @@ module _ (old new : LogState) (kept : Keeps old new) where
   origin_kept i live = ap (option_map (λ (e : Entry). e.origin)) (kept.clauses i live)
 
   held_kept : (i : ℕ) → IsLive old i → held_of new i ≡ held_of old i
-  held_kept i live = ap (λ n. let x : Held = record { id = i; level = n; is_learned = false; glue = 0 } in x) (level_kept i live)
+  held_kept i live = ap (λ n. let x : Held = record { id = i; level = n; is_redundant = false; glue = 0 } in x) (level_kept i live)
 
   still_held : (hs : List Held) → AreHeld old hs → AreHeld new hs
   still_held hs h =

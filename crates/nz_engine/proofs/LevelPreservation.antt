@@ -321,7 +321,7 @@ module _ (ns : List Node) (levels : List Level) (roots : List (List ℕ)) (p q :
   same_entry = dropped_entry p m q.log c.log
 
   held_of_same : (i : ℕ) → IsLive p.log i → level_at p.log i ≤ m → held_of q.log i ≡ held_of p.log i
-  held_of_same i live low = ap (λ (o : Option Entry). let x : Held = record { id = i; level = elim o [ None ↦ 0 | Some e ↦ e.level ]; is_learned = false; glue = 0 } in x) (same_entry i live low)
+  held_of_same i live low = ap (λ (o : Option Entry). let x : Held = record { id = i; level = elim o [ None ↦ 0 | Some e ↦ e.level ]; is_redundant = false; glue = 0 } in x) (same_entry i live low)
 
   cut_held : AreHeld q.log q.sat.clauses
   cut_held =

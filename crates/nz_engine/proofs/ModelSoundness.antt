@@ -134,19 +134,10 @@ module _ (rows_meet : RowsMeetTables) (decides : TablesDecide) (numbers : TermHa
       All-contains (HasTerm p.log.atoms) (boolean_terms ns p.form.terms.ids) t found.handed.there.covered
       (boolean_there ns p.form.terms.ids t ((found.handed.terms.listed t).1 some) boolean)
 
-  -- a covered Boolean term has a truth
-  truth_known : (t : ℕ) → IsSome (covered_at p.form t) → is_boolean_term (term_in ns t) ≡ true → (sign : Bool) × (truth_in p t ≡ Some sign)
-  truth_known t some boolean =
-      let here = boolean_here t some boolean in
-      let place = term_place p.log.atoms t in
-      let has = among place (record { atom = atoms.Term t; at = here; of = (some, boolean) }) in
-      let known = some_of (truth_of p.sat place) (All-contains (λ (i : ℕ). IsSome (truth_of p.sat i)) p.noted place found.truths.atoms_decided has) in
-      (known.0, truth_there p t here ∙ known.1)
-
   -- ---- Rows
 
-  true_clause : (h : Held) → Contains p.sat.clauses h → IsTrueClause p.sat (literals_at p.log h.id)
-  true_clause h has = All-contains (λ (x : Held). IsTrueClause p.sat (literals_at p.log x.id)) p.sat.clauses h found.truths.clauses has
+  true_clause : (h : Held) → Contains p.sat.clauses h → h.is_redundant ≡ false → IsTrueClause p.sat (literals_at p.log h.id)
+  true_clause h has needed = All-contains (λ (x : Held). x.is_redundant ≡ false → IsTrueClause p.sat (literals_at p.log x.id)) p.sat.clauses h found.truths.clauses has needed
 
   signed_term : (u : Term) (sign : Bool) → truths u ≡ Some sign → IsMet truths worths (with_sign sign (term_literal u true))
   signed_term u true h = h
@@ -174,7 +165,7 @@ module _ (rows_meet : RowsMeetTables) (decides : TablesDecide) (numbers : TermHa
   rows_met : MeetsRows ns p.log truths worths
   rows_met i t row =
       let held = ready.rows i t row in
-      let one_true = true_clause (held_of p.log i) held in
+      let one_true = true_clause (held_of p.log i) held refl in
       let each = All-contains (λ (x : Held). All (λ (l : Lit). IsSearched ns p.log p.form l.atom) (literals_at p.log x.id)) p.sat.clauses (held_of p.log i) ready.searched held in
       let s = All-contains (λ (l : Lit). IsSearched ns p.log p.form l.atom) (literals_at p.log i) one_true.0 each one_true.1 in
       (one_true.0, one_true.1, lit_met one_true.0 s one_true.2)
@@ -260,11 +251,6 @@ module _ (rows_meet : RowsMeetTables) (decides : TablesDecide) (numbers : TermHa
         gates = clauses.gates;
         links = clauses.links;
         units = clauses.units;
-        known = λ u has boolean.
-            let of = part_covered t some u has in
-            let own_boolean : is_boolean_term (term_in ns of.0) ≡ true = ap is_boolean_term of.2 ∙ boolean in
-            let known = truth_known of.0 of.1 own_boolean in
-            (known.0, subst (λ (x : Term). truths x ≡ Some known.0) of.2 (truth_is of.0 (covered_within of.0 of.1) own_boolean ∙ known.1));
         constants = λ c sign has e. constant_truth c sign (part_covered t some (apply (constant c) no_terms) has) e;
         numbers = λ c has other. constant_number c (part_covered t some (apply (constant c) no_terms) has) other;
         integral = λ u integer. absurd (decides.integers (term_in ns t) u taken integer);
@@ -290,7 +276,7 @@ module _ (rows_meet : RowsMeetTables) (decides : TablesDecide) (numbers : TermHa
       let t : ℕ = get_or (asserted_numbers (asserted_by_level levels)) k d in
       let all = posed.all.given in
       let u : HoldsUnit (asserted_by_level levels) p k t = ready.units k t (omega (arith, below, all)) (slice_get-get_or (asserted_numbers (asserted_by_level levels)) k d below) in
-      let one_true = subst (IsTrueClause p.sat) u.literals (true_clause u.held u.there) in
+      let one_true = subst (IsTrueClause p.sat) u.literals (true_clause u.held u.there u.added) in
       let P = λ (x : Lit). IsTrueLit p.sat x → truth_of p.sat (term_place p.log.atoms t) ≡ Some true in
       let holds : truth_of p.sat (term_place p.log.atoms t) ≡ Some true = All-contains P (unit_of p.log t) one_true.0 (All-from_recursion P (unit_of p.log t) ((λ e. e), tt)) one_true.1 one_true.2 in
       let of = unit_covered ready k t u in

@@ -551,7 +551,7 @@ module _ (laws : RowLaws) (own : AtomsOfTerms) {ns : List Node} {levels : List L
         (literals_at q.log x.id) (on k d below)
 
     -- what a search found, where its theory stands where its list leads
-    pub search_finds : IsOf q.sat.theory p.log.atoms ids → IsSatisfied q.log q.sat lits ids → IsTheoryMet q.log (HasTold q.sat.theory) (IsFeasible q.sat.theory) q.sat ids
+    pub search_finds : IsOf q.sat.theory p.log.atoms ids → IsSatisfied q.log q.sat lits → IsTheoryMet q.log (HasTold q.sat.theory) (IsFeasible q.sat.theory) q.sat ids
         → (task : Task) (work : WorkList Note) → Stands (IsAt q.sat.theory ns) ns task work → HasFound ns assumed q
     search_finds of satisfied met task work stands =
         let of_here : IsOf q.sat.theory q.log.atoms ids = of_stays q.sat.theory p.log.atoms q.log.atoms ids of grows.atoms in
@@ -564,7 +564,7 @@ module _ (laws : RowLaws) (own : AtomsOfTerms) {ns : List Node} {levels : List L
             on_atoms = refl;
             there = named_have;
           };
-          truths = subst (λ (ls : List Lit). IsSatisfied q.log q.sat ls q.noted) named_lits (subst (λ (is : List ℕ). IsSatisfied q.log q.sat lits is) named_ids satisfied);
+          truths = subst (λ (ls : List Lit). IsSatisfied q.log q.sat ls) named_lits satisfied;
           bounds = subst (λ (is : List ℕ). IsTheoryMet q.log (HasTold q.sat.theory) (IsFeasible q.sat.theory) q.sat is) named_ids met;
           of = subst (λ (is : List ℕ). IsOf q.sat.theory q.log.atoms is) named_ids of_here;
           forms = (search_after ns work).forms;
@@ -573,7 +573,7 @@ module _ (laws : RowLaws) (own : AtomsOfTerms) {ns : List Node} {levels : List L
           at = stands.at;
         }
 
-    pub found_of : IsOf q.sat.theory p.log.atoms ids → (task : Task) (work : WorkList Note) (r : Result (Option ℕ) Stop) → IfOk r (λ o. o ≡ None → IsSatisfied q.log q.sat lits ids)
+    pub found_of : IsOf q.sat.theory p.log.atoms ids → (task : Task) (work : WorkList Note) (r : Result (Option ℕ) Stop) → IfOk r (λ o. o ≡ None → IsSatisfied q.log q.sat lits)
         → IfOk r (λ o. o ≡ None → IsTheoryMet q.log (HasTold q.sat.theory) (IsFeasible q.sat.theory) q.sat ids) → Ends (IsAt q.sat.theory ns) ns task work r
         → IfOk r (λ o. o ≡ None → HasFound ns assumed q)
     found_of of task work (Ok o) s f e = λ none. search_finds of (s none) (f none) task work e

@@ -6,7 +6,7 @@ use Rattle.nz_lists.proofs.Results.{on_ok}
 use Rattle.nz_spec.specs.terms.Table.{Node}
 use Rattle.nz_spec.specs.search.Work.{WorkList}
 use Rattle.nz_spec.specs.search.Search.{Task}
-use Rattle.nz_spec.specs.search.Places.{AreAllTold}
+use Rattle.nz_spec.specs.search.Places.{AreDecidedTold}
 use Rattle.nz_log.specs.declared.lits.Lit.{Lit}
 use Rattle.nz_search.specs.declared.note.Note.{Note}
 use Rattle.nz_search.specs.declared.stop.Stop.{Stop}
@@ -184,10 +184,10 @@ module _ {ns : List Node} {assumed : List TermLit} {first : ℕ} {old p : Prepar
           })
 
       pub search_found : (levels : List Level) (t : Task) → MaySearch ns levels assumed t before old → IsOf new.theory p.log.atoms ids
-          → IfOk result (λ o. o ≡ None → IsSatisfied log new lits ids) → IfOk result (λ o. o ≡ None → IsTheoryMet log (HasTold new.theory) (IsFeasible new.theory) new ids)
+          → IfOk result (λ o. o ≡ None → IsSatisfied log new lits) → IfOk result (λ o. o ≡ None → IsTheoryMet log (HasTold new.theory) (IsFeasible new.theory) new ids)
           → IfOk result (λ o. o ≡ None → HasFound ns assumed q)
       search_found levels t may of satisfied feasible =
           found_of b.laws.rows b.laws.atoms b.ready.some.1 b.ready.handed q grows refl refl of t after result satisfied feasible (search_ends levels t may)
 
-    pub search_told : IfOk result (λ o. o ≡ None → (ns : List Node) → AreAllTold (search_after ns after)) → IfOk result (λ o. o ≡ None → AreAllTold (search_after ns after))
+    pub search_told : IfOk result (λ o. o ≡ None → (ns : List Node) → AreDecidedTold (search_after ns after)) → IfOk result (λ o. o ≡ None → AreDecidedTold (search_after ns after))
     search_told told = IfOk-weaker result _ _ (λ o all none. all none ns) told

@@ -13,7 +13,7 @@ use Rattle.nz_engine.proofs.LevelPreservation.{left_since}
 use Rattle.nz_engine.proofs.UnlistedClauses.{left_all, left_from, left_has}
 
 -- a clause that was added stays
-added_stays : (before glue : ℕ) (hs : List Held) (h : Held) → h.is_learned ≡ false → Contains hs h → Contains (held_shed before glue hs) h
+added_stays : (before glue : ℕ) (hs : List Held) (h : Held) → h.is_redundant ≡ false → Contains hs h → Contains (held_shed before glue hs) h
 added_stays before glue hs h added has =
     left_has (λ (x : Held). not (is_shed before glue x)) hs h (ap (λ (b : Bool). not (b && (nat_lt h.id before && nat_lt glue h.glue))) added) has
 

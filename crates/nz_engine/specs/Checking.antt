@@ -364,10 +364,10 @@ IsRootStop ns roots Memory = ⊤
 
 -- ---- What was found
 
--- There are truths under which each clause and each assumed literal is true, and a theory that was told the bounds that are true is feasible.
+-- There are truths under which each clause that needs one has a true literal, and each assumed literal is true, and a theory that was told the bounds that are true is feasible.
 pub record HasFound (ns : List Node) (assumed : List TermLit) (p : PreparedState) : Type 0 where
   pub handed : AreHanded ns p assumed p.noted (lits_of p.log.atoms assumed)
-  pub truths : IsSatisfied p.log p.sat (lits_of p.log.atoms assumed) p.noted
+  pub truths : IsSatisfied p.log p.sat (lits_of p.log.atoms assumed)
   pub bounds : IsTheoryMet p.log (HasTold p.sat.theory) (IsFeasible p.sat.theory) p.sat p.noted
   pub of : IsOf p.sat.theory p.log.atoms p.noted
   pub forms : List (List form.Part)

@@ -24,7 +24,7 @@ use Rattle.nz_reals.specs.Exclusions.{AddsOn, HasNeighbours, IsExclusion}
 use Rattle.nz_reals.specs.Stands.{HasTold, IsOf}
 use Rattle.nz_reals.specs.State.{Theory}
 use Rattle.nz_sat.specs.declared.clauses.Held.{Held}
-use Rattle.nz_sat.specs.Sats.{SatState, AreHeld, AreSameSince, HoldsMore, held_of, held_up_to}
+use Rattle.nz_sat.specs.Sats.{SatState, AreHeld, AreSameSince, HoldsMore, added_as, held_of, held_up_to}
 use Rattle.nz_search.specs.Levels.{Level, added_by_level, asserted_by_level, numbers_by_level}
 use Rattle.nz_engine.specs.declared.levels.Kind.{Kind}
 use Rattle.nz_engine.specs.declared.levels.Kind.TheVariants.{Asserted, Number}
@@ -111,7 +111,7 @@ pub record IsMadeOf (ns : List Node) (roots : List ℕ) (t : ℕ) : Type 0 where
 pub record HoldsUnit (levels : List (List ℕ)) (p : PreparedState) (k t : ℕ) : Type 0 where
   pub held : Held
   pub there : Contains p.sat.clauses held
-  pub added : held.is_learned ≡ false
+  pub added : held.is_redundant ≡ false
   pub named : HasTerm p.log.atoms t
   pub literals : literals_at p.log held.id ≡ unit_of p.log t
   pub behind : count_in levels held.level ≤ k
@@ -219,13 +219,14 @@ pub record Extends (old new : PreparedState) : Type 0 where
   pub covered : (t : ℕ) → IsSome (covered_at old.form t) → IsSome (covered_at new.form t)
   pub bounds : KeepsBounds old.form new.form
 
--- Clauses for neighbouring bounds on these atoms are put and held, so that each two have theirs, unless their sum leaves the numbers.
+-- Clauses for neighbouring bounds on these atoms are put and held, so that each two have theirs, unless their sum leaves the numbers. They need no true
+-- literal, since arithmetic alone says them.
 pub record Excludes (log : LogState) (old : SatState Theory) (atoms : List ℕ) (log' : LogState) (new : SatState Theory) : Type 0 where
   pub theory : new.theory ≡ old.theory
   pub adds : AddsOn atoms log log'
   pub ids : List ℕ
   pub exclusions : All (IsExclusion log' atoms) ids
-  pub joined : new.clauses ≡ old.clauses ++ map (held_of log') ids
+  pub joined : new.clauses ≡ old.clauses ++ map (added_as true log') ids
   pub seen : AreSameSince new.seen log' new.clauses
   pub neighbours : HasNeighbours new.theory log' atoms (ids_held new.clauses)
 

@@ -26,6 +26,15 @@ pub(crate) struct SideBound {
 }
 
 impl SideBound {
+    /// Whether a value is on its side.
+    pub(crate) fn is_met_by(&self, value: &Delta) -> bool {
+        let order = Scalar::cmp(value, &self.value);
+        match self.side {
+            Side::Lower => !matches!(order, Ordering::Less),
+            Side::Upper => !matches!(order, Ordering::Greater),
+        }
+    }
+
     /// Whether it is a lower bound, and the other one an upper bound below it.
     pub(crate) fn is_above(&self, other: &SideBound) -> bool
         ensures above { result ≡ true → IsAbove (said_of self.now) (said_of other.now) }

@@ -86,6 +86,19 @@ impl Theory for Reals {
             self.told.truncate(mark);
         }
     }
+
+    fn holds(&self, literal: Lit) -> Option<bool> {
+        let bounded = self.bounded.get(literal.atom())?;
+        let var = bounded.var;
+        if var >= self.simplex.len() || !self.simplex.has_value(var) {
+            return None;
+        }
+        Some(
+            bounded
+                .said(literal.sign())
+                .is_met_by(&self.simplex.value(var)),
+        )
+    }
 }
 
 impl Reals {

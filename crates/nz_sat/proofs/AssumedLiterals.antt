@@ -1,5 +1,5 @@
 -- What is assumed stays so on trails that go on, and on the entries that assumed literals are.
-use Rattle.std.proofs.Common.{◌≡◌, ℕ, List, length, map, get_or, Option, None, Some, inl, inr, refl, sym, ap, subst, ◌∙◌, arith}
+use Rattle.std.proofs.Common.{◌≡◌, List, get_or, None, Some, inl, inr, refl, ap, subst, arith}
 use Rattle.std.specs.Prelude.{All, Contains, nat_le, option_map}
 use Rattle.std.proofs.lemmas.List.{get_or-map, length-map}
 use Rattle.std.proofs.lemmas.List.Elements.{All-contains, All-contains_itself, All-map, All-weaker, Contains-get_or}

@@ -20,6 +20,7 @@ pub mod LiteralNumbers
 pub mod LiteralValues
 pub mod LogGrowth
 pub mod Marks
+pub mod OpenClauses
 pub mod Propagations
 pub mod Removals
 pub mod Retaining

@@ -108,7 +108,7 @@ grows_far a b c g h =
 
 -- where none were learned
 pub holds_none : (log : LogState) (held : List Held) → AreHeld log held → HoldsMore log held held
-holds_none log held live = record { learned = []; joined = sym (append-nil held); are_learned = All-nil (λ (h : Held). h.is_learned ≡ true); held = live }
+holds_none log held live = record { learned = []; joined = sym (append-nil held); are_redundant = All-nil (λ (h : Held). h.is_redundant ≡ true); held = live }
 
 -- clauses that are held still are
 pub held_on : (a b : LogState) (held : List Held) → Grows a b → AreHeld a held → AreHeld b held

@@ -164,7 +164,7 @@ reaches_then {m = m} {m₁ = m₁} {m₂ = m₂} {s = s} {mid = mid} {a = a} {b 
       holds_more = record {
         learned = p.holds_more.learned ++ q.holds_more.learned;
         joined = q.holds_more.joined ∙ ap (λ (xs : List Held). xs ++ q.holds_more.learned) p.holds_more.joined ∙ append_assoc h p.holds_more.learned q.holds_more.learned;
-        are_learned = All-append (λ (x : Held). x.is_learned ≡ true) p.holds_more.learned q.holds_more.learned p.holds_more.are_learned q.holds_more.are_learned;
+        are_redundant = All-append (λ (x : Held). x.is_redundant ≡ true) p.holds_more.learned q.holds_more.learned p.holds_more.are_redundant q.holds_more.are_redundant;
         held = q.holds_more.held;
       };
       named = λ on. subst (λ (us : List ℕ). AreOn c us h₂) same (q.named (subst (λ (us : List ℕ). AreOn b us h₁) (sym same) (p.named on)));

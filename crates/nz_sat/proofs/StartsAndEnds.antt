@@ -1,16 +1,16 @@
 -- What a search knows where it begins, and what its end tells its callers.
 use Rattle.std.proofs.Common.{◌≡◌, ℕ, zero, suc, Bool, true, false, true≢false, List, [], ◌∷◌, ◌++◌, length, take, map, get_or, Option, Some, None, refl, sym, ap, subst, ◌∙◌, arith, append_assoc, Ok}
-use Rattle.std.specs.Prelude.{All, Contains, IsSome, IsTrue, filter, option_map, slice_get}
+use Rattle.std.specs.Prelude.{All, Contains, IsTrue, filter, option_map, slice_get}
 use Rattle.std.specs.declared.result.Result.{Result}
 use Rattle.std.proofs.lemmas.List.{append-nil, take_all}
-use Rattle.std.proofs.lemmas.List.Elements.{All-contains, All-map, All-same, Contains-get_or}
-use Rattle.std.proofs.lemmas.Option.{same_Some, slice_get-map}
+use Rattle.std.proofs.lemmas.List.Elements.{All-contains, All-map, All-same, All-weaker}
+use Rattle.std.proofs.lemmas.Option.{slice_get-get_or}
 use Rattle.nz_lists.proofs.Members.{has_found, map_has}
 use Rattle.nz_spec.specs.search.Atoms.{HasUnit, WasTold}
 use Rattle.nz_spec.specs.search.Legal.{Lead, after_line, after_lines}
-use Rattle.nz_spec.specs.search.Places.{AreAllTold}
+use Rattle.nz_spec.specs.search.Places.{AreDecidedTold}
 use Rattle.nz_spec.specs.search.Search as legal
-use Rattle.nz_spec.specs.search.Search.{Task, at_first, no_point, told_literals}
+use Rattle.nz_spec.specs.search.Search.{Task, at_first, literal_by, literals_by, no_point, told_literals}
 use Rattle.nz_spec.specs.simplex.Bland.{Point}
 use Rattle.nz_spec.specs.clauses.Farkas.{is_linear_literal}
 use Rattle.nz_spec.specs.clauses.Literal.{Literal}
@@ -30,22 +30,19 @@ use Rattle.nz_search.specs.Theories.{IsBoundIn}
 use Rattle.nz_sat.specs.declared.clauses.Held.{Held}
 use Rattle.nz_sat.specs.declared.search.Search.{Search}
 use Rattle.nz_sat.specs.declared.trail.Assigned.{Assigned}
-use Rattle.nz_sat.specs.Clauses.{IsOpen, by_true, by_two}
+use Rattle.nz_sat.specs.Clauses.{HasTrue}
 use Rattle.nz_sat.specs.Conflicts.{is_marked}
 use Rattle.nz_sat.specs.Numbers.{AreNotedIn, atom_literal, noted_atoms, numbered}
-use Rattle.nz_sat.specs.Sats.{AreConsistent, AreOn, HasBegun, HoldsLearned, IsAsked, IsSatisfied, IsTheoryMet, IsTrueClause, IsTrueLit, SatState, truth_of, ids}
+use Rattle.nz_sat.specs.Sats.{AreConsistent, AreOn, HasBegun, HoldsLearned, IsAsked, IsSatisfied, IsTheoryMet, IsTrueClause, IsTrueLit, SatState}
 use Rattle.nz_sat.specs.Searching.{Advances, IsNoted, IsSearch, Satisfies, StaysInOrder, assumed_entries}
 use Rattle.nz_sat.specs.Theories.{IsMet, TellsTrail, TheoryState, bounds_on, told_literal, told_lits, told_on}
-use Rattle.nz_sat.specs.Trails.{AreTruthsOn, EachBehind, IsNext, IsTrueOn, assigned, is_decision, literals_on}
+use Rattle.nz_sat.specs.Trails.{AreTruthsOn, EachBehind, IsNext, IsTrueOn, is_decision}
 use Rattle.nz_sat.proofs.AssumedLiterals.{assumed_first, true_among}
-use Rattle.nz_sat.proofs.Chains.{filter_has}
-use Rattle.nz_sat.proofs.Clausal.{free_missing}
-use Rattle.nz_sat.proofs.TrailGrowth.{held_has}
+use Rattle.nz_sat.proofs.Chains.{filter_from, filter_has}
 use Rattle.nz_sat.proofs.LearnedClauses.{all_from}
 use Rattle.nz_sat.proofs.Levels.{below_true}
-use Rattle.nz_sat.proofs.LearnedLines.{held_named}
-use Rattle.nz_sat.proofs.LogGrowth.{said, says}
-use Rattle.nz_sat.proofs.ToldTrails.{entry_from, front_has, says_itself, stands_by, told_among, told_entry, told_said}
+use Rattle.nz_sat.proofs.LogGrowth.{said}
+use Rattle.nz_sat.proofs.ToldTrails.{entry_from, front_has, says_itself, says_numbered, stands_by, told_among, told_entry, told_said}
 use Rattle.nz_sat.proofs.AtomTrails.{bound_marked, marked_bound}
 use Rattle.nz_sat.proofs.TrailEntries.{assigned_at}
 
@@ -125,42 +122,20 @@ ends_later A IsAt ns q work x s = (s.point, s.legal)
 
 -- ---- At the end
 
-decided_not_missing : (o : Option Assigned) → IsSome o → o ≡ None → ⊥
-decided_not_missing None some none = cc
-decided_not_missing (Some e) some none = cc
-
--- where each atom is decided, a clause that is open has a true literal
-open_true : (es : List Assigned) (atoms : List ℕ) → All (λ (t : ℕ). IsSome (assigned es t)) atoms → (c : List Lit) → ((l : Lit) → Contains c l → Contains atoms l.atom)
-    → IsOpen es c → (l : Lit) × Contains c l × IsTrueOn es l
-open_true es atoms decided c named (by_true l has holds) = (l, has, holds)
-open_true es atoms decided c named (by_two l m has_l has_m differ free_l free_m) =
-    absurd
-    (decided_not_missing (assigned es l.atom) (All-contains (λ (t : ℕ). IsSome (assigned es t)) atoms l.atom decided (named l has_l)) (free_missing es l.atom free_l))
-
-some_truth : (o : Option Assigned) → IsSome o → IsSome (option_map (λ (e : Assigned). e.literal.sign) o)
-some_truth None some = some
-some_truth (Some e) some = some
-
 -- what holds on the trail is what the truths say
 pub satisfied : {T : Type 0} → (log : LogState) (held : List Held) (assumed : List Lit) (atoms : List ℕ) (s : Search) (work : WorkList Note) (t : SatState T) → t.clauses ≡ held
-    → AreTruthsOn s.trail.entries t.truths → Satisfies log held assumed atoms s work → IsSatisfied log t assumed atoms
+    → AreTruthsOn s.trail.entries t.truths → Satisfies log held assumed atoms s work → IsSatisfied log t assumed
 satisfied log held assumed atoms s work t same truths h =
     let es = s.trail.entries in
     let is_true : (l : Lit) → IsTrueOn es l → IsTrueLit t l = λ l on. truths l.atom ∙ on in
-    let clause : (x : Held) → Contains (ids held) x.id → IsTrueClause t (literals_at log x.id) =
-    λ x there.
-    let l = open_true es s.atoms h.all_decided (literals_at log x.id) (held_named s.atoms log (ids held) h.search.named x.id there)
-    (All-contains (λ (i : ℕ). IsOpen es (literals_at log i)) (ids held) x.id h.all_open there) in
-    (l.0, l.1, is_true l.0 l.2) in
+    let Truly : Held → Type 0 = λ x. x.is_redundant ≡ false → IsTrueClause t (literals_at log x.id) in
     record {
-      clauses = All-same (λ (x : Held). IsTrueClause t (literals_at log x.id)) t.clauses held same (λ k d inside. clause (get_or held k d) (held_has held k d inside));
+      clauses = All-same Truly t.clauses held same
+          (All-weaker (λ (x : Held). x.is_redundant ≡ false → HasTrue es (literals_at log x.id)) Truly
+          (λ x has needed. let one = has needed in (one.literal, one.has, is_true one.literal one.holds)) held h.have_true);
       assumed_hold = λ k d inside.
           let l = get_or assumed k d in
           is_true l (below_true s.trail.size es h.search.on.order 0 l.atom l.sign (h.hold k d inside));
-      atoms_decided = subst (All (λ (u : ℕ). IsSome (truth_of t u))) h.same
-          (λ k d inside.
-          let u = get_or s.atoms k d in
-          subst IsSome (sym (truths u)) (some_truth (assigned es u) (h.all_decided k d inside)));
     }
 
 -- ---- The theory
@@ -207,33 +182,36 @@ theory_met m log held s t atoms h same truths met =
       all = λ l atom bound holds. told_true m log held s h met l bound (sym (truths l.atom) ∙ holds);
     }
 
--- an atom that says a linear literal is a bound
-linear_bound : (ns : List Node) (state : LogState) (i : ℕ) (sign : Bool) → IsTrue (is_linear_literal (atom_literal ns state.atoms i)) → IsBoundIn state (record { atom = i; sign = sign })
-linear_bound ns state i sign linear = bound_of (slice_get state.atoms i) refl linear where
-  bound_of : (o : Option log.Atom) → slice_get state.atoms i ≡ o → IsTrue (is_linear_literal (said ns true o)) → IsBoundIn state (record { atom = i; sign = sign })
-  bound_of None at h = absurd (true≢false (sym h))
-  bound_of (Some (Term t)) at h = absurd (true≢false (sym h))
-  bound_of (Some (AtMost b)) at h = (b, at)
+-- a literal that is linear is on a bound
+linear_bound : (ns : List Node) (state : LogState) (l : Lit) → IsTrue (is_linear_literal (literal_in ns state.atoms l)) → IsBoundIn state l
+linear_bound ns state l linear = bound_of (slice_get state.atoms l.atom) l.sign refl linear where
+  bound_of : (o : Option log.Atom) (sign : Bool) → slice_get state.atoms l.atom ≡ o → IsTrue (is_linear_literal (said ns sign o)) → IsBoundIn state l
+  bound_of None sign at h = absurd (true≢false (sym h))
+  bound_of (Some (Term t)) true at h = absurd (true≢false (sym h))
+  bound_of (Some (Term t)) false at h = absurd (true≢false (sym h))
+  bound_of (Some (AtMost b)) sign at h = (b, at)
 
--- each atom that bounds a sum was told, with its sign
-pub all_told : (m : TheoryState) (log : LogState) (held : List Held) (assumed : List Lit) (atoms : List ℕ) (s : Search) (work : WorkList Note) → Satisfies log held assumed atoms s work
-    → IsMet m s.bounds s.trail.entries → (ns : List Node) → AreAllTold (search_after ns work)
-all_told m log held assumed atoms s work h met ns =
+-- each bound that was decided was told
+pub decided_told : (m : TheoryState) (log : LogState) (held : List Held) (assumed : List Lit) (atoms : List ℕ) (s : Search) (work : WorkList Note) → Satisfies log held assumed atoms s work
+    → IsMet m s.bounds s.trail.entries → (ns : List Node) → AreDecidedTold (search_after ns work)
+decided_told m log held assumed atoms s work h met ns =
     let es = s.trail.entries in
     let r = search_after ns work in
-    let f : ℕ → Literal = atom_literal ns log.atoms in
+    let f : Assigned → ℕ × Bool = λ e. numbered s.atoms e.literal in
     let T : Literal → Type 0 = λ l. IsTrue (is_linear_literal l) → HasUnit l → WasTold r l in
-    let one : (i : ℕ) → Contains s.atoms i → T (f i) =
-    λ i has linear unit.
-    let e = decided_entry (assigned es i) (All-contains (λ (t : ℕ). IsSome (assigned es t)) s.atoms i h.all_decided has) in
-    let sign = e.0.literal.sign in
-    let l : Lit = record { atom = i; sign = sign } in
-    let told = told_true m log held s h.search met l (linear_bound ns log i sign linear) (ap (option_map (λ (x : Assigned). x.literal.sign)) e.1) in
-    let has_told = map_has (literal_in ns log.atoms) (told_lits s.bounds es) l told in
-    let in_list : Contains (told_literals r) (literal_in ns log.atoms l) =
-    subst (λ (ls : List Literal). Contains ls (literal_in ns log.atoms l)) (sym (told_said ns log s.atoms s.bounds es work h.noted.trail)) has_told in
-    (f i, says_itself (f i), sign, false, subst (Contains (told_literals r)) (says ns log.atoms l) in_list) in
-    subst (All T) (sym (h.noted.trail.named ns)) (All-map T f s.atoms (all_from (λ (i : ℕ). T (f i)) s.atoms one)) where
-      decided_entry : (o : Option Assigned) → IsSome o → (e : Assigned) × (o ≡ Some e)
-      decided_entry None some = absurd (decided_not_missing None some refl)
-      decided_entry (Some e) some = (e, refl)
+    let one : (e : Assigned) → Contains (filter is_decision es) e → T (literal_by r.atoms (f e)) =
+    λ e has.
+    let on : Contains es e = (filter_from is_decision es e has).0 in
+    let named = All-contains (λ (x : Assigned). Contains s.atoms x.literal.atom) es e h.search.on.on_trail on in
+    let says = says_numbered ns log s.atoms s.bounds es work h.noted.trail e.literal named in
+    subst T (sym says)
+    (λ linear unit.
+    let at : slice_get es on.0 ≡ Some e = slice_get-get_or es on.0 e on.1 ∙ ap Some on.2 in
+    let told = told_true m log held s h.search met e.literal (linear_bound ns log e.literal linear) (entry_true s.trail.size es h.search.on.order on.0 e at) in
+    let has_told = map_has (literal_in ns log.atoms) (told_lits s.bounds es) e.literal told in
+    let m' = literal_in ns log.atoms e.literal in
+    let in_list : Contains (told_literals r) m' =
+    subst (λ (ls : List Literal). Contains ls m') (sym (told_said ns log s.atoms s.bounds es work h.noted.trail)) has_told in
+    (m', says_itself m', true, false, in_list)) in
+    subst (λ (ps : List (ℕ × Bool)). All T (literals_by r.atoms ps)) (sym (h.noted.trail.decided ns))
+    (All-map T (literal_by r.atoms) (map f (filter is_decision es)) (All-map (λ (p : ℕ × Bool). T (literal_by r.atoms p)) f (filter is_decision es) (all_from (λ (e : Assigned). T (literal_by r.atoms (f e))) (filter is_decision es) one)))

@@ -1,5 +1,5 @@
 -- A search over clauses of a log, as its callers see it.
-use Rattle.std.specs.Prelude.{◌≡◌, ◌==◌, ◌&&◌, ℕ, ◌++◌, Bool, true, false, not, All, Contains, List, [], ◌∷◌, map, filter, nat_le, nat_lt, Option, Some, None, IsSome, option_map, slice_index_or}
+use Rattle.std.specs.Prelude.{◌≡◌, ◌==◌, ◌&&◌, ℕ, ◌++◌, Bool, true, false, not, All, Contains, List, [], ◌∷◌, map, filter, nat_le, nat_lt, Option, Some, None, option_map, slice_index_or}
 use Rattle.nz_spec.specs.terms.Table.{Node, IsTable}
 use Rattle.nz_spec.specs.search.Decide.{asserted_terms}
 use Rattle.nz_spec.specs.search.Search.{Task, Search}
@@ -43,11 +43,10 @@ module _ {T : Type 0} where
   abbrev pub IsTrueClause : SatState T → List Lit → Type 0
   IsTrueClause s c = (l : Lit) × Contains c l × IsTrueLit s l
 
-  -- Each clause has a true literal, each assumed literal is true, and each of the atoms has a truth.
-  pub record IsSatisfied (log : LogState) (s : SatState T) (assumed : List Lit) (atoms : List ℕ) : Type 0 where
-    pub clauses : All (λ (h : Held). IsTrueClause s (literals_at log h.id)) s.clauses
+  -- Each clause that isn't redundant has a true literal, and each assumed literal is true. Other atoms may have no truth.
+  pub record IsSatisfied (log : LogState) (s : SatState T) (assumed : List Lit) : Type 0 where
+    pub clauses : All (λ (h : Held). h.is_redundant ≡ false → IsTrueClause s (literals_at log h.id)) s.clauses
     pub assumed_hold : All (IsTrueLit s) assumed
-    pub atoms_decided : All (λ (t : ℕ). IsSome (truth_of s t)) atoms
 
   -- The theory was told just the literals of the atoms that are bounds and true, and some values meet them.
   pub record IsTheoryMet (log : LogState) (has_told : List Lit → Type 0) (is_feasible : Type 0) (s : SatState T) (atoms : List ℕ) : Type 0 where
@@ -77,16 +76,20 @@ AreSameSince None log held = held ≡ []
 AreSameSince (Some seen) log held = All (IsSameIn seen log) held
 
 -- a clause that is added, with its level
+abbrev pub added_as : Bool → LogState → ℕ → Held
+added_as is_redundant log id = record { id = id; level = level_at log id; is_redundant = is_redundant; glue = 0 }
+
+-- one that needs a true literal
 abbrev pub held_of : LogState → ℕ → Held
-held_of log id = record { id = id; level = level_at log id; is_learned = false; glue = 0 }
+held_of log id = added_as false log id
 
 -- a clause that the search learned, with its level, and its measure
 abbrev pub learned_of : LogState → ℕ → ℕ → Held
-learned_of log id glue = record { id = id; level = level_at log id; is_learned = true; glue = glue }
+learned_of log id glue = record { id = id; level = level_at log id; is_redundant = true; glue = glue }
 
--- each clause is one that the search learned
-abbrev pub AreLearned : List Held → Type 0
-AreLearned held = All (λ (h : Held). h.is_learned ≡ true) held
+-- no clause needs a true literal
+abbrev pub AreRedundant : List Held → Type 0
+AreRedundant held = All (λ (h : Held). h.is_redundant ≡ true) held
 
 -- those at or below a level
 abbrev pub held_up_to : ℕ → List Held → List Held
@@ -98,7 +101,7 @@ held_but id held = filter (λ (h : Held). not (h.id == id)) held
 
 -- whether a clause was learned before the one of a number, with literals of more than so many levels
 abbrev pub is_shed : (before glue : ℕ) → Held → Bool
-is_shed before glue h = h.is_learned && (nat_lt h.id before && nat_lt glue h.glue)
+is_shed before glue h = h.is_redundant && (nat_lt h.id before && nat_lt glue h.glue)
 
 -- those but the ones that were
 abbrev pub held_shed : (before glue : ℕ) → List Held → List Held
@@ -122,7 +125,7 @@ AreOn log atoms held = All (λ (h : Held). All (λ (l : Lit). Contains atoms l.a
 pub record HoldsMore (log : LogState) (old new : List Held) : Type 0 where
   pub learned : List Held
   pub joined : new ≡ old ++ learned
-  pub are_learned : AreLearned learned
+  pub are_redundant : AreRedundant learned
   pub held : AreHeld log new
 
 -- each clause that a list says was learned is held, with the same literals by the numbers of these atoms

@@ -1,5 +1,5 @@
 -- A search under way.
-use Rattle.std.specs.Prelude.{◌≡◌, ◌==◌, if◌then◌else◌, ℕ, suc, ◌<◌, ◌≤◌, ◌++◌, ◌⊎◌, Bool, All, Contains, List, [], ◌∷◌, length, map, Option, Some, None, IfErr, IfOk, IfSome, IsSome, unwrap_or}
+use Rattle.std.specs.Prelude.{◌≡◌, ◌==◌, if◌then◌else◌, ℕ, suc, ◌<◌, ◌≤◌, ◌++◌, ◌⊎◌, Bool, false, All, Contains, List, [], ◌∷◌, length, map, Option, Some, None, IfErr, IfOk, IfSome, IsSome, unwrap_or}
 use Rattle.std.specs.declared.result.Result.{Result}
 use Rattle.nz_spec.specs.terms.Table.{Node}
 use Rattle.nz_spec.specs.clauses.Literal.{StandOnce}
@@ -239,13 +239,23 @@ pub record Runs (log : LogState) (held : List Held) (assumed : List Lit) (start 
   pub assumed_only : All (IsAssumed assumed) s.trail.entries
   pub hold : All (IsTrueOn (below 0 s.trail.entries)) assumed
 
--- Each clause is open, each assumed literal is true, and each atom is decided, with the work noted.
+-- each clause that isn't redundant has a true literal
+abbrev pub HaveTrue : LogState → List Held → List Assigned → Type 0
+HaveTrue log held es = All (λ (h : Held). h.is_redundant ≡ false → HasTrue es (literals_at log h.id)) held
+
+-- An atom is undecided that a clause has a literal of.
+pub record IsUndecidedIn (log : LogState) (held : Held) (es : List Assigned) (t : ℕ) : Type 0 where
+  pub free : assigned es t ≡ None
+  pub literal : Lit
+  pub has : Contains (literals_at log held.id) literal
+  pub is : literal.atom ≡ t
+
+-- Each clause that needs one has a true literal, and each assumed literal is true, with the work noted.
 pub record Satisfies (log : LogState) (held : List Held) (assumed : List Lit) (atoms : List ℕ) (s : Search) (work : WorkList Note) : Type 0 where
   pub search : IsSearch log held s
-  pub all_open : AreOpen log held s.trail.entries
   pub same : s.atoms ≡ atoms
   pub hold : All (IsTrueOn (below 0 s.trail.entries)) assumed
-  pub all_decided : All (λ (t : ℕ). IsSome (assigned s.trail.entries t)) s.atoms
+  pub have_true : HaveTrue log held s.trail.entries
   pub noted : IsNoted log held s work
 
 -- An atom is decided, and noted.

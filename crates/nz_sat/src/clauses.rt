@@ -2,7 +2,7 @@
 ghost use Rattle.std.specs.Prelude.{◌≡◌};
 ghost use Rattle.nz_log.specs.Logs.{IsLive};
 ghost use Rattle.nz_sat.specs.Clauses.{held_as, other_in, watched_as, with_watch};
-ghost use Rattle.nz_sat.specs.Sats.{held_of, is_in, learned_of};
+ghost use Rattle.nz_sat.specs.Sats.{added_as, is_in, learned_of};
 
 use nz_log::{ClauseId, Lit, Log};
 
@@ -11,22 +11,22 @@ use nz_log::{ClauseId, Lit, Log};
 pub struct Held {
     pub id: ClauseId,
     pub level: usize,
-    /// Whether the search learned it itself.
-    pub is_learned: bool,
-    /// Of a learned one, of how many levels its literals were when it was learned, and 0 of one that was added.
+    /// Whether it needs no true literal: it follows from the others, as learned clauses do, or from arithmetic.
+    pub is_redundant: bool,
+    /// Of a learned one, of how many levels its literals were when it was learned, at least 1, and 0 of one that was added.
     pub glue: usize,
 }
 
 impl Held {
     /// A clause of the log that is added.
-    pub(crate) fn added(log: &Log, id: ClauseId) -> Held
+    pub(crate) fn added(log: &Log, id: ClauseId, is_redundant: bool) -> Held
         requires live { IsLive log.now id }
-        ensures held { result ≡ held_of log.now id }
+        ensures held { result ≡ added_as is_redundant log.now id }
     {
         Held {
             id,
             level: log.level(id),
-            is_learned: false,
+            is_redundant,
             glue: 0,
         }
     }
@@ -39,7 +39,7 @@ impl Held {
         Held {
             id,
             level: log.level(id),
-            is_learned: true,
+            is_redundant: true,
             glue,
         }
     }
@@ -65,7 +65,7 @@ impl Part {
             Part::UpTo(level) => held.level <= level,
             Part::But(id) => held.id != id,
             Part::Shed { before, glue } => {
-                !(held.is_learned && held.id < before && glue < held.glue)
+                !(held.is_redundant && held.id < before && glue < held.glue)
             }
         }
     }
@@ -77,8 +77,8 @@ pub struct WatchedClause {
     /// Its number in the log.
     pub id: ClauseId,
     pub level: usize,
-    /// Whether the search learned it itself.
-    pub is_learned: bool,
+    /// Whether it needs no true literal.
+    pub is_redundant: bool,
     /// Of a learned one, of how many levels its literals were when it was learned.
     pub glue: usize,
     pub first: Lit,
@@ -93,7 +93,7 @@ impl WatchedClause {
         WatchedClause {
             id: held.id,
             level: held.level,
-            is_learned: held.is_learned,
+            is_redundant: held.is_redundant,
             glue: held.glue,
             first,
             second,
@@ -107,7 +107,7 @@ impl WatchedClause {
         Held {
             id: self.id,
             level: self.level,
-            is_learned: self.is_learned,
+            is_redundant: self.is_redundant,
             glue: self.glue,
         }
     }

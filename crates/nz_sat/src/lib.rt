@@ -10,6 +10,7 @@ mod glue;
 mod heap;
 mod kept;
 mod leaving;
+mod open;
 mod order;
 mod propagate;
 mod propagation;

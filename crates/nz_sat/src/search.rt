@@ -1,5 +1,5 @@
 //! The search: decisions, and what follows from them.
-ghost use Rattle.std.specs.Prelude.{◌≡◌, ℕ, ◌^◌, ◌<◌, ◌+◌, ◌++◌, ◌∷◌, [], All, Contains, List, None, length, map, min, take, vec_capacity, vec_len, IfErr, IfOk, IfSome, IsSome, OnErr, OnOk};
+ghost use Rattle.std.specs.Prelude.{◌≡◌, ℕ, ◌^◌, ◌<◌, ◌+◌, ◌++◌, ◌∷◌, [], All, Contains, List, None, length, map, min, take, vec_capacity, vec_len, IfErr, IfOk, IfSome, OnErr, OnOk};
 ghost use Rattle.nz_spec.specs.simplex.Bland.{Point};
 ghost use Rattle.nz_spec.specs.terms.Form as form;
 ghost use Rattle.nz_spec.specs.clauses.Literal as spec;
@@ -16,7 +16,7 @@ ghost use Rattle.nz_log.specs.Growth.{Grows};
 ghost use Rattle.nz_sat.specs.Conflicts.{GoesBackTo, RefutesFrom, StaysSound};
 ghost use Rattle.nz_log.specs.Leveled.{AreToldAtoms};
 ghost use Rattle.nz_sat.specs.Sats.{AreConsistent, AreHeld};
-ghost use Rattle.nz_sat.specs.Searching.{Advances, AreFirst, Assumes, AssumesAll, ComesTo, Decides, Follows, IsConflict, IsSearch, Learns, MayAssume, MayFollow, Starts, WasNoted, after_learned, learned_line};
+ghost use Rattle.nz_sat.specs.Searching.{Advances, AreFirst, Assumes, AssumesAll, ComesTo, Decides, Follows, HaveTrue, IsConflict, IsReady, IsSearch, Learns, MayAssume, MayFollow, Starts, WasNoted, after_learned, learned_line};
 ghost use Rattle.nz_sat.specs.Theories.{AddsLines, IsMet, IsOfTheory, Keeps, TellsTrail, state_of, told_lits, told_on};
 ghost use Rattle.nz_sat.specs.Trails.{EachBehind, GoesOn, IsFrontOf, IsTrail, assigned, below, depth};
 ghost use Rattle.nz_sat.specs.Watched.{AreTwoOf, AreWatched, HoldsWatched, IsKept, watch_state};
@@ -28,6 +28,7 @@ use crate::atoms::Atoms;
 use crate::clauses::Held;
 use crate::consult::{Bounds, consult};
 use crate::kept::Kept;
+use crate::open::first_undecided;
 use crate::order::Order;
 use crate::propagation::Propagation;
 use crate::redundancy::Redundancy;
@@ -218,6 +219,7 @@ impl Search {
             untold += self.bounds.told_at(self.trail.len(), literal.atom());
             self.order.keep(literal);
         }
+        self.order.go_back(level);
         self.bounds.cut(self.trail.len());
         self.propagation.cut(self.trail.len());
         untold
@@ -318,17 +320,30 @@ impl Search {
         )
     }
 
-    /// The undecided atom that took most part in conflicts.
-    pub(crate) fn next(&mut self) -> Option<AtomId>
+    /// An undecided atom of a clause that needs a true literal and has none: the one that took most part in conflicts, as far as the order knows.
+    pub(crate) fn next(&mut self, log: &Log, held: &[Held]) -> Option<AtomId>
+        requires search { IsSearch log.now held.now self.old }
+        requires ready { IsReady log.now self.old }
         ensures rest { self.new ≡ record self.old { order = self.new.order } }
         ensures undecided { IfSome result (λ t. Contains self.new.atoms t × (assigned self.new.trail.entries t ≡ None)) }
-        ensures none { result ≡ None → All (λ t. IsSome (assigned self.new.trail.entries t)) self.new.atoms }
+        ensures none { result ≡ None → HaveTrue log.now held.now self.new.trail.entries }
     {
-        self.order.next(&self.atoms, &self.trail)
+        match self
+            .order
+            .next(log, &self.atoms, &self.propagation, &self.trail)
+        {
+            Some(atom) => Some(atom),
+            None => first_undecided(log, held, &self.trail),
+        }
     }
 
-    /// Decides an atom, with the sign that it had last.
-    pub(crate) fn decide(&mut self, work: &mut Work<Note>, atom: AtomId) -> Result<(), Stop>
+    /// Decides an atom, with the sign that it had last, or as it holds where the theory stands.
+    pub(crate) fn decide<T: Theory>(
+        &mut self,
+        theory: &T,
+        work: &mut Work<Note>,
+        atom: AtomId,
+    ) -> Result<(), Stop>
         requires free { assigned self.old.trail.entries atom ≡ None }
         requires named { Contains self.old.atoms atom }
         requires within { atom < self.old.trail.size }
@@ -343,7 +358,10 @@ impl Search {
         let Some(number) = self.atoms.number(atom) else {
             unreachable!()
         };
-        let sign = self.order.sign(atom);
+        let sign = match self.order.sign(atom) {
+            Some(sign) => sign,
+            None => theory.holds(Lit::new(atom, true)).unwrap_or(false),
+        };
         note(work, Entry::Decision { atom: number, sign })?;
         self.trail.decide(Lit::new(atom, sign));
         Ok(())

@@ -99,7 +99,7 @@ impl Search {
     {
         legal_work_goes_on();
         log.atom_count();
-        self.decide(work, atom)?;
+        self.decide(theory, work, atom)?;
         self.settle(log, held, theory, work)
     }
 
@@ -131,7 +131,7 @@ impl Search {
         self.settle(log, held, theory, work)
     }
 
-    /// Searches for truths of the atoms under which each clause has a true literal, and each assumed one is true. Answers the clause
+    /// Searches for truths of atoms under which each clause has a true literal that needs one, and each assumed one is true. Answers the clause
     /// that refutes the assumed literals, if one does.
     pub fn run<T: Theory>(
         &mut self,
@@ -157,7 +157,7 @@ impl Search {
         if let Some(refuted) = self.begin(log, held, theory, assumed, work)? {
             return Ok(Some(refuted));
         }
-        while let Some(atom) = self.next() {
+        while let Some(atom) = self.next(log, held) {
             if let Some(found) = self.turn(log, held, theory, work, atom)? {
                 return Ok(Some(found));
             }

@@ -60,6 +60,14 @@ impl Watches {
         self.lists[literal.code()].len()
     }
 
+    /// The clauses that watch a literal.
+    pub fn of(&self, literal: Lit) -> &[Watch] {
+        match self.lists.get(literal.code()) {
+            Some(list) => list,
+            None => &[],
+        }
+    }
+
     /// The watch of a place in the list of a literal.
     pub fn at(&self, literal: Lit, i: usize) -> Watch
         requires within { code_of literal < length self.now.lists.items }

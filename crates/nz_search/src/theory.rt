@@ -95,6 +95,9 @@ pub trait Theory: Drop {
         ensures over { (ns : List Node) → is_over self.old ns → is_over self.new ns }
         ensures of { (atoms : List Atom) (ids : List ℕ) → is_of self.old atoms ids → is_of self.new atoms ids }
         ensures at { (ns : List Node) (fs : List (List Part)) (ls : List spec.Literal) (x : Point) → is_at self.old ns fs ls x → mark ≤ length ls → is_at self.new ns fs (take mark ls) x };
+
+    /// Whether a bound holds where it stands, as far as it knows: advice on how to decide it, so that nothing has to move. Takes no memory.
+    fn holds(&self, literal: Lit) -> Option<bool>;
 }
 
 /// The theory of no numbers: whatever it is told can be true, and it has no form. A contract sees how many literals it was told.
@@ -150,5 +153,9 @@ impl Theory for NoNumbers {
 
     fn undo(&mut self, mark: usize) {
         self.told = mark;
+    }
+
+    fn holds(&self, _literal: Lit) -> Option<bool> {
+        None
     }
 }

@@ -1,9 +1,9 @@
 -- Truths and numbers that meet the clauses of the tables are the values of the terms.
-use Rattle.std.proofs.Common.{◌≡◌, Bool, true, false, not, ◌&&◌, ◌⊎◌, inl, inr, List, [], ◌∷◌, map, Option, Some, pos, refl, sym, ap, subst, ◌∙◌, true≢false}
+use Rattle.std.proofs.Common.{◌≡◌, Bool, true, false, not, ◌&&◌, ◌⊎◌, inl, inr, List, [], ◌∷◌, map, Option, Some, None, pos, refl, sym, ap, subst, ◌∙◌, true≢false}
 use Rattle.std.specs.Prelude.{Contains, ⊤, if◌then◌else◌}
 use Rattle.std.specs.List.{list_any, AllByRecursion}
 use Rattle.std.proofs.lemmas.Bool.{and_parts}
-use Rattle.std.proofs.lemmas.Option.{same_Some}
+use Rattle.std.proofs.lemmas.Option.{none-some, same_Some}
 use Rattle.std.proofs.lemmas.List.Elements.{Contains-append_left, Contains-append_right, Contains-push}
 use Rattle.std.proofs.lemmas.List.Folds.{Any-from_list_any}
 use Rattle.nz_lists.proofs.Elements.{AllByRecursion-weaker}
@@ -162,22 +162,41 @@ module _ (number : Numbering) (a : Assignment) (truths : Term → Option Bool) (
   abbrev chosen_of : (c x y : Term) → Term
   chosen_of c x y = apply (choice real_sort) (terms c (terms x (terms y no_terms)))
 
-  choice_has_worth : (c x y : Term) → Settled c → HasWorth x → HasWorth y → (sign : Bool) → truths c ≡ Some sign
+  -- what the last literal says where the condition has neither truth
+  open_said : (c : Term) (sign : Bool) (R : Type 0) → truths c ≡ None → (truths c ≡ Some sign) ⊎ (R ⊎ ⊥) → R
+  open_said c sign R none (inl has) = absurd (none-some sign (sym none ∙ has))
+  open_said c sign R none (inr h) = alone R h
+
+  choice_has_worth : (c x y : Term) → Settled c → HasWorth x → HasWorth y → (o : Option Bool) → truths c ≡ o
       → AllSaid (unit_clauses number (chosen_of c x y)) → HasWorth (chosen_of c x y)
-  choice_has_worth c x y s h k true has m =
+  choice_has_worth c x y s h k (Some true) has m =
       let u = chosen_of c x y in
       =ℚ_trans
       (chosen u x h
       (last_said c true (Says (at_most_literal number u x).result) has m.0)
       (last_said c true (Says (at_most_literal number x u).result) has m.1.0))
       (=ℚ-from_same (sym (ap (λ (w : Value). number_of (if is_true w then value_of a x else value_of a y)) (s true has))))
-  choice_has_worth c x y s h k false has m =
+  choice_has_worth c x y s h k (Some false) has m =
       let u = chosen_of c x y in
       =ℚ_trans
       (chosen u y k
       (last_said c false (Says (at_most_literal number u y).result) has m.1.1.0)
       (last_said c false (Says (at_most_literal number y u).result) has m.1.1.1.0))
       (=ℚ-from_same (sym (ap (λ (w : Value). number_of (if is_true w then value_of a x else value_of a y)) (s false has))))
+  choice_has_worth c x y s h k None none m =
+      let u = chosen_of c x y in
+      let first = chosen u x h
+      (open_said c false (Says (at_most_literal number u x).result) none m.0)
+      (open_said c false (Says (at_most_literal number x u).result) none m.1.0) in
+      let second = chosen u y k
+      (open_said c true (Says (at_most_literal number u y).result) none m.1.1.0)
+      (open_said c true (Says (at_most_literal number y u).result) none m.1.1.1.0) in
+      by_value u (is_true (value_of a c)) refl first second
+    where
+      by_value : (u : Term) (b : Bool) → is_true (value_of a c) ≡ b → worth_of number v u =ℚ unit_value a x → worth_of number v u =ℚ unit_value a y
+          → worth_of number v u =ℚ number_of (if is_true (value_of a c) then value_of a x else value_of a y)
+      by_value u true e first second = =ℚ_trans first (=ℚ-from_same (sym (ap (λ (b : Bool). number_of (if b then value_of a x else value_of a y)) e)))
+      by_value u false e first second = =ℚ_trans second (=ℚ-from_same (sym (ap (λ (b : Bool). number_of (if b then value_of a x else value_of a y)) e)))
 
   -- ---- Terms
 
@@ -244,33 +263,32 @@ module _ (number : Numbering) (a : Assignment) (truths : Term → Option Bool) (
         (links_said (apply equality (terms x (terms y no_terms))) at)
 
     node_decided : (h : Head) (ts : Terms) → IsTakenHead h ts → HaveOperands h ts → AreWellSorted [] ts → is_linear_node h (constant_values ts) ≡ true
-        → AreDecided ts → Contains parts (apply h ts) → AreParts (post_orders ts) → IsDecided (apply h ts)
-    node_decided (constant c) no_terms k o s l d at within = constant_decided c at
-    node_decided (integer n) no_terms k o s l d at within = constant-worth number v (whole (pos n))
-    node_decided (decimal_number n places) no_terms k o s l d at within = constant-worth number v (decimal_value n places)
-    node_decided verum no_terms k o s l d at within = gate_settled verum no_terms tt tt tt at
-    node_decided falsum no_terms k o s l d at within = gate_settled falsum no_terms tt tt tt at
-    node_decided negation (terms t no_terms) k o s l d at within = gate_settled negation (terms t no_terms) tt o d at
-    node_decided conjunction ts k o s l d at within = gate_settled conjunction ts tt o d at
-    node_decided disjunction ts k o s l d at within = gate_settled disjunction ts tt o d at
-    node_decided exclusion (terms t (terms u no_terms)) k o s l d at within = gate_settled exclusion (terms t (terms u no_terms)) tt o d at
-    node_decided equality (terms t (terms u no_terms)) k o s l d at within = equality_decided t u s.0 o.0 o.1 d at
-    node_decided less (terms t (terms u no_terms)) k o s l d at within =
+        → AreDecided ts → Contains parts (apply h ts) → IsDecided (apply h ts)
+    node_decided (constant c) no_terms k o s l d at = constant_decided c at
+    node_decided (integer n) no_terms k o s l d at = constant-worth number v (whole (pos n))
+    node_decided (decimal_number n places) no_terms k o s l d at = constant-worth number v (decimal_value n places)
+    node_decided verum no_terms k o s l d at = gate_settled verum no_terms tt tt tt at
+    node_decided falsum no_terms k o s l d at = gate_settled falsum no_terms tt tt tt at
+    node_decided negation (terms t no_terms) k o s l d at = gate_settled negation (terms t no_terms) tt o d at
+    node_decided conjunction ts k o s l d at = gate_settled conjunction ts tt o d at
+    node_decided disjunction ts k o s l d at = gate_settled disjunction ts tt o d at
+    node_decided exclusion (terms t (terms u no_terms)) k o s l d at = gate_settled exclusion (terms t (terms u no_terms)) tt o d at
+    node_decided equality (terms t (terms u no_terms)) k o s l d at = equality_decided t u s.0 o.0 o.1 d at
+    node_decided less (terms t (terms u no_terms)) k o s l d at =
         less_settled t u (decided_as t false o.0 d.0) (decided_as u false o.1.0 d.1.0) (links_said (apply less (terms t (terms u no_terms))) at)
-    node_decided at_most (terms t (terms u no_terms)) k o s l d at within =
+    node_decided at_most (terms t (terms u no_terms)) k o s l d at =
         at_most_settled t u (decided_as t false o.0 d.0) (decided_as u false o.1.0 d.1.0) (links_said (apply at_most (terms t (terms u no_terms))) at)
-    node_decided (choice bool_sort) (terms c (terms t (terms u no_terms))) k o s l d at within =
+    node_decided (choice bool_sort) (terms c (terms t (terms u no_terms))) k o s l d at =
         gate_settled (choice bool_sort) (terms c (terms t (terms u no_terms))) tt o d at
-    node_decided (choice real_sort) (terms c (terms t (terms u no_terms))) k o s l d at within =
-        let known = m.known c (within c (Contains-append_left (post_order c) (post_orders (terms t (terms u no_terms))) c (own_term c))) o.0 in
-        choice_has_worth c t u (decided_as c true o.0 d.0) (decided_as t false o.1.0 d.1.0) (decided_as u false o.1.1.0 d.1.1.0) known.0 known.1
+    node_decided (choice real_sort) (terms c (terms t (terms u no_terms))) k o s l d at =
+        choice_has_worth c t u (decided_as c true o.0 d.0) (decided_as t false o.1.0 d.1.0) (decided_as u false o.1.1.0 d.1.1.0) (truths c) refl
         (units_said (apply (choice real_sort) (terms c (terms t (terms u no_terms)))) at)
-    node_decided (sum n) ts k o s l d at within = over_number n (apply (sum n) ts) (arithmetic_has_worth (sum n) ts o d l tt)
-    node_decided (difference n) ts k o s l d at within = over_number n (apply (difference n) ts) (arithmetic_has_worth (difference n) ts o d l tt)
-    node_decided (product n) ts k o s l d at within = over_number n (apply (product n) ts) (arithmetic_has_worth (product n) ts o d l tt)
-    node_decided quotient ts k o s l d at within = arithmetic_has_worth quotient ts o d l tt
-    node_decided to_real (terms t no_terms) k o s l d at within = arithmetic_has_worth to_real (terms t no_terms) o d l tt
-    node_decided h ts k o s l d at within = absurd k
+    node_decided (sum n) ts k o s l d at = over_number n (apply (sum n) ts) (arithmetic_has_worth (sum n) ts o d l tt)
+    node_decided (difference n) ts k o s l d at = over_number n (apply (difference n) ts) (arithmetic_has_worth (difference n) ts o d l tt)
+    node_decided (product n) ts k o s l d at = over_number n (apply (product n) ts) (arithmetic_has_worth (product n) ts o d l tt)
+    node_decided quotient ts k o s l d at = arithmetic_has_worth quotient ts o d l tt
+    node_decided to_real (terms t no_terms) k o s l d at = arithmetic_has_worth to_real (terms t no_terms) o d l tt
+    node_decided h ts k o s l d at = absurd k
 
     mutual
       decided : (t : Term) → IsWellSorted [] t → is_linear t ≡ true → HasTakenHeads t → AreParts (post_order t) → IsDecided t
@@ -278,7 +296,7 @@ module _ (number : Numbering) (a : Assignment) (truths : Term → Option Bool) (
           let linear = and_parts (is_linear_node h (constant_values ts)) (are_linear ts) l in
           let arguments : AreParts (post_orders ts) = λ u at. within u (Contains-append_left (post_orders ts) (apply h ts ∷ []) u at) in
           node_decided h ts k.0 (operands_are h ts s.0) s.1 linear.0 (all_decided ts s.1 linear.1 k.1 arguments)
-          (within (apply h ts) (own_term (apply h ts))) arguments
+          (within (apply h ts) (own_term (apply h ts)))
 
       all_decided : (ts : Terms) → AreWellSorted [] ts → are_linear ts ≡ true → HaveTakenHeads ts → AreParts (post_orders ts) → AreDecided ts
       all_decided no_terms s l k within = tt

@@ -24,7 +24,7 @@ use Rattle.nz_spec.specs.simplex.LiteralBounds.{moved_by}
 use Rattle.nz_spec.specs.search.Search.{Search, at_first, no_point, position_of}
 use Rattle.nz_spec.specs.search.Atoms.{IsBoundOf, HasUnit, WasTold}
 use Rattle.nz_spec.specs.search.Legal.{after_lines, Lead, AreLegal}
-use Rattle.nz_spec.specs.search.Places.{IsPairOf, IsChosen, IsConstantAt, IsNoForm, IsModelAt, AreAllTold}
+use Rattle.nz_spec.specs.search.Places.{IsPairOf, IsChosen, IsConstantAt, IsNoForm, IsModelAt, AreDecidedTold}
 use Rattle.nz_spec.specs.clauses.Farkas.{is_linear_literal}
 use Rattle.nz_spec.specs.worked.TermSamples.{x_constant, x_term, numeral_term}
 use Rattle.nz_spec.specs.worked.WorkedArithmetic.{sample_order, x_from_one}
@@ -226,10 +226,8 @@ one_is_model = record {
 
 -- ---- The place
 
-all_told : AreAllTold great_search
-unfolding denominator fraction_lt neg_ℚ
-all_told =
-    All-cons (λ (l : Literal). IsTrue (is_linear_literal l) → HasUnit l → WasTold great_search l) x_from_one [] (λ linear unit. (x_from_one, say_itself x_from_one, true, false, has_first x_from_one [])) (All-nil _)
+decided_told : AreDecidedTold great_search
+decided_told = All-nil _
 
 pub great_worth : HasGreatWorth
 unfolding gcd_within gcd lcm denominator neg_ℚ is_wide_sum is_wide first_wide legal
@@ -237,6 +235,6 @@ great_worth = record {
   within = omega arith;
   legal = legal;
   leaves = record { left = one_is_number; right = largest_is_number; wide = refl };
-  due = all_told;
+  due = decided_told;
   at = record { listed = (5, omega arith, refl); model = one_is_model; of = inl refl };
 }

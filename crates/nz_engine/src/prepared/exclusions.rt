@@ -22,7 +22,8 @@ fn ids_of(alloc: Global, held: &[Held]) -> Result<Vec<ClauseId>, Memory>
     Ok(ids)
 }
 
-/// Adds the clauses for neighbouring bounds among these atoms, of which the theory has learned, and holds them. Two whose clause is held get none.
+/// Adds the clauses for neighbouring bounds among these atoms, of which the theory has learned, and holds them as redundant ones. Two whose clause is
+/// held get none.
 pub(super) fn exclude(
     alloc: Global,
     sat: &mut Sat<Reals>,
@@ -39,5 +40,5 @@ pub(super) fn exclude(
     }
     let held = ids_of(alloc, sat.clauses())?;
     let exclusions = sat.theory.exclusions(log, atoms, &held)?;
-    hold(sat, log, &exclusions)
+    hold(sat, log, &exclusions, true)
 }

@@ -37,7 +37,7 @@ fn middle_learned(held: &[Held]) -> Option<ClauseId> {
     }
     let mut left = learned / 2;
     for one in held {
-        if one.is_learned {
+        if one.glue > 0 {
             if left == 0 {
                 return Some(one.id);
             }
@@ -51,7 +51,7 @@ fn middle_learned(held: &[Held]) -> Option<ClauseId> {
 fn learned_count(held: &[Held]) -> usize {
     let mut count: usize = 0;
     for one in held {
-        if one.is_learned {
+        if one.glue > 0 {
             count = count.saturating_add(1);
         }
     }

@@ -27,7 +27,7 @@ use Rattle.nz_spec.specs.clauses.Goals.{Goal}
 use Rattle.nz_spec.specs.clauses.Wishes.{Wish, Group, cost_of, wish_joined, wishes_form, wishes_goal, penalty}
 use Rattle.nz_spec.specs.search.Work.{WorkLine, NoteLine, WorkList, unit_count}
 use Rattle.nz_spec.specs.search.Notes.{Note, form_note, goal_note, Site, term_site, goal_site, joining_site, exchange_site, value_site, sum_site, cut_site, tight_site, split_site, move_site, limit_site, model_site, worth_site, line_site, goal_line_site, scaling_site, Place}
-use Rattle.nz_spec.specs.search.Search.{Task, Found, Search, at_first, no_point, told_literals, position_of, HasWorth, IsHeld}
+use Rattle.nz_spec.specs.search.Search.{Task, Found, Search, at_first, no_point, literals_by, told_literals, position_of, HasWorth, IsHeld}
 use Rattle.nz_spec.specs.search.Atoms.{AreOfRow, HasUnit, WasTold}
 use Rattle.nz_spec.specs.search.Beginnings.{IsComparison}
 use Rattle.nz_spec.specs.search.Legal.{after_lines, Lead, IsExchange, AreLegal}
@@ -372,18 +372,19 @@ EndWithForm lines = (front : List (WorkLine Note)) × (((atom : ℕ) × (lines �
 abbrev pub AreToldOf : Search → List Literal → Type 0
 AreToldOf s ls = All (λ (l : Literal). IsTrue (is_linear_literal l) → HasUnit l → WasTold s l) ls
 
--- so was every atom
-abbrev pub AreAllTold : Search → Type 0
-AreAllTold s = AreToldOf s s.atoms
+-- so was each atom that was decided
+abbrev pub AreDecidedTold : Search → Type 0
+AreDecidedTold s = AreToldOf s (literals_by s.atoms s.decided)
 
 -- When a computation is made: the row of a form just after the form's line, an exchange where it may be the next line, a model's fraction and values once every
--- bound that is true was told, and lines that begin in this list once every bound was told under which a climb goes.
+-- bound that was decided was told (those that are left open bound nothing), and lines that begin in this list once every bound was told under which a climb
+-- goes.
 abbrev pub IsDue : Task → List (WorkLine Note) → Search → Point → Site → Type 0
 IsDue q lines s x joining_site = EndWithForm lines
 IsDue q lines s x (exchange_site leaves enters) = (y : Point) × IsExchange q s x y leaves enters
-IsDue q lines s x (limit_site form side) = AreAllTold s
-IsDue q lines s x (model_site form) = AreAllTold s
-IsDue q lines s x (worth_site t bs) = AreAllTold s
+IsDue q lines s x (limit_site form side) = AreDecidedTold s
+IsDue q lines s x (model_site form) = AreDecidedTold s
+IsDue q lines s x (worth_site t bs) = AreDecidedTold s
 IsDue q lines s x (line_site t f) = AreToldOf s s.under × Begins q lines s x f
 IsDue q lines s x (goal_line_site goal f) = AreToldOf s s.under × Begins q lines s x f
 IsDue q lines s x (scaling_site forms moves) = AreToldOf s s.under

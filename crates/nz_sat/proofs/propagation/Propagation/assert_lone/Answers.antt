@@ -10,7 +10,7 @@ use Rattle.nz_sat.proofs.WatchedTrails.{true_on}
 use Rattle.nz_sat.proofs.propagation.Propagation.assert_lone.Goals as goal
 
 abbrev blank : Held
-blank = record { id = 0; level = 0; is_learned = false; glue = 0 }
+blank = record { id = 0; level = 0; is_redundant = false; glue = 0 }
 
 -- the number of the clause that is next
 number : (held items : List Held) (i : ℕ) → items ≡ held → i < length held → get_or (map (λ (h : Held). h.id) held) i 0 ≡ (get_or items i blank).id

@@ -15,7 +15,7 @@ use Rattle.nz_sat.specs.Watched.{HoldsWatched, IsKept}
 use Rattle.nz_sat.proofs.KeptClauses.{kept_now, run_holds}
 use Rattle.nz_sat.proofs.SearchSteps.{advances_same}
 use Rattle.nz_sat.proofs.SearchLines.{adds_noted, adds_same, adds_within}
-use Rattle.nz_sat.proofs.StartsAndEnds.{all_told, ends_later, first_noted, run_ends, run_learned, run_named, run_sound, satisfied, theory_met}
+use Rattle.nz_sat.proofs.StartsAndEnds.{decided_told, ends_later, first_noted, run_ends, run_learned, run_named, run_sound, satisfied, theory_met}
 use Rattle.nz_sat.proofs.sat.Sat.solve.Goals as goal
 
 pub new-requires-clause-named : goal.new-requires-clause-named
@@ -40,7 +40,7 @@ invariant_of-self g c =
 pub returns-in_err-search-clause-held : goal.returns-in_err-search-clause-held
 returns-in_err-search-clause-held g c =
     let same = ap (λ (s : SatState g.row.T.Denot). s.clauses) c.self.view_is in
-    record { learned = []; joined = same ∙ sym (append-nil c.args.self.now.clauses); are_learned = All-nil (λ (h : Held). h.is_learned ≡ true); held = subst (AreHeld c.args.log.now) (sym same) c.requires.held }
+    record { learned = []; joined = same ∙ sym (append-nil c.args.self.now.clauses); are_redundant = All-nil (λ (h : Held). h.is_redundant ≡ true); held = subst (AreHeld c.args.log.now) (sym same) c.requires.held }
 
 pub returns-in_err-search-clause-named : goal.returns-in_err-search-clause-named
 returns-in_err-search-clause-named g c =
@@ -183,9 +183,9 @@ returns-clause-feasible g c none =
     theory_met (state_of g.T.Theory.is_over g.T.Theory.has_told g.T.Theory.is_feasible g.T.Theory.is_of g.T.Theory.is_at c.run-refuted.new.theory) log c.run-refuted.new.held.items s _ atoms holds.search same
     (c.in_ok-self-inside.ensures.truths none) met
 
-pub returns-clause-all_told : goal.returns-clause-all_told
-returns-clause-all_told g c none =
-    all_told (state_of g.T.Theory.is_over g.T.Theory.has_told g.T.Theory.is_feasible g.T.Theory.is_of g.T.Theory.is_at c.run-refuted.new.theory) c.run-refuted.new.log c.run-refuted.new.held.items
+pub returns-clause-decided_told : goal.returns-clause-decided_told
+returns-clause-decided_told g c none =
+    decided_told (state_of g.T.Theory.is_over g.T.Theory.has_told g.T.Theory.is_feasible g.T.Theory.is_of g.T.Theory.is_at c.run-refuted.new.theory) c.run-refuted.new.log c.run-refuted.new.held.items
     c.args.assumed.now c.in_ok-search.search.atoms c.run-refuted.new.self c.run-refuted.new.work (c.in_ok-refuted.ensures.satisfied none) (c.in_ok-refuted.ensures.steps.met none)
 
 -- the clauses that are held are kept

@@ -20,7 +20,7 @@ use Rattle.nz_sat.specs.Sats.{AreHeld, ids}
 use Rattle.nz_sat.proofs.search.Search.new.Goals as goal
 
 abbrev blank : Held
-blank = record { id = 0; level = 0; is_learned = false; glue = 0 }
+blank = record { id = 0; level = 0; is_redundant = false; glue = 0 }
 
 -- a clause is over the atoms
 usable : (log : LogState) (held : List Held) (atoms us : List ℕ) (size : ℕ) → AreHeld log held → All (λ (h : Held). All (λ (l : Lit). Contains atoms l.atom) (literals_at log h.id)) held

@@ -2,14 +2,15 @@
 use Rattle.std.proofs.Common.{◌≡◌, ℕ, Err, List, Ok, Option, None, length, ap, sym, subst, arith, rules, All, IfSome}
 use Rattle.nz_log.specs.declared.lits.Lit.{Lit}
 use Rattle.nz_log.specs.Logs.{IsLive, literals_at}
+use Rattle.nz_sat.specs.declared.clauses.Held.{Held}
 use Rattle.nz_sat.specs.declared.search.Search.{Search}
 use Rattle.nz_sat.specs.Clauses.{IsAssumed}
 use Rattle.nz_sat.specs.Conflicts.{Refutes}
+use Rattle.nz_sat.specs.Searching.{HaveTrue, IsSearch}
 use Rattle.nz_sat.specs.Theories.{IsMet, state_of, told_lits}
 use Rattle.nz_sat.proofs.SearchSteps.{advances_same, steps_same}
 use Rattle.nz_sat.proofs.SearchLines.{adds_limit}
 use Rattle.nz_sat.proofs.SearchRuns.{run_advances, run_steps, runs_on, runs_ordered}
-use Rattle.nz_sat.proofs.WatchedTrails.{all_open}
 use Rattle.nz_sat.proofs.search.Search.run.Goals as goal
 
 pub loop-atom-init : goal.loop-atom-init
@@ -20,6 +21,9 @@ loop-atom-init g c =
       runs = c.in_ok-refuted.ensures.runs none;
       met = c.in_ok-refuted.ensures.steps.met none;
     }
+
+pub next-requires-clause-search : goal.next-requires-clause-search
+next-requires-clause-search g c = subst (λ (hs : List Held). IsSearch c.loop-atom.log hs c.loop-atom.self) (sym c.deref.ensures.value) c.loop-atom.invariant.runs.search
 
 pub turn-requires-clause-search : goal.turn-requires-clause-search
 turn-requires-clause-search g c = (runs_ordered c.loop-atom.invariant.runs c.next.ensures.rest).search
@@ -91,4 +95,4 @@ pub returns-clause-satisfied : goal.returns-clause-satisfied
 returns-clause-satisfied g c =
     let h = runs_ordered c.loop-atom.invariant.runs c.next.ensures.rest in
     let none : c.next.result ≡ None = search rules in
-    λ told. record { search = h.search; all_open = all_open c.loop-atom.log c.loop-atom.held.items c.next.new.self h.search h.ready; same = h.same; hold = h.hold; all_decided = c.next.ensures.none none; noted = h.noted }
+    λ told. record { search = h.search; same = h.same; hold = h.hold; have_true = subst (λ (hs : List Held). HaveTrue c.loop-atom.log hs c.next.new.self.trail.entries) c.deref.ensures.value (c.next.ensures.none none); noted = h.noted }
