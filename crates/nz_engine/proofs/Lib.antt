@@ -17,6 +17,7 @@ pub mod ModelSoundness
 pub mod MoreAtoms
 pub mod NamedAtoms
 pub mod NamedTerms
+pub mod NeededRows
 pub mod NumbersBelow
 pub mod Onces
 pub mod PartsNamed

@@ -1,5 +1,5 @@
 -- What a search found makes true what is asserted and assumed, by the laws of the tables.
-use Rattle.std.proofs.Common.{◌≡◌, ℕ, zero, suc, ◌<◌, Bool, true, false, true≢false, List, [], ◌∷◌, ◌++◌, length, map, get_or, Option, Some, None, option_map, refl, sym, ap, subst, ◌∙◌, arith}
+use Rattle.std.proofs.Common.{◌≡◌, ℕ, zero, suc, ◌<◌, Bool, true, false, true≢false, List, [], ◌∷◌, ◌++◌, length, map, get_or, Option, Some, None, inl, inr, option_map, refl, sym, ap, subst, ◌∙◌, arith}
 use Rattle.std.specs.Prelude.{All, Contains, IsSome, flat_map, slice_get, unwrap_or, if◌then◌else◌}
 use Rattle.std.specs.List.{AllByRecursion}
 use Rattle.std.proofs.lemmas.Option.{slice_get-get_or}
@@ -22,23 +22,27 @@ use Rattle.nz_spec.specs.terms.Term.{Sort, bool_sort, int_sort, real_sort, is_in
 use Rattle.nz_log.specs.declared.atoms.Atom.{Atom}
 use Rattle.nz_log.specs.declared.atoms.Atom.TheVariants as atoms
 use Rattle.nz_log.specs.declared.lits.Lit.{Lit}
+use Rattle.nz_log.specs.declared.origins.Subject.TheVariants.{Itself, Truth}
 use Rattle.nz_term.specs.declared.term_lits.TermLit.{TermLit}
 use Rattle.nz_log.specs.Atoms.{AtomsOfTerms, HasTerm, literal_in, lit_of, lits_of, term_place, with_sign}
 use Rattle.nz_log.specs.Logs.{literals_at}
 use Rattle.nz_term.specs.TermLits.{literal_of}
-use Rattle.nz_cform.specs.Covering.{HasCovered, kids_at}
+use Rattle.nz_cform.specs.Covering.{HasCovered, IsRowAt, kids_at}
 use Rattle.nz_cform.specs.Forms.{IsCoveredWithin, covered_at}
-use Rattle.nz_cform.specs.Laws.{MeetsRows, RowsMeetTables}
+use Rattle.nz_cform.specs.Laws.{IsAsked, MeetsRows, RowsMeetTables}
 use Rattle.nz_reals.specs.Chosen.{HasWorths}
 use Rattle.nz_reals.specs.State.{told_lits}
 use Rattle.nz_sat.specs.declared.clauses.Held.{Held}
-use Rattle.nz_sat.specs.Sats.{IsTrueClause, IsTrueLit, held_of, truth_of}
+use Rattle.nz_sat.specs.declared.clauses.Need.{Need}
+use Rattle.nz_sat.specs.declared.clauses.Need.TheVariants.{Always, Never, Of}
+use Rattle.nz_sat.specs.Sats.{IsNeeded, IsTrueClause, IsTrueLit, added_as, truth_of}
 use Rattle.nz_search.specs.Levels.{Level, added_by_level, asserted_by_level}
 use Rattle.nz_engine.specs.Checking.{HasCoveredWorths, HasFound, IsPosed, truth_in, value_at}
-use Rattle.nz_engine.specs.Preparing.{PreparedState, HoldsUnit, IsOfForm, IsPrepared, IsSearched, atoms_of, boolean_terms, unit_of}
+use Rattle.nz_engine.specs.Preparing.{PreparedState, HoldsUnit, IsOfForm, IsPrepared, IsSearched, MayNeed, atoms_of, boolean_terms, unit_of}
 use Rattle.nz_engine.proofs.LevelPreservation.{some_of, some_within}
 use Rattle.nz_engine.proofs.ConstantValues.{constant_values, is_assignment, listed_behind, listed_first, listed_truth, no_truth}
 use Rattle.nz_engine.proofs.Onces.{boolean_there}
+use Rattle.nz_engine.proofs.NeededRows.{about_term, subject_is}
 use Rattle.nz_engine.proofs.NamedTerms.{all_named}
 use Rattle.nz_engine.proofs.PartsNamed.{unit_covered}
 use Rattle.nz_engine.proofs.ClausePreservation.{literal_at_atom}
@@ -136,8 +140,8 @@ module _ (rows_meet : RowsMeetTables) (decides : TablesDecide) (numbers : TermHa
 
   -- ---- Rows
 
-  true_clause : (h : Held) → Contains p.sat.clauses h → h.is_redundant ≡ false → IsTrueClause p.sat (literals_at p.log h.id)
-  true_clause h has needed = All-contains (λ (x : Held). x.is_redundant ≡ false → IsTrueClause p.sat (literals_at p.log x.id)) p.sat.clauses h found.truths.clauses has needed
+  true_clause : (h : Held) → Contains p.sat.clauses h → IsNeeded (truth_of p.sat) h.need → IsTrueClause p.sat (literals_at p.log h.id)
+  true_clause h has needed = All-contains (λ (x : Held). IsNeeded (truth_of p.sat) x.need → IsTrueClause p.sat (literals_at p.log x.id)) p.sat.clauses h found.truths.clauses has needed
 
   signed_term : (u : Term) (sign : Bool) → truths u ≡ Some sign → IsMet truths worths (with_sign sign (term_literal u true))
   signed_term u true h = h
@@ -162,11 +166,33 @@ module _ (rows_meet : RowsMeetTables) (decides : TablesDecide) (numbers : TermHa
           let told : Contains (told_lits p.sat.theory) l = subst (λ (ls : List Lit). Contains ls l) (sym found.bounds.told) (found.bounds.all l has (b, at) holds) in
           adds.met truths p.log.atoms p.noted found.forms found.told found.point found.of found.at l told has b at
 
+  -- where a term has a truth, so has its atom
+  truth_of_atom : (t a : ℕ) (sign : Bool) → IsSome (covered_at p.form t) → slice_get p.log.atoms a ≡ Some (atoms.Term t) → truths (term_in ns t) ≡ Some sign → IsSome (truth_of p.sat a)
+  truth_of_atom t a sign some at has = by_sort (is_boolean_term (term_in ns t)) refl
+    where
+      by_sort : (b : Bool) → is_boolean_term (term_in ns t) ≡ b → IsSome (truth_of p.sat a)
+      by_sort false boolean = let none : None ≡ Some sign = sym (ap (λ (b : Bool). if b then truth_in p (number_in ns (term_in ns t)) else None) boolean) ∙ has in absurd cc
+      by_sort true boolean =
+          let here : HasTerm p.log.atoms t = own.there p.log.atoms a t at in
+          let known : truth_in p t ≡ Some sign = sym (truth_is t (covered_within t some) boolean) ∙ has in
+          let place : a ≡ term_place p.log.atoms t = own.one p.log.atoms ready.order.atoms a t at in
+          subst (λ (o : Option Bool). IsSome o) (sym (ap (truth_of p.sat) place ∙ sym (truth_there p t here) ∙ known)) refl
+
+  -- a row that has to be met needs a true literal
+  row_needed : (i t : ℕ) (row : IsRowAt p.log i t) → IsAsked truths (term_in ns t) row.0 → (need : Need) → MayNeed p.log i need → IsNeeded (truth_of p.sat) need
+  row_needed i t row asked Always may = tt
+  row_needed i t row (inl itself) (Of a) may = let both : Itself ≡ Truth may.0 = sym itself ∙ sym (subject_is p.log i row.0 row.1) ∙ may.1 in absurd cc
+  row_needed i t row (inr has) (Of a) may =
+      let some : IsSome (covered_at p.form t) = subst (λ (o : Option ℕ). IsSome o) (sym (ready.covers.rows.of_covered i t row)) refl in
+      let about : t ≡ may.0 = about_term row.0 t may.0 row.2 (sym (subject_is p.log i row.0 row.1) ∙ may.1) in
+      truth_of_atom t a has.0 some (may.2 ∙ ap (λ (u : ℕ). Some (atoms.Term u)) (sym about)) has.1
+  row_needed i t row asked Never may = absurd may
+
   rows_met : MeetsRows ns p.log truths worths
-  rows_met i t row =
+  rows_met i t row asked =
       let held = ready.rows i t row in
-      let one_true = true_clause (held_of p.log i) held refl in
-      let each = All-contains (λ (x : Held). All (λ (l : Lit). IsSearched ns p.log p.form l.atom) (literals_at p.log x.id)) p.sat.clauses (held_of p.log i) ready.searched held in
+      let one_true = true_clause (added_as held.need p.log i) held.has (row_needed i t row asked held.need held.may) in
+      let each = All-contains (λ (x : Held). All (λ (l : Lit). IsSearched ns p.log p.form l.atom) (literals_at p.log x.id)) p.sat.clauses (added_as held.need p.log i) ready.searched held.has in
       let s = All-contains (λ (l : Lit). IsSearched ns p.log p.form l.atom) (literals_at p.log i) one_true.0 each one_true.1 in
       (one_true.0, one_true.1, lit_met one_true.0 s one_true.2)
 
@@ -276,7 +302,7 @@ module _ (rows_meet : RowsMeetTables) (decides : TablesDecide) (numbers : TermHa
       let t : ℕ = get_or (asserted_numbers (asserted_by_level levels)) k d in
       let all = posed.all.given in
       let u : HoldsUnit (asserted_by_level levels) p k t = ready.units k t (omega (arith, below, all)) (slice_get-get_or (asserted_numbers (asserted_by_level levels)) k d below) in
-      let one_true = subst (IsTrueClause p.sat) u.literals (true_clause u.held u.there u.added) in
+      let one_true = subst (IsTrueClause p.sat) u.literals (true_clause u.held u.there (subst (IsNeeded (truth_of p.sat)) (sym u.need) tt)) in
       let P = λ (x : Lit). IsTrueLit p.sat x → truth_of p.sat (term_place p.log.atoms t) ≡ Some true in
       let holds : truth_of p.sat (term_place p.log.atoms t) ≡ Some true = All-contains P (unit_of p.log t) one_true.0 (All-from_recursion P (unit_of p.log t) ((λ e. e), tt)) one_true.1 one_true.2 in
       let of = unit_covered ready k t u in

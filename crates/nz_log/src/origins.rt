@@ -42,6 +42,17 @@ pub enum Origin {
     Chain(ClauseId, Vec<Link>),
 }
 
+/// What a clause is about.
+#[derive(Clone, Copy, Debug, PartialEq, Eq)]
+pub enum Subject {
+    /// The truth of this term, of which it says what follows: it is one of the term's gate or links.
+    Truth(TermId),
+    /// It has to be true as it is: an assertion, or one that says what a unit is.
+    Itself,
+    /// It follows from others, or from arithmetic.
+    Derived,
+}
+
 /// A clause as a log holds it.
 #[derive(Debug, Drop)]
 pub struct Stored {

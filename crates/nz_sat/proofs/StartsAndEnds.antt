@@ -28,15 +28,17 @@ use Rattle.nz_search.specs.Notes.{noted_line, noted_list}
 use Rattle.nz_search.specs.Standing.{Ends, Standing, Stands, search_after}
 use Rattle.nz_search.specs.Theories.{IsBoundIn}
 use Rattle.nz_sat.specs.declared.clauses.Held.{Held}
+use Rattle.nz_sat.specs.declared.clauses.Need.{Need}
+use Rattle.nz_sat.specs.declared.clauses.Need.TheVariants.{Always, Never, Of}
 use Rattle.nz_sat.specs.declared.search.Search.{Search}
 use Rattle.nz_sat.specs.declared.trail.Assigned.{Assigned}
 use Rattle.nz_sat.specs.Clauses.{HasTrue}
 use Rattle.nz_sat.specs.Conflicts.{is_marked}
 use Rattle.nz_sat.specs.Numbers.{AreNotedIn, atom_literal, noted_atoms, numbered}
-use Rattle.nz_sat.specs.Sats.{AreConsistent, AreOn, HasBegun, HoldsLearned, IsAsked, IsSatisfied, IsTheoryMet, IsTrueClause, IsTrueLit, SatState}
+use Rattle.nz_sat.specs.Sats.{AreConsistent, AreOn, HasBegun, HoldsLearned, IsAsked, IsNeeded, IsSatisfied, IsTheoryMet, IsTrueClause, IsTrueLit, SatState}
 use Rattle.nz_sat.specs.Searching.{Advances, IsNoted, IsSearch, Satisfies, StaysInOrder, assumed_entries}
 use Rattle.nz_sat.specs.Theories.{IsMet, TellsTrail, TheoryState, bounds_on, told_literal, told_lits, told_on}
-use Rattle.nz_sat.specs.Trails.{AreTruthsOn, EachBehind, IsNext, IsTrueOn, is_decision}
+use Rattle.nz_sat.specs.Trails.{AreTruthsOn, EachBehind, IsNext, IsTrueOn, is_decision, truth_on}
 use Rattle.nz_sat.proofs.AssumedLiterals.{assumed_first, true_among}
 use Rattle.nz_sat.proofs.Chains.{filter_from, filter_has}
 use Rattle.nz_sat.proofs.LearnedClauses.{all_from}
@@ -122,17 +124,23 @@ ends_later A IsAt ns q work x s = (s.point, s.legal)
 
 -- ---- At the end
 
+-- what is needed by truths is needed by the same truths
+needed_by : (truth other : ℕ → Option Bool) → ((t : ℕ) → truth t ≡ other t) → (n : Need) → IsNeeded truth n → IsNeeded other n
+needed_by truth other same Always h = tt
+needed_by truth other same (Of t) h = subst IsSome (same t) h
+needed_by truth other same Never h = h
+
 -- what holds on the trail is what the truths say
 pub satisfied : {T : Type 0} → (log : LogState) (held : List Held) (assumed : List Lit) (atoms : List ℕ) (s : Search) (work : WorkList Note) (t : SatState T) → t.clauses ≡ held
     → AreTruthsOn s.trail.entries t.truths → Satisfies log held assumed atoms s work → IsSatisfied log t assumed
 satisfied log held assumed atoms s work t same truths h =
     let es = s.trail.entries in
     let is_true : (l : Lit) → IsTrueOn es l → IsTrueLit t l = λ l on. truths l.atom ∙ on in
-    let Truly : Held → Type 0 = λ x. x.is_redundant ≡ false → IsTrueClause t (literals_at log x.id) in
+    let Truly : Held → Type 0 = λ x. IsNeeded (truth_of t) x.need → IsTrueClause t (literals_at log x.id) in
     record {
       clauses = All-same Truly t.clauses held same
-          (All-weaker (λ (x : Held). x.is_redundant ≡ false → HasTrue es (literals_at log x.id)) Truly
-          (λ x has needed. let one = has needed in (one.literal, one.has, is_true one.literal one.holds)) held h.have_true);
+          (All-weaker (λ (x : Held). IsNeeded (truth_on es) x.need → HasTrue es (literals_at log x.id)) Truly
+          (λ x has needed. let one = has (needed_by (truth_of t) (truth_on es) truths x.need needed) in (one.literal, one.has, is_true one.literal one.holds)) held h.have_true);
       assumed_hold = λ k d inside.
           let l = get_or assumed k d in
           is_true l (below_true s.trail.size es h.search.on.order 0 l.atom l.sign (h.hold k d inside));

@@ -30,11 +30,11 @@ module _ (truths : Term → Option Bool) (v : Valuation) where
   abbrev pub HasMetLiteral : Clause → Type 0
   HasMetLiteral c = (l : Literal) × Contains c l × IsMet l
 
-  -- Each clause of these terms has a literal that is met, though some terms may have no truth; their units of sort Int are worth integers, and the
-  -- assignment gives the constants among them their truths and numbers.
+  -- Of these terms each that has a truth meets its gates and links: each of these clauses has a literal that is met; and so do the clauses of all units. Units
+  -- of sort Int are worth integers, and the assignment gives the constants among the terms their truths and numbers.
   pub record MeetsTables (number : Numbering) (a : Assignment) (parts : List Term) : Type 0 where
-    pub gates : (u : Term) → Contains parts u → AllByRecursion HasMetLiteral (gate_clauses u)
-    pub links : (u : Term) → Contains parts u → AllByRecursion (λ (c : Computation Clause). HasMetLiteral c.result) (link_clauses number u)
+    pub gates : (u : Term) (sign : Bool) → Contains parts u → truths u ≡ Some sign → AllByRecursion HasMetLiteral (gate_clauses u)
+    pub links : (u : Term) (sign : Bool) → Contains parts u → truths u ≡ Some sign → AllByRecursion (λ (c : Computation Clause). HasMetLiteral c.result) (link_clauses number u)
     pub units : (u : Term) → Contains parts u → AllByRecursion (λ (c : Computation Clause). HasMetLiteral c.result) (unit_clauses number u)
     pub constants : (c : Constant) (sign : Bool) → Contains parts (apply (constant c) no_terms) → truths (apply (constant c) no_terms) ≡ Some sign → a c ≡ truth sign
     pub numbers : (c : Constant) → Contains parts (apply (constant c) no_terms) → is_boolean_term (apply (constant c) no_terms) ≡ false
