@@ -22,7 +22,7 @@ use Rattle.nz_rows.specs.GateRows.{gates_at}
 use Rattle.nz_term.specs.TermLits.{clause_of_terms, literal_of}
 use Rattle.nz_cform.specs.Covering.{Covers, HasCovered, IsRowAt, kids_at, HasClause, table_axiom, table_clauses}
 use Rattle.nz_cform.specs.Forms.{FormState, covered_at, IsCoveredWithin}
-use Rattle.nz_cform.specs.Laws.{RowsNameCovered, MeetsClauses, MeetsRows, RowsMeetTables}
+use Rattle.nz_cform.specs.Laws.{IsAsked, RowsNameCovered, MeetsRows, RowsMeetTables}
 use Rattle.nz_lists.proofs.Once.{each_once, once_from}
 use Rattle.nz_cform.proofs.Kept.{some_entry}
 use Rattle.nz_cform.proofs.Levels.{covered_within, level_of}
@@ -32,7 +32,7 @@ use Rattle.nz_cform.proofs.RowNames.{AreNamed, Named, each_row_within}
 use Rattle.std.proofs.lemmas.List.{length-map}
 use Rattle.nz_spec.specs.simplex.Basis.{Valuation}
 use Rattle.nz_spec.specs.numbers.Computation.{Computation, at_once, turned_into}
-use Rattle.nz_spec.specs.laws.Deciding.{HasMetLiteral}
+use Rattle.nz_spec.specs.clauses.Met.{HasMetLiteral, MeetsClauses}
 use Rattle.nz_spec.specs.clauses.Links.{link_clauses}
 use Rattle.nz_spec.specs.clauses.Steps.{clause_at}
 use Rattle.nz_spec.specs.clauses.Units.{unit_clauses}
@@ -186,17 +186,17 @@ module _ (node : TermOfNode) (named : GatesAreNamed) (axioms : AxiomsAreTaken) (
   MetResult c = Met c.result
 
   -- a clause of the log that says this one is met
-  row_met : (i t : ℕ) (e : Entry) (c : Clause) → IsRowAt log i t → entry_at log i ≡ Some e → clause_of c ≡ clause_in ns log.atoms e.literals → Met c
-  row_met i t e c row at says =
-      let m = meets i t row in
+  row_met : (i t : ℕ) (e : Entry) (c : Clause) (row : IsRowAt log i t) → IsAsked truths (term_in ns t) row.0 → entry_at log i ≡ Some e → clause_of c ≡ clause_in ns log.atoms e.literals → Met c
+  row_met i t e c row asked at says =
+      let m = meets i t row asked in
       let own = subst (λ (ls : List Lit). Contains ls m.0) (ap (λ o. elim o [ None ↦ [] | Some f ↦ f.literals ]) at) m.1 in
       let there = map_has (literal_in ns log.atoms) e.literals m.0 own in
       (literal_in ns log.atoms m.0, once_from are_same_literal c (literal_in ns log.atoms m.0) (subst (λ (d : Clause). Contains d (literal_in ns log.atoms m.0)) (sym says) there), m.2)
 
   -- of a covered term
   module _ (k n : ℕ) (at : covered_at s k ≡ Some n) where
-    gates_met : AllByRecursion Met (gate_clauses (term_in ns k))
-    gates_met =
+    gates_met : (sign : Bool) → truths (term_in ns k) ≡ Some sign → AllByRecursion Met (gate_clauses (term_in ns k))
+    gates_met sign truth =
         each_place Met (gate_clauses (term_in ns k))
         (λ j c here.
         let same = named ns table k (covers.within k n at) in
@@ -206,39 +206,43 @@ module _ (node : TermOfNode) (named : GatesAreNamed) (axioms : AxiomsAreTaken) (
         let row : IsRowAt log has.0 k = (gate_of k j, ap (option_map (λ (e : Entry). e.origin)) has.1, refl) in
         let made = (order.clauses has.0 _ has.1).made.2 in
         let says : clause_of c ≡ clause_in ns log.atoms _ = same_Some _ _ (sym (ap (option_map clause_of) here) ∙ made) in
-        row_met has.0 k _ c row has.1 says)
+        row_met has.0 k _ c row (inr (sign, truth)) has.1 says)
 
     -- a clause of another table
-    axiom_met : (a : Axiom) (cs : List (Computation Clause)) (j : ℕ) (c : Computation Clause) → slice_get cs j ≡ Some c → row_term (axiom_of a) ≡ Some k → HasClause log (axiom_of a) n
+    axiom_met : (a : Axiom) (cs : List (Computation Clause)) (j : ℕ) (c : Computation Clause) → slice_get cs j ≡ Some c → row_term (axiom_of a) ≡ Some k → IsAsked truths (term_in ns k) (axiom_of a) → HasClause log (axiom_of a) n
         → ((ls : List Lit) → IsAxiom ns log.atoms a ls → (clause_at cs j).result ≡ Some (clause_in ns log.atoms ls)) → MetResult c
-    axiom_met a cs j c here row has taken =
+    axiom_met a cs j c here row asked has taken =
         let e = some_entry (entry_at log has.id) (axiom_of a) has.origin in
         let made : IsAxiom ns log.atoms a e.0.literals = subst (IsMade ns levels log has.id e.0) e.2 (order.clauses has.id e.0 e.1).made in
         let place : (clause_at cs j).result ≡ Some (clause_of c.result) =
         ap (λ (r : Computation (Option Clause)). r.result)
         (ap (λ (o : Option (Computation Clause)). elim o [ None ↦ at_once None | Some d ↦ turned_into (λ b. Some (clause_of b)) d ]) here) in
         let says : clause_of c.result ≡ clause_in ns log.atoms e.0.literals = same_Some _ _ (sym place ∙ taken e.0.literals made) in
-        row_met has.id k e.0 c.result (axiom_of a, has.origin, row) e.1 says
+        row_met has.id k e.0 c.result (axiom_of a, has.origin, row) asked e.1 says
 
-    rows_met : (of : RowTable) → AllByRecursion MetResult (table_clauses of (number_in ns) (term_in ns k))
-    rows_met of =
+    rows_met : (of : RowTable) → ((j : ℕ) → IsAsked truths (term_in ns k) (axiom_of (table_axiom of k j))) → AllByRecursion MetResult (table_clauses of (number_in ns) (term_in ns k))
+    rows_met of asked =
         let cs = table_clauses of (number_in ns) (term_in ns k) in
         each_place MetResult cs
-        (λ j c here. axiom_met (table_axiom of k j) cs j c here (row_of of k j) (covers.rows.rows of k n j at (slice_get_within cs j c here))
+        (λ j c here. axiom_met (table_axiom of k j) cs j c here (row_of of k j) (asked j) (covers.rows.rows of k n j at (slice_get_within cs j c here))
         (λ ls made. at_place of ns log.atoms k j (clause_in ns log.atoms ls) (axioms ns table log.atoms (table_axiom of k j) ls made)))
 
   -- so all that is listed with a covered term meets the tables
-  clauses_met : (t : ℕ) → IsSome (covered_at s t) → MeetsClauses ns truths v t
+  clauses_met : (t : ℕ) → IsSome (covered_at s t) → MeetsClauses truths v (number_in ns) (listing_order (term_in ns t))
   clauses_met t some =
       let n = has_some (covered_at s t) some in
       let part = part_covered node ns table log s covers t n.0 n.1 in
       let level = λ (u : Term) (has : Contains (listing_order (term_in ns t)) u). level_of (covered_at s (part u has).number) n.0 (part u has).covered in
+      let own_truth : (u : Term) (sign : Bool) (has : Contains (listing_order (term_in ns t)) u) → truths u ≡ Some sign → truths (term_in ns (part u has).number) ≡ Some sign =
+      λ u sign has truth. ap truths (part u has).term ∙ truth in
       record {
-        gates = λ u has. subst (λ w. AllByRecursion Met (gate_clauses w)) (part u has).term (gates_met (part u has).number (level u has).0 (level u has).1);
-        links = λ u has.
-            subst (λ w. AllByRecursion MetResult (link_clauses (number_in ns) w)) (part u has).term (rows_met (part u has).number (level u has).0 (level u has).1 Links);
+        gates = λ u sign has truth.
+            subst (λ w. AllByRecursion Met (gate_clauses w)) (part u has).term (gates_met (part u has).number (level u has).0 (level u has).1 sign (own_truth u sign has truth));
+        links = λ u sign has truth.
+            subst (λ w. AllByRecursion MetResult (link_clauses (number_in ns) w)) (part u has).term
+            (rows_met (part u has).number (level u has).0 (level u has).1 Links (λ j. inr (sign, own_truth u sign has truth)));
         units = λ u has.
-            subst (λ w. AllByRecursion MetResult (unit_clauses (number_in ns) w)) (part u has).term (rows_met (part u has).number (level u has).0 (level u has).1 Units);
+            subst (λ w. AllByRecursion MetResult (unit_clauses (number_in ns) w)) (part u has).term (rows_met (part u has).number (level u has).0 (level u has).1 Units (λ j. inl refl));
       }
 
 pub rows_meet_tables : TermOfNode → GatesAreNamed → AxiomsAreTaken → RowsMeetTables

@@ -1,22 +1,17 @@
 -- Laws of covered terms.
-use Rattle.std.specs.Prelude.{◌≡◌, ℕ, Bool, List, ◌++◌, Option, None, Contains, IsSome}
+use Rattle.std.specs.Prelude.{◌≡◌, ◌⊎◌, ℕ, Bool, List, ◌++◌, Option, Some, None, Contains, IsSome}
 use Rattle.nz_spec.specs.simplex.Basis.{Valuation}
-use Rattle.nz_spec.specs.laws.Deciding.{IsMet, HasMetLiteral}
+use Rattle.nz_spec.specs.clauses.Met.{IsMet, MeetsClauses}
 use Rattle.nz_spec.specs.terms.FormOf.{number_in}
-use Rattle.nz_spec.specs.clauses.Gates.{gate_clauses}
-use Rattle.nz_spec.specs.clauses.Links.{link_clauses}
-use Rattle.nz_spec.specs.numbers.Computation.{Computation}
-use Rattle.nz_spec.specs.clauses.Literal.{Clause}
 use Rattle.nz_spec.specs.terms.Order.{listing_order}
 use Rattle.nz_spec.specs.terms.Table.{Node, IsTable, term_in}
 use Rattle.nz_spec.specs.terms.Taken.{IsTaken}
 use Rattle.nz_spec.specs.terms.Term.{Term}
-use Rattle.nz_spec.specs.clauses.Units.{unit_clauses}
-use Rattle.std.specs.List.{AllByRecursion}
 use Rattle.nz_log.specs.declared.lits.Lit.{Lit}
+use Rattle.nz_log.specs.declared.origins.Subject.TheVariants.{Itself}
 use Rattle.nz_log.specs.Atoms.{literal_in}
 use Rattle.nz_log.specs.Leveled.{Names}
-use Rattle.nz_log.specs.Logs.{Entry, LogState, empty_log, level_at, literals_at, JoinsAtoms, Puts, Drops, row_term}
+use Rattle.nz_log.specs.Logs.{Entry, LogState, Origin, empty_log, level_at, literals_at, JoinsAtoms, Puts, Drops, row_term, subject_of}
 use Rattle.nz_log.specs.Sound.{IsLog}
 use Rattle.nz_log.specs.Growth.{Grows}
 use Rattle.nz_cform.specs.Forms.{FormState, covered_at, empty_form, Cuts, IsCoveredWithin}
@@ -41,19 +36,15 @@ RowsNameCovered = (ns : List Node) (levels : List (List ℕ)) (log : LogState) (
 
 -- ---- Values
 
--- Each clause of a table has a literal that is met.
+-- A row of a term that was made so has to be met: it has to be true as it is, or the term has a truth.
+abbrev pub IsAsked : (Term → Option Bool) → Term → Origin → Type 0
+IsAsked truths u o = (subject_of o ≡ Itself) ⊎ ((sign : Bool) × (truths u ≡ Some sign))
+
+-- Each clause of a table that has to be has a literal that is met.
 abbrev pub MeetsRows : List Node → LogState → (Term → Option Bool) → Valuation → Type 0
-MeetsRows ns log truths v = (i t : ℕ) → IsRowAt log i t → (l : Lit) × Contains (literals_at log i) l × IsMet truths v (literal_in ns log.atoms l)
+MeetsRows ns log truths v = (i t : ℕ) (row : IsRowAt log i t) → IsAsked truths (term_in ns t) row.0 → (l : Lit) × Contains (literals_at log i) l × IsMet truths v (literal_in ns log.atoms l)
 
--- What is listed with a covered term meets the clauses of the three tables.
-pub record MeetsClauses (ns : List Node) (truths : Term → Option Bool) (v : Valuation) (t : ℕ) : Type 0 where
-  pub gates : (u : Term) → Contains (listing_order (term_in ns t)) u → AllByRecursion (HasMetLiteral truths v) (gate_clauses u)
-  pub links : (u : Term) → Contains (listing_order (term_in ns t)) u
-      → AllByRecursion (λ (c : Computation Clause). HasMetLiteral truths v c.result) (link_clauses (number_in ns) u)
-  pub units : (u : Term) → Contains (listing_order (term_in ns t)) u
-      → AllByRecursion (λ (c : Computation Clause). HasMetLiteral truths v c.result) (unit_clauses (number_in ns) u)
-
--- Truths and worths that meet the clauses in the log meet the tables.
+-- Truths and worths that meet the clauses in the log meet those of the three tables of what is listed with a covered term.
 abbrev pub RowsMeetTables : Type 0
 RowsMeetTables = (ns : List Node) (levels : List (List ℕ)) (log : LogState) (s : FormState) → IsTable ns → IsLog ns levels log → Covers ns log s
-    → (truths : Term → Option Bool) (v : Valuation) → MeetsRows ns log truths v → (t : ℕ) → IsSome (covered_at s t) → MeetsClauses ns truths v t
+    → (truths : Term → Option Bool) (v : Valuation) → MeetsRows ns log truths v → (t : ℕ) → IsSome (covered_at s t) → MeetsClauses truths v (number_in ns) (listing_order (term_in ns t))

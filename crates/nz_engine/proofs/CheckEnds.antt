@@ -9,7 +9,7 @@ use Rattle.nz_spec.specs.search.Decide.{asserted_numbers}
 use Rattle.nz_spec.specs.search.Search.{Task, Found, Search, at_first, no_point, position_of, told_literals}
 use Rattle.nz_spec.specs.search.Atoms.{IsBoundOf, IsTruth}
 use Rattle.nz_spec.specs.search.Legal.{Lead, AreFew, AreLegal, AreSpread, IsSpentLegally, events}
-use Rattle.nz_spec.specs.search.Places.{AreDecidedTold, IsDue, IsOperationAt, IsOperationIn, term_operations}
+use Rattle.nz_spec.specs.search.Places.{IsDue, IsToldEnough, IsOperationAt, IsOperationIn, term_operations}
 use Rattle.nz_spec.specs.laws.LegalWork.{PivotsAreLegal}
 use Rattle.nz_spec.specs.simplex.Pivots.{pivot}
 use Rattle.nz_spec.specs.clauses.Literal.{Literal}
@@ -224,7 +224,7 @@ module _ (ns : List Node) (levels : List Level) (assumed : List TermLit) (q : Ta
     ends_stop pivots Memory h = tt
 
     -- values that weren't found
-    value_stop : (place : Place) (s : Stands (λ fs ls x. IsPlaceOfValues ns q.listed fs ls x place) ns q work) → AreDecidedTold (search_after ns work) → IsStop ns q work place
+    value_stop : (place : Place) (s : Stands (λ fs ls x. IsPlaceOfValues ns q.listed fs ls x place) ns q work) → IsToldEnough q (search_after ns work) → IsStop ns q work place
     value_stop place s told = by_case s.at
       where
         by_case : IsPlaceOfValues ns q.listed (search_after ns work).forms (told_literals (search_after ns work)) s.point place → IsStop ns q work place
@@ -251,7 +251,7 @@ module _ (ns : List Node) (levels : List Level) (assumed : List TermLit) (q : Ta
               };
             }
 
-    pub model_stop : (t : Theory) (e : Stop) → OnWide e (IsStopOf ns q.listed t) → Stands (IsAt t ns) ns q work → AreDecidedTold (search_after ns work) → OnWide e (IsStop ns q work)
+    pub model_stop : (t : Theory) (e : Stop) → OnWide e (IsStopOf ns q.listed t) → Stands (IsAt t ns) ns q work → IsToldEnough q (search_after ns work) → OnWide e (IsStop ns q work)
     model_stop t (Wide place) f h told =
         value_stop place
         (record { point = h.point; legal = h.legal; at = f (search_after ns work).forms (told_literals (search_after ns work)) h.point h.at }) told

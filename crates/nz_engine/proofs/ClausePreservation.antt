@@ -17,10 +17,11 @@ use Rattle.nz_spec.specs.terms.Term as spec_term
 use Rattle.nz_log.specs.declared.atoms.Atom.{Atom}
 use Rattle.nz_log.specs.declared.atoms.Atom.TheVariants.{Term, AtMost}
 use Rattle.nz_log.specs.declared.lits.Lit.{Lit}
+use Rattle.nz_log.specs.declared.origins.Subject.TheVariants.{Itself}
 use Rattle.nz_term.specs.declared.term_lits.TermLit.{TermLit}
 use Rattle.nz_log.specs.Atoms.{AreAtoms, AtomsOfTerms, HasTerm, atom_in, literal_in, lit_of, lits_of, term_place, terms_at, terms_of, with_sign}
 use Rattle.nz_log.specs.Leveled.{IsToldWithin, IsLeveled, LogsStayLeveled, Names}
-use Rattle.nz_log.specs.Logs.{Origin, assertion_of, row_term, Entry, JoinsAtoms, LogState, entry_at, IsLive, literals_at, level_at, level_of_terms, told_level, Puts, given_entry}
+use Rattle.nz_log.specs.Logs.{Origin, assertion_of, row_term, Entry, JoinsAtoms, LogState, entry_at, IsLive, literals_at, level_at, level_of_terms, told_level, Puts, given_entry, subject_of}
 use Rattle.nz_log.specs.Sound.{IsLog, live_at, LogsStay}
 use Rattle.nz_term.specs.TermLits.{yes}
 use Rattle.nz_log.specs.Growth as growth
@@ -29,13 +30,14 @@ use Rattle.nz_cform.specs.Forms.{FormState, IsCoveredWithin, covered_at}
 use Rattle.nz_cform.specs.Listings.{listed_at}
 use Rattle.nz_cform.specs.Laws.{CoversStay, RowsNameCovered}
 use Rattle.nz_sat.specs.declared.clauses.Held.{Held}
-use Rattle.nz_sat.specs.Sats.{AreHeld, AreSameSince, held_of}
+use Rattle.nz_sat.specs.Sats.{AreHeld, AreSameSince, held_of, need_at, need_by}
 use Rattle.nz_search.specs.Levels.{Level, asserted_by_level, numbers_by_level}
 use Rattle.nz_engine.specs.Levels.{IsPlaced, count_in}
-use Rattle.nz_engine.specs.Preparing.{PreparedState, AreSearched, CoversAlso, HoldsAlso, HoldsUnit, IsMadeOf, IsNumbered, IsOfForm, IsPrepared, IsSearched, IsSeen, unit_of}
+use Rattle.nz_engine.specs.Preparing.{PreparedState, AreSearched, CoversAlso, HoldsAlso, HoldsRow, HoldsUnit, IsMadeOf, IsNumbered, IsOfForm, IsPrepared, IsSearched, IsSeen, unit_of}
 use Rattle.nz_engine.proofs.LevelPreservation.{none_or_some, some_of, some_within, still_searched}
 use Rattle.nz_engine.proofs.AssertionPlaces.{count_more, placed_in_all}
 use Rattle.nz_engine.specs.SearchLaws.{RowLaws}
+use Rattle.nz_engine.proofs.NeededRows.{row_may, row_still}
 use Rattle.nz_engine.proofs.RowFacts.{IsRowLiteral, of_row}
 use Rattle.nz_engine.proofs.SeenClauses.{seen_held, still_seen}
 
@@ -50,9 +52,6 @@ module _ (old new : LogState) (kept : Keeps old new) where
 
   origin_kept : (i : ℕ) → IsLive old i → origin_at new i ≡ origin_at old i
   origin_kept i live = ap (option_map (λ (e : Entry). e.origin)) (kept.clauses i live)
-
-  held_kept : (i : ℕ) → IsLive old i → held_of new i ≡ held_of old i
-  held_kept i live = ap (λ n. let x : Held = record { id = i; level = n; is_redundant = false; glue = 0 } in x) (level_kept i live)
 
   still_held : (hs : List Held) → AreHeld old hs → AreHeld new hs
   still_held hs h =
@@ -69,6 +68,7 @@ module _ (old new : LogState) (kept : Keeps old new) where
       record {
         held = u.held;
         there = subst (λ hs. Contains hs u.held) (sym joined) (Contains-append_left p.sat.clauses more u.held u.there);
+        need = u.need;
         added = u.added;
         named = subst (λ (s : LogState). HasTerm s.atoms t) (sym is) stay.0;
         literals = ap (λ s. literals_at s u.held.id) is ∙ literals_kept u.held.id own.0 ∙ ap (λ s. literals_at s u.held.id) (sym was) ∙ u.literals
@@ -205,14 +205,19 @@ module _ (ns : List Node) (levels : List Level) (roots : List (List ℕ)) (p q :
       (literals_at q.log i) (All-contains_itself (literals_at q.log i)))
       c.ids c.added.rows)))
 
-  cover_rows : (i u : ℕ) → IsRowAt q.log i u → Contains q.sat.clauses (held_of q.log i)
-  cover_rows i u row =
-      subst (λ hs. Contains hs (held_of q.log i)) (sym c.joined)
+  cover_rows : AtomsOfTerms → (i u : ℕ) → IsRowAt q.log i u → HoldsRow q.log q.sat.clauses i
+  cover_rows own i u row =
+      subst (λ hs. HoldsRow q.log hs i) (sym c.joined)
       (elim ((c.added.live i).0 (lives q.log i row.0 row.1)) [
         | inl live ↦
-            Contains-append_left p.sat.clauses (map (held_of q.log) c.ids) (held_of q.log i)
-            (subst (Contains p.sat.clauses) (sym (held_kept p.log q.log c.kept i live)) (h.rows i u (row.0, sym (origin_kept p.log q.log c.kept i live) ∙ row.1, row.2)))
-        | inr new ↦ Contains-append_right p.sat.clauses (map (held_of q.log) c.ids) (held_of q.log i) (map_has (held_of q.log) c.ids i new)
+            row_still p.log q.log i (c.kept.clauses i live) c.kept.atoms p.sat.clauses (map (held_of q.log) c.ids)
+            (h.rows i u (row.0, sym (origin_kept p.log q.log c.kept i live) ∙ row.1, row.2))
+        | inr new ↦
+            record {
+              need = need_at q.log i;
+              may = row_may own q.log i u row;
+              has = Contains-append_right p.sat.clauses (map (held_of q.log) c.ids) (held_of q.log i) (map_has (held_of q.log) c.ids i new);
+            }
       ])
 
   cover_made : t < length ns → Contains (live_at roots level) t → (u n : ℕ) → covered_at q.form u ≡ Some n → IsMadeOf ns (live_at roots n) u
@@ -258,7 +263,7 @@ module _ (ns : List Node) (levels : List Level) (roots : List (List ℕ)) (p q :
         held = cover_held;
         seen = c.seen;
         searched = cover_searched named parts laws table own order;
-        rows = cover_rows;
+        rows = cover_rows atoms;
         units = λ k u below at.
             still_units p.log q.log c.kept atoms (asserted_by_level levels) p q (map (held_of q.log) c.ids) refl refl h.held c.joined k u (h.units k u (omega (arith, below, given)) at);
         numbers = λ k u below at.
@@ -289,7 +294,7 @@ module _ (ns : List Node) (levels : List Level) (roots : List (List ℕ)) (p q :
         atoms = puts.atoms;
       }
 
-  given_rows : (i u : ℕ) → IsRowAt q.log i u → Contains q.sat.clauses (held_of q.log i)
+  given_rows : (i u : ℕ) → IsRowAt q.log i u → HoldsRow q.log q.sat.clauses i
   given_rows i u row =
       elim (eqb_tells i id) [
         | inl same ↦
@@ -299,9 +304,8 @@ module _ (ns : List Node) (levels : List Level) (roots : List (List ℕ)) (p q :
             absurd cc
         | inr other ↦
             let was : origin_at p.log i ≡ Some row.0 = ap (option_map (λ (e : Entry). e.origin)) (sym (puts.kept i other.1)) ∙ row.1 in
-            subst (λ hs. Contains hs (held_of q.log i)) (sym joined)
-            (Contains-append_left p.sat.clauses (held_of q.log id ∷ []) (held_of q.log i)
-            (subst (Contains p.sat.clauses) (sym (held_kept p.log q.log put_kept i (lives p.log i row.0 was))) (h.rows i u (row.0, was, row.2))))
+            subst (λ hs. HoldsRow q.log hs i) (sym joined)
+            (row_still p.log q.log i (put_kept.clauses i (lives p.log i row.0 was)) put_kept.atoms p.sat.clauses (held_of q.log id ∷ []) (h.rows i u (row.0, was, row.2)))
       ]
 
   given_unit : HoldsUnit (asserted_by_level levels) q p.given t
@@ -314,6 +318,7 @@ module _ (ns : List Node) (levels : List Level) (roots : List (List ℕ)) (p q :
       record {
         held = held_of q.log id;
         there = subst (λ hs. Contains hs (held_of q.log id)) (sym joined) (Contains-push p.sat.clauses (held_of q.log id));
+        need = ap (λ (o : Option Entry). need_by q.log (elim o [ None ↦ Itself | Some x ↦ subject_of x.origin ])) puts.made;
         added = refl;
         named = there;
         literals = ap (λ (o : Option Entry). elim o [ None ↦ [] | Some x ↦ x.literals ]) puts.made;
@@ -408,7 +413,7 @@ number_counted ns levels roots p t n count is placed some h =
       rows = h.rows;
       units = λ k u below at.
           let was = h.units k u below at in
-          record { held = was.held; there = was.there; added = was.added; named = was.named; literals = was.literals; behind = was.behind };
+          record { held = was.held; there = was.there; need = was.need; added = was.added; named = was.named; literals = was.literals; behind = was.behind };
       numbers = λ k u below at. elim (eqb_tells k p.numbered) [
         | inl same ↦
             let both : Some t ≡ Some u = sym (placed_in_all numbers p.numbered t n placed) ∙ ap (slice_get (asserted_numbers numbers)) (sym same.1) ∙ at in
@@ -445,12 +450,12 @@ module _ (ns : List Node) (levels : List Level) (roots : List (List ℕ)) (p q :
           let same : x.origin ≡ row.0 = cc in
           grows.rows i x is (subst (λ (o : Option ℕ). IsSome o) (sym (ap row_term same ∙ row.2)) refl)
 
-  learned_rows : (i t : ℕ) → IsRowAt q.log i t → Contains q.sat.clauses (held_of q.log i)
+  learned_rows : (i t : ℕ) → IsRowAt q.log i t → HoldsRow q.log q.sat.clauses i
   learned_rows i t row =
       let live = row_was i t row in
-      subst (λ hs. Contains hs (held_of q.log i)) (sym more.joined)
-      (Contains-append_left p.sat.clauses more.also (held_of q.log i)
-      (subst (Contains p.sat.clauses) (sym (held_kept p.log q.log learned_kept i live)) (h.rows i t (row.0, sym (origin_kept p.log q.log learned_kept i live) ∙ row.1, row.2))))
+      subst (λ hs. HoldsRow q.log hs i) (sym more.joined)
+      (row_still p.log q.log i (learned_kept.clauses i live) learned_kept.atoms p.sat.clauses more.also
+      (h.rows i t (row.0, sym (origin_kept p.log q.log learned_kept i live) ∙ row.1, row.2)))
 
   learned_told : (u : ℕ) (ls : List (List ℕ)) (k : ℕ) → count_in ls (told_level p.log u) ≤ k → count_in ls (told_level q.log u) ≤ k
   learned_told u ls k was =

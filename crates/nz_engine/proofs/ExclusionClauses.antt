@@ -14,7 +14,7 @@ use Rattle.nz_reals.specs.Exclusions.{AddsOn, HasNeighbours, IsExclusion, IsLowe
 use Rattle.nz_reals.specs.Stands.{IsOver}
 use Rattle.nz_reals.specs.State.{Theory, known_at}
 use Rattle.nz_sat.specs.declared.clauses.Held.{Held}
-use Rattle.nz_sat.specs.Sats.{AreHeld, AreOn, AreSameSince, SatState, added_as}
+use Rattle.nz_sat.specs.Sats.{AreHeld, AreOn, AreSameSince, SatState, held_of}
 use Rattle.nz_search.specs.Levels.{Level, asserted_by_level}
 use Rattle.nz_engine.specs.declared.prepared.Prepared.TheInside.{Inside}
 use Rattle.nz_engine.specs.Checking.{IsPosed, IsReady}
@@ -50,13 +50,13 @@ module _ (old new : LogState) (keeps : Keeps old new) (held : List Held) (were :
 
 -- ---- What is held then
 
-ids_of_held : (log : LogState) (ids : List ℕ) → ids_held (map (added_as true log) ids) ≡ ids
+ids_of_held : (log : LogState) (ids : List ℕ) → ids_held (map (held_of log) ids) ≡ ids
 ids_of_held log [] = refl
 ids_of_held log (i ∷ ids) = λ k. i ∷ ids_of_held log ids k
 
 -- the clauses that were held, and those that are put, by their numbers
-pub held_with : (log : LogState) (held : List Held) (ids : List ℕ) → ids_held (held ++ map (added_as true log) ids) ≡ ids_held held ++ ids
-held_with log held ids = map-append (λ (h : Held). h.id) held (map (added_as true log) ids) ∙ ap (λ (is : List ℕ). ids_held held ++ is) (ids_of_held log ids)
+pub held_with : (log : LogState) (held : List Held) (ids : List ℕ) → ids_held (held ++ map (held_of log) ids) ≡ ids_held held ++ ids
+held_with log held ids = map-append (λ (h : Held). h.id) held (map (held_of log) ids) ∙ ap (λ (is : List ℕ). ids_held held ++ is) (ids_of_held log ids)
 
 pub live_ids : (log : LogState) (held : List Held) → AreHeld log held → All (IsLive log) (ids_held held)
 live_ids log held are = All-map (IsLive log) (λ (h : Held). h.id) held (λ k d below. (are k d below).0)
@@ -68,7 +68,7 @@ on_both (Err e) f p q = tt
 
 -- The clauses that were put are held, and each two neighbouring bounds have theirs.
 pub excludes_by : (log log' : LogState) (old new : SatState Theory) (atoms cs : List ℕ) → new.theory ≡ old.theory → AddsOn atoms log log' → All (IsExclusion log' atoms) cs
-    → new.clauses ≡ old.clauses ++ map (added_as true log') cs → AreSameSince new.seen log' new.clauses → HasNeighbours old.theory log' atoms (ids_held old.clauses ++ cs) → Excludes log old atoms log' new
+    → new.clauses ≡ old.clauses ++ map (held_of log') cs → AreSameSince new.seen log' new.clauses → HasNeighbours old.theory log' atoms (ids_held old.clauses ++ cs) → Excludes log old atoms log' new
 excludes_by log log' old new atoms cs theory adds all joined seen neighbours = record {
   theory = theory;
   adds = adds;
@@ -112,11 +112,11 @@ module _ (p : PreparedState) {atoms : List ℕ} (q : PreparedState) (x : Exclude
   holds_exclusions : HoldsAlso q.log p.sat.clauses q.sat.clauses
   holds_exclusions =
       record {
-        also = map (added_as true q.log) x.ids;
+        also = map (held_of q.log) x.ids;
         joined = x.joined;
         held = subst (AreHeld q.log) (sym x.joined)
-            (All-append (λ (h : Held). IsLive q.log h.id × (level_at q.log h.id ≡ h.level)) p.sat.clauses (map (added_as true q.log) x.ids) (still_held p.log q.log x.adds.keeps p.sat.clauses were)
-            (All-map (λ (h : Held). IsLive q.log h.id × (level_at q.log h.id ≡ h.level)) (added_as true q.log) x.ids
+            (All-append (λ (h : Held). IsLive q.log h.id × (level_at q.log h.id ≡ h.level)) p.sat.clauses (map (held_of q.log) x.ids) (still_held p.log q.log x.adds.keeps p.sat.clauses were)
+            (All-map (λ (h : Held). IsLive q.log h.id × (level_at q.log h.id ≡ h.level)) (held_of q.log) x.ids
             (All-weaker (IsExclusion q.log atoms) (λ id. IsLive q.log id × (level_at q.log id ≡ level_at q.log id)) (λ id e. (e.clash.live, refl)) x.ids x.exclusions)));
       }
 
@@ -124,8 +124,8 @@ module _ (p : PreparedState) {atoms : List ℕ} (q : PreparedState) (x : Exclude
   exclusions_on on =
       let P = λ (h : Held). All (λ (l : Lit). Contains atoms l.atom) (literals_at q.log h.id) in
       subst (All P) (sym x.joined)
-      (All-append P p.sat.clauses (map (added_as true q.log) x.ids) (still_on p.log q.log x.adds.keeps p.sat.clauses were atoms on)
-      (All-map P (added_as true q.log) x.ids (All-weaker (IsExclusion q.log atoms) (λ id. All (λ (l : Lit). Contains atoms l.atom) (literals_at q.log id)) (on_atoms q.log atoms) x.ids x.exclusions)))
+      (All-append P p.sat.clauses (map (held_of q.log) x.ids) (still_on p.log q.log x.adds.keeps p.sat.clauses were atoms on)
+      (All-map P (held_of q.log) x.ids (All-weaker (IsExclusion q.log atoms) (λ id. All (λ (l : Lit). Contains atoms l.atom) (literals_at q.log id)) (on_atoms q.log atoms) x.ids x.exclusions)))
 
 pub ready_excluded : SearchLaws → {ns : List Node} {assumed : List TermLit} {first : ℕ} {old p : PreparedState} {ids : List ℕ} {lits : List Lit} → IsReady ns assumed first old p ids lits → (q : PreparedState)
     → Excludes p.log p.sat ids q.log q.sat → q.form ≡ p.form → q.given ≡ p.given → q.numbered ≡ p.numbered → q.above ≡ p.above → q.noted ≡ p.noted → IsReady ns assumed first old q ids lits
@@ -156,8 +156,8 @@ ready_excluded laws {ns} {assumed} {first} {old} {p} {ids} {lits} r q x form giv
       };
       held = λ id has.
           subst (λ (hs : List Held). Contains (ids_held hs) id) (sym x.joined)
-          (subst (λ (is : List ℕ). Contains is id) (sym (map-append (λ (h : Held). h.id) p.sat.clauses (map (added_as true q.log) x.ids)))
-          (Contains-append_left (ids_held p.sat.clauses) (ids_held (map (added_as true q.log) x.ids)) id (r.held id has)));
+          (subst (λ (is : List ℕ). Contains is id) (sym (map-append (λ (h : Held). h.id) p.sat.clauses (map (held_of q.log) x.ids)))
+          (Contains-append_left (ids_held p.sat.clauses) (ids_held (map (held_of q.log) x.ids)) id (r.held id has)));
       form = form ∙ r.form;
       posed = λ levels h. after levels (r.posed levels h);
       some = (r.some.0, after r.some.0 posed);

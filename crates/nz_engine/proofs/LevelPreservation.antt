@@ -28,10 +28,11 @@ use Rattle.nz_cform.specs.Listings as listings
 use Rattle.nz_cform.specs.Listings.{ListingState, listed_at}
 use Rattle.nz_cform.specs.Laws.{CoversStay}
 use Rattle.nz_sat.specs.declared.clauses.Held.{Held}
-use Rattle.nz_sat.specs.Sats.{AreHeld, AreSameSince, IsSameIn, held_of, held_up_to}
+use Rattle.nz_sat.specs.Sats.{AreHeld, AreSameSince, IsSameIn, added_as, held_up_to}
 use Rattle.nz_search.specs.Levels.{Level, added_by_level, asserted_by_level, numbers_by_level}
 use Rattle.nz_engine.specs.Levels.{count_in, count_of}
-use Rattle.nz_engine.specs.Preparing.{PreparedState, AreSearched, HasListedBounds, HoldsUnit, IsListedIn, IsMadeOf, IsNumbered, IsOfForm, IsPrepared, IsSearched, IsSeen, IsStanding, CutsTo, unit_of}
+use Rattle.nz_engine.specs.Preparing.{PreparedState, AreSearched, HasListedBounds, HoldsRow, HoldsUnit, IsListedIn, IsMadeOf, IsNumbered, IsOfForm, IsPrepared, IsSearched, IsSeen, IsStanding, CutsTo, unit_of}
+use Rattle.nz_engine.proofs.NeededRows.{added_still, may_still}
 use Rattle.nz_engine.proofs.UnlistedClauses.{left_all}
 use Rattle.nz_engine.proofs.AssertionPlaces.{GoOn, TermsGoOn, count_all, count_cut, count_more, in_all, live_cut, longer_cut, lower_or_not}
 
@@ -87,6 +88,7 @@ module _ (ns : List Node) (old new : List Level) (p : PreparedState) (on : GoOn 
       record {
         held = u.held;
         there = u.there;
+        need = u.need;
         added = u.added;
         named = u.named;
         literals = u.literals;
@@ -320,9 +322,6 @@ module _ (ns : List Node) (levels : List Level) (roots : List (List ℕ)) (p q :
   same_entry : (i : ℕ) → IsLive p.log i → level_at p.log i ≤ m → entry_at q.log i ≡ entry_at p.log i
   same_entry = dropped_entry p m q.log c.log
 
-  held_of_same : (i : ℕ) → IsLive p.log i → level_at p.log i ≤ m → held_of q.log i ≡ held_of p.log i
-  held_of_same i live low = ap (λ (o : Option Entry). let x : Held = record { id = i; level = elim o [ None ↦ 0 | Some e ↦ e.level ]; is_redundant = false; glue = 0 } in x) (same_entry i live low)
-
   cut_held : AreHeld q.log q.sat.clauses
   cut_held =
       let P = λ (x : Held). IsLive p.log x.id × (level_at p.log x.id ≡ x.level) in
@@ -419,12 +418,19 @@ module _ (ns : List Node) (levels : List Level) (roots : List (List ℕ)) (p q :
       some_within (listed_at q.form.bounds l.atom) (level_at q.log i)
       (covers.bounds.listed i l.atom (record { term = t; row = row; literal = l; has = Contains-get_or lits j e below; on = refl; bound = b; is_bound = at }))
 
-  cut_rows : Covers ns q.log q.form → (i t : ℕ) → IsRowAt q.log i t → Contains q.sat.clauses (held_of q.log i)
+  cut_rows : Covers ns q.log q.form → (i t : ℕ) → IsRowAt q.log i t → HoldsRow q.log q.sat.clauses i
   cut_rows covers i t row =
       let was = origin_kept m row.0 (entry_at p.log i) (ap (option_map (λ (e : Entry). e.origin)) (sym (c.log.entries i)) ∙ row.1) in
-      c.clauses.stays (held_of q.log i)
-      (subst (Contains (held_up_to m p.sat.clauses)) (sym (held_of_same i was.0 was.1)) (kept_up_to m p.sat.clauses (held_of p.log i) (h.rows i t (row.0, was.2, row.2)) was.1))
-      (row_listed covers i t row)
+      let r = h.rows i t (row.0, was.2, row.2) in
+      let entry = same_entry i was.0 was.1 in
+      let atoms : (a : ℕ) (x : Atom) → slice_get p.log.atoms a ≡ Some x → slice_get q.log.atoms a ≡ Some x = λ a x at. ap (λ (all : List Atom). slice_get all a) c.log.atoms ∙ at in
+      record {
+        need = r.need;
+        may = may_still p.log q.log i entry atoms r.need r.may;
+        has = c.clauses.stays (added_as r.need q.log i)
+            (subst (Contains (held_up_to m p.sat.clauses)) (sym (added_still p.log q.log i entry atoms r.need)) (kept_up_to m p.sat.clauses (added_as r.need p.log i) r.has was.1))
+            (row_listed covers i t row);
+      }
 
   -- what is given of a kind is in the first levels
   cut_count : (of : Level → List ℕ) → count_of (map of (take (suc m) levels)) ≡ count_in (map of levels) (suc m)
@@ -461,6 +467,7 @@ module _ (ns : List Node) (levels : List Level) (roots : List (List ℕ)) (p q :
       record {
         held = u.held;
         there = c.clauses.stays u.held (kept_up_to m p.sat.clauses u.held u.there low) (subst (All (IsListedIn q.log q.form.bounds)) (sym literals) (unit_listed t named));
+        need = u.need;
         added = u.added;
         named = named;
         literals = literals;

@@ -7,6 +7,7 @@ pub mod ClausePreservation
 pub mod ConstantValues
 pub mod CoveredMarks
 pub mod ExclusionClauses
+pub mod FoundClauses
 pub mod GoneFrom
 pub mod HeldClauses
 pub mod KeptState
@@ -17,6 +18,7 @@ pub mod ModelSoundness
 pub mod MoreAtoms
 pub mod NamedAtoms
 pub mod NamedTerms
+pub mod NeededRows
 pub mod NumbersBelow
 pub mod Onces
 pub mod PartsNamed
@@ -30,4 +32,5 @@ pub mod SeenClauses
 pub mod ShedClauses
 pub mod TermsByLevel
 pub mod TheoryAtoms
+pub mod ToldEnough
 pub mod UnlistedClauses

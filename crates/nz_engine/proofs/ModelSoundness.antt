@@ -3,46 +3,40 @@ use Rattle.std.proofs.Common.{◌≡◌, ℕ, zero, suc, ◌<◌, Bool, true, fa
 use Rattle.std.specs.Prelude.{All, Contains, IsSome, flat_map, slice_get, unwrap_or, if◌then◌else◌}
 use Rattle.std.specs.List.{AllByRecursion}
 use Rattle.std.proofs.lemmas.Option.{slice_get-get_or}
-use Rattle.std.proofs.lemmas.List.{get_or-map, length-map}
 use Rattle.std.proofs.lemmas.List.Elements.{All-contains, All-from_recursion, All-weaker, recursion_from_All}
 use Rattle.nz_lists.proofs.Elements.{AllByRecursion-append, AllByRecursion-weaker}
 use Rattle.nz_fractions.specs.Fraction.{◌=ℚ◌}
 use Rattle.nz_spec.specs.simplex.Basis.{Valuation}
 use Rattle.nz_spec.specs.search.Decide.{IsValueOf, AreModelValues, asserted_numbers}
-use Rattle.nz_spec.specs.laws.Deciding.{IsMet, MeetsTables, TablesDecide}
+use Rattle.nz_spec.specs.clauses.Met.{IsMet}
+use Rattle.nz_spec.specs.laws.Deciding.{MeetsTables, TablesDecide}
 use Rattle.nz_spec.specs.terms.Form.{unit_value}
 use Rattle.nz_spec.specs.terms.FormOf.{number_in, TermHasItsNumber}
 use Rattle.nz_spec.specs.clauses.Gates.{is_boolean_term}
-use Rattle.nz_spec.specs.clauses.Literal.{term_literal, are_same_sign, AreTrueLiterals}
+use Rattle.nz_spec.specs.clauses.Literal.{are_same_sign, AreTrueLiterals}
 use Rattle.nz_spec.specs.terms.Model.{IsAssignment}
 use Rattle.nz_spec.specs.terms.Order.{companions, companions_of, listing_order, listing_orders}
 use Rattle.nz_spec.specs.terms.Table.{Node, IsTable, term_in, terms_at, listed_value, assignment_by, TermOfNode, AssignsByNumber}
-use Rattle.nz_spec.specs.terms.Taken.{IsTaken, IsTakenBoolean}
+use Rattle.nz_spec.specs.terms.Taken.{IsTaken}
 use Rattle.nz_spec.specs.terms.Term.{Sort, bool_sort, int_sort, real_sort, is_int_sort, Constant, constant, falsum, Term, apply, no_terms, Assignment, Value, truth, number_of, value_of, is_true, is_bool, default_value, IsTrueUnder}
-use Rattle.nz_log.specs.declared.atoms.Atom.{Atom}
+use Rattle.nz_lin.specs.declared.bound.Bound.{Bound}
 use Rattle.nz_log.specs.declared.atoms.Atom.TheVariants as atoms
 use Rattle.nz_log.specs.declared.lits.Lit.{Lit}
 use Rattle.nz_term.specs.declared.term_lits.TermLit.{TermLit}
-use Rattle.nz_log.specs.Atoms.{AtomsOfTerms, HasTerm, literal_in, lit_of, lits_of, term_place, with_sign}
-use Rattle.nz_log.specs.Logs.{literals_at}
+use Rattle.nz_log.specs.Atoms.{AtomsOfTerms, literal_in}
 use Rattle.nz_term.specs.TermLits.{literal_of}
 use Rattle.nz_cform.specs.Covering.{HasCovered, kids_at}
 use Rattle.nz_cform.specs.Forms.{IsCoveredWithin, covered_at}
-use Rattle.nz_cform.specs.Laws.{MeetsRows, RowsMeetTables}
+use Rattle.nz_cform.specs.Laws.{RowsMeetTables}
 use Rattle.nz_reals.specs.Chosen.{HasWorths}
 use Rattle.nz_reals.specs.State.{told_lits}
-use Rattle.nz_sat.specs.declared.clauses.Held.{Held}
-use Rattle.nz_sat.specs.Sats.{IsTrueClause, IsTrueLit, held_of, truth_of}
+use Rattle.nz_sat.specs.Sats.{IsTrueLit}
 use Rattle.nz_search.specs.Levels.{Level, added_by_level, asserted_by_level}
 use Rattle.nz_engine.specs.Checking.{HasCoveredWorths, HasFound, IsPosed, truth_in, value_at}
-use Rattle.nz_engine.specs.Preparing.{PreparedState, HoldsUnit, IsOfForm, IsPrepared, IsSearched, atoms_of, boolean_terms, unit_of}
+use Rattle.nz_engine.specs.Preparing.{PreparedState, IsPrepared}
 use Rattle.nz_engine.proofs.LevelPreservation.{some_of, some_within}
 use Rattle.nz_engine.proofs.ConstantValues.{constant_values, is_assignment, listed_behind, listed_first, listed_truth, no_truth}
-use Rattle.nz_engine.proofs.Onces.{boolean_there}
-use Rattle.nz_engine.proofs.NamedTerms.{all_named}
-use Rattle.nz_engine.proofs.PartsNamed.{unit_covered}
-use Rattle.nz_engine.proofs.ClausePreservation.{literal_at_atom}
-use Rattle.nz_engine.proofs.SearchAtoms.{searched_in, truth_there}
+use Rattle.nz_engine.proofs.FoundClauses.{asserted_truth, assumed_truth, clauses_met, covered_within, truth_is, truths_found}
 
 -- ---- Parts
 
@@ -110,65 +104,19 @@ module _ (rows_meet : RowsMeetTables) (decides : TablesDecide) (numbers : TermHa
 
   -- the truths of Boolean terms, and what units are worth
   abbrev truths : Term → Option Bool
-  truths u = if is_boolean_term u then truth_in p (number_in ns u) else None
+  truths = truths_found ns p
 
   abbrev worths : Valuation
   worths = adds.worths
 
-  covered_within : (t : ℕ) → IsSome (covered_at p.form t) → t < length ns
-  covered_within t some = let n = some_of (covered_at p.form t) some in ready.covers.within t n.0 n.1
+  covered_within' : (t : ℕ) → IsSome (covered_at p.form t) → t < length ns
+  covered_within' = covered_within rows_meet numbers own ns levels assumed p posed found
 
-  truth_is : (t : ℕ) → t < length ns → is_boolean_term (term_in ns t) ≡ true → truths (term_in ns t) ≡ truth_in p t
-  truth_is t below boolean =
-      ap (λ (b : Bool). if b then truth_in p (number_in ns (term_in ns t)) else None) boolean ∙ ap (truth_in p) (numbers ns posed.table t below)
-
-  -- ---- Atoms
-
-  among : (i : ℕ) → IsSearched ns p.log p.form i → Contains p.noted i
-  among i s =
-      All-contains (Contains p.noted) (atoms_of ns p) i found.handed.numbers.each
-      (searched_in ns p own ready.order.atoms found.handed.terms found.handed.bounds found.handed.there.covered i s)
-
-  boolean_here : (t : ℕ) → IsSome (covered_at p.form t) → is_boolean_term (term_in ns t) ≡ true → HasTerm p.log.atoms t
-  boolean_here t some boolean =
-      All-contains (HasTerm p.log.atoms) (boolean_terms ns p.form.terms.ids) t found.handed.there.covered
-      (boolean_there ns p.form.terms.ids t ((found.handed.terms.listed t).1 some) boolean)
-
-  -- ---- Rows
-
-  true_clause : (h : Held) → Contains p.sat.clauses h → h.is_redundant ≡ false → IsTrueClause p.sat (literals_at p.log h.id)
-  true_clause h has needed = All-contains (λ (x : Held). x.is_redundant ≡ false → IsTrueClause p.sat (literals_at p.log x.id)) p.sat.clauses h found.truths.clauses has needed
-
-  signed_term : (u : Term) (sign : Bool) → truths u ≡ Some sign → IsMet truths worths (with_sign sign (term_literal u true))
-  signed_term u true h = h
-  signed_term u false h = h
-
-  -- a true literal that is searched for is met
-  lit_met : (l : Lit) → IsSearched ns p.log p.form l.atom → IsTrueLit p.sat l → IsMet truths worths (literal_in ns p.log.atoms l)
-  lit_met l s holds = by_atom s.atom s.at s
-    where
-      by_atom : (a : Atom) → slice_get p.log.atoms l.atom ≡ Some a → IsSearched ns p.log p.form l.atom → IsMet truths worths (literal_in ns p.log.atoms l)
-      by_atom (atoms.Term t) at x =
-          let both : Some x.atom ≡ Some (atoms.Term t) = sym x.at ∙ at in
-          let is : x.atom ≡ atoms.Term t = cc in
-          let of = subst (IsOfForm ns p.form l.atom) is x.of in
-          let place : l.atom ≡ term_place p.log.atoms t = own.one p.log.atoms ready.order.atoms l.atom t at in
-          let here : HasTerm p.log.atoms t = boolean_here t of.0 of.1 in
-          let truth_t : truth_in p t ≡ Some l.sign = truth_there p t here ∙ ap (truth_of p.sat) (sym place) ∙ holds in
-          subst (IsMet truths worths) (sym (literal_at_atom ns p.log.atoms l (atoms.Term t) at))
-          (signed_term (term_in ns t) l.sign (truth_is t (covered_within t of.0) of.1 ∙ truth_t))
-      by_atom (atoms.AtMost b) at x =
-          let has = among l.atom x in
-          let told : Contains (told_lits p.sat.theory) l = subst (λ (ls : List Lit). Contains ls l) (sym found.bounds.told) (found.bounds.all l has (b, at) holds) in
-          adds.met truths p.log.atoms p.noted found.forms found.told found.point found.of found.at l told has b at
-
-  rows_met : MeetsRows ns p.log truths worths
-  rows_met i t row =
-      let held = ready.rows i t row in
-      let one_true = true_clause (held_of p.log i) held refl in
-      let each = All-contains (λ (x : Held). All (λ (l : Lit). IsSearched ns p.log p.form l.atom) (literals_at p.log x.id)) p.sat.clauses (held_of p.log i) ready.searched held in
-      let s = All-contains (λ (l : Lit). IsSearched ns p.log p.form l.atom) (literals_at p.log i) one_true.0 each one_true.1 in
-      (one_true.0, one_true.1, lit_met one_true.0 s one_true.2)
+  -- the worths meet each bound that is true
+  bounds_met : (l : Lit) (b : Bound) → Contains p.noted l.atom → slice_get p.log.atoms l.atom ≡ Some (atoms.AtMost b) → IsTrueLit p.sat l → IsMet truths worths (literal_in ns p.log.atoms l)
+  bounds_met l b has at holds =
+      let told : Contains (told_lits p.sat.theory) l = subst (λ (ls : List Lit). Contains ls l) (sym found.bounds.told) (found.bounds.all l has (b, at) holds) in
+      adds.met truths p.log.atoms p.noted found.forms found.told found.point found.of found.at l told has b at
 
   -- ---- Constants
 
@@ -178,7 +126,7 @@ module _ (rows_meet : RowsMeetTables) (decides : TablesDecide) (numbers : TermHa
 
   covered_parts : (t : ℕ) → IsSome (covered_at p.form t) → AllByRecursion IsCovered (listing_order (term_in ns t))
   covered_parts =
-      all_parts of_node ns posed.table (λ t. IsSome (covered_at p.form t)) IsCovered covered_within
+      all_parts of_node ns posed.table (λ t. IsSome (covered_at p.form t)) IsCovered covered_within'
       (λ t some.
       let n = some_of (covered_at p.form t) some in
       All-weaker (IsCoveredWithin p.form n.0) (λ k. IsSome (covered_at p.form k)) (λ k within. some_within (covered_at p.form k) n.0 within) (kids_at ns t) (ready.covers.arguments t n.0 n.1))
@@ -219,7 +167,7 @@ module _ (rows_meet : RowsMeetTables) (decides : TablesDecide) (numbers : TermHa
       by_test false bool f = absurd cc
       by_test true bool f =
           let i = has.0 in
-          let below = covered_within i has.1 in
+          let below = covered_within' i has.1 in
           let n = node_of i c below has.2 in
           let number_is : number_in ns (apply (constant c) no_terms) ≡ i = ap (number_in ns) (sym has.2) ∙ numbers ns posed.table i below in
           let own_truth : truth_in p i ≡ Some sign = ap (truth_in p) (sym number_is) ∙ f in
@@ -230,7 +178,7 @@ module _ (rows_meet : RowsMeetTables) (decides : TablesDecide) (numbers : TermHa
   constant_number : (c : Constant) → IsCovered (apply (constant c) no_terms) → is_bool c.sort ≡ false → unit_value values (apply (constant c) no_terms) =ℚ worths (apply (constant c) no_terms)
   constant_number c has other =
       let i = has.0 in
-      let below = covered_within i has.1 in
+      let below = covered_within' i has.1 in
       let n = node_of i c below has.2 in
       let taken : IsTaken (apply (constant c) no_terms) = subst IsTaken has.2 (ready.taken i has.1) in
       let real : c.sort ≡ real_sort = real_of c.sort other taken.heads.0 in
@@ -246,11 +194,8 @@ module _ (rows_meet : RowsMeetTables) (decides : TablesDecide) (numbers : TermHa
   tables_met : (t : ℕ) → IsSome (covered_at p.form t) → MeetsTables truths worths (number_in ns) values (listing_order (term_in ns t))
   tables_met t some =
       let taken : IsTaken (term_in ns t) = ready.taken t some in
-      let clauses = rows_meet ns (asserted_by_level levels) p.log p.form posed.table ready.order ready.covers truths worths rows_met t some in
       record {
-        gates = clauses.gates;
-        links = clauses.links;
-        units = clauses.units;
+        clauses = clauses_met rows_meet numbers own ns levels assumed p posed found worths bounds_met t some;
         constants = λ c sign has e. constant_truth c sign (part_covered t some (apply (constant c) no_terms) has) e;
         numbers = λ c has other. constant_number c (part_covered t some (apply (constant c) no_terms) has) other;
         integral = λ u integer. absurd (decides.integers (term_in ns t) u taken integer);
@@ -267,30 +212,21 @@ module _ (rows_meet : RowsMeetTables) (decides : TablesDecide) (numbers : TermHa
   -- a covered Boolean term has the value that its truth says
   decided : (t : ℕ) (sign : Bool) → IsSome (covered_at p.form t) → is_boolean_term (term_in ns t) ≡ true → truth_in p t ≡ Some sign → value_of values (term_in ns t) ≡ truth sign
   decided t sign some boolean known =
-      decides.truths (number_in ns) values truths worths (term_in ns t) sign (ready.taken t some) sorted (tables_met t some) boolean (truth_is t (covered_within t some) boolean ∙ known)
+      decides.truths (number_in ns) values truths worths (term_in ns t) sign (ready.taken t some) sorted (tables_met t some) boolean (truth_is rows_meet numbers own ns levels assumed p posed found t (covered_within' t some) boolean ∙ known)
 
   -- ---- What is asserted
 
   asserted_true : All (λ t. value_of values (term_in ns t) ≡ truth true) (asserted_numbers (asserted_by_level levels))
   asserted_true k d below =
       let t : ℕ = get_or (asserted_numbers (asserted_by_level levels)) k d in
-      let all = posed.all.given in
-      let u : HoldsUnit (asserted_by_level levels) p k t = ready.units k t (omega (arith, below, all)) (slice_get-get_or (asserted_numbers (asserted_by_level levels)) k d below) in
-      let one_true = subst (IsTrueClause p.sat) u.literals (true_clause u.held u.there u.added) in
-      let P = λ (x : Lit). IsTrueLit p.sat x → truth_of p.sat (term_place p.log.atoms t) ≡ Some true in
-      let holds : truth_of p.sat (term_place p.log.atoms t) ≡ Some true = All-contains P (unit_of p.log t) one_true.0 (All-from_recursion P (unit_of p.log t) ((λ e. e), tt)) one_true.1 one_true.2 in
-      let of = unit_covered ready k t u in
-      decided t true of.0 of.1 (truth_there p t u.named ∙ holds)
+      let of = asserted_truth rows_meet numbers own ns levels assumed p posed found k t (slice_get-get_or (asserted_numbers (asserted_by_level levels)) k d below) in
+      decided t true of.0 of.1 of.2
 
   assumed_true : All (λ (l : TermLit). value_of values (term_in ns l.term) ≡ truth l.sign) assumed
   assumed_true k d below =
       let m = get_or assumed k d in
-      let lits = lits_of p.log.atoms assumed in
-      let long = length-map assumed (lit_of p.log.atoms) in
-      let here : get_or lits k (lit_of p.log.atoms d) ≡ lit_of p.log.atoms m = get_or-map (lit_of p.log.atoms) assumed k d (lit_of p.log.atoms d) below in
-      let holds : IsTrueLit p.sat (lit_of p.log.atoms m) = subst (IsTrueLit p.sat) here (found.truths.assumed_hold k (lit_of p.log.atoms d) (omega (arith, below, long))) in
-      let taken = all_named (λ t. IsTakenBoolean (term_in ns t)) assumed posed.assumed_taken k d below in
-      decided m.term m.sign (posed.assumed_covered k d below) taken.boolean (truth_there p m.term (found.handed.there.named k d below) ∙ holds)
+      let of = assumed_truth rows_meet numbers own ns levels assumed p posed found k d below in
+      decided m.term m.sign of.0 of.1 of.2
 
   pub made_true : AreModelValues ns (map (term_in ns) (asserted_numbers (asserted_by_level levels))) [] ps × AreTrueLiterals values (map (literal_of ns) assumed)
   made_true = (

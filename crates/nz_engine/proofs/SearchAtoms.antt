@@ -671,7 +671,7 @@ module _ (ns : List Node) (levels : List Level) (p q : PreparedState) (log : q.l
         seen = h.seen;
         searched = h.searched;
         rows = h.rows;
-        units = λ k t below at. let u = h.units k t below at in record { held = u.held; there = u.there; added = u.added; named = u.named; literals = u.literals; behind = u.behind };
+        units = λ k t below at. let u = h.units k t below at in record { held = u.held; there = u.there; need = u.need; added = u.added; named = u.named; literals = u.literals; behind = u.behind };
         numbers = λ k t below at. let n = h.numbers k t below at in record { level = n.level; covered = n.covered; behind = n.behind };
         within = h.within;
         numbers_within = h.numbers_within;

@@ -6,7 +6,6 @@ use Rattle.nz_lists.proofs.Results.{on_ok}
 use Rattle.nz_spec.specs.terms.Table.{Node}
 use Rattle.nz_spec.specs.search.Work.{WorkList}
 use Rattle.nz_spec.specs.search.Search.{Task}
-use Rattle.nz_spec.specs.search.Places.{AreDecidedTold}
 use Rattle.nz_log.specs.declared.lits.Lit.{Lit}
 use Rattle.nz_search.specs.declared.note.Note.{Note}
 use Rattle.nz_search.specs.declared.stop.Stop.{Stop}
@@ -25,10 +24,10 @@ use Rattle.nz_reals.specs.State.{Theory}
 use Rattle.nz_sat.specs.Conflicts.{Refutes}
 use Rattle.nz_sat.specs.Numbers.{AreNotedIn, IsAtomAt, noted_atoms}
 use Rattle.nz_sat.specs.Sats as sat
-use Rattle.nz_sat.specs.Sats.{AreNamed, AreOn, AreSameSince, HoldsLearned, HoldsMore, IsAsked, IsSameSearch, IsSatisfied, IsTheoryMet, SatState}
+use Rattle.nz_sat.specs.Sats.{AreNamed, AreOn, AreSameSince, HoldsLearned, HoldsMore, IsAsked, IsSameSearch, IsSatisfied, IsTheoryMet, SatState, TellsTrue}
 use Rattle.nz_search.specs.Asked.{NamesParts}
 use Rattle.nz_search.specs.Levels.{Level, asserted_by_level}
-use Rattle.nz_engine.specs.Checking.{HasFound, HoldsNamed, IsBegun, IsPosed, IsUnderWay, MaySearch, EndsWith, IsPlain, IsPlainAtom, Works}
+use Rattle.nz_engine.specs.Checking.{HasFound, HoldsNamed, IsAllTold, IsBegun, IsPosed, IsUnderWay, MaySearch, EndsWith, IsPlain, IsPlainAtom, Works}
 use Rattle.nz_engine.specs.Engines.{literals_in}
 use Rattle.nz_engine.specs.Preparing.{BeganExcluded, IsSearched, IsSeen, PreparedState, ids_held}
 use Rattle.nz_engine.proofs.RefutedAssumptions.{refuted_by}
@@ -189,5 +188,9 @@ module _ {ns : List Node} {assumed : List TermLit} {first : ℕ} {old p : Prepar
       search_found levels t may of satisfied feasible =
           found_of b.laws.rows b.laws.atoms b.ready.some.1 b.ready.handed q grows refl refl of t after result satisfied feasible (search_ends levels t may)
 
-    pub search_told : IfOk result (λ o. o ≡ None → (ns : List Node) → AreDecidedTold (search_after ns after)) → IfOk result (λ o. o ≡ None → AreDecidedTold (search_after ns after))
-    search_told told = IfOk-weaker result _ _ (λ o all none. all none ns) told
+    -- each bound that is true was told
+    pub search_told : ((ns : List Node) → IsSameSearch (search_after ns work) (search_after ns after)) → IfOk result (λ o. o ≡ None → (ns : List Node) → TellsTrue ns log new ids (search_after ns after))
+        → IfOk result (λ o. o ≡ None → IsAllTold ns assumed q (search_after ns after))
+    search_told stays told =
+        IfOk-weaker result _ _
+        (λ o tells none. record { under = (stays ns).under ∙ (b.notes.under ns).under; tells = subst (λ (is : List ℕ). TellsTrue ns log new is (search_after ns after)) own (tells none ns) }) told

@@ -1,11 +1,11 @@
 -- Clauses that are held are as the search saw them, where the log keeps each of them, and where it sees the log again.
-use Rattle.std.proofs.Common.{◌≡◌, ℕ, ◌<◌, Bool, List, [], ◌∷◌, ◌++◌, Option, Some, None, refl, sym, subst, ◌∙◌, arith}
+use Rattle.std.proofs.Common.{◌≡◌, ℕ, ◌<◌, List, [], ◌∷◌, ◌++◌, Option, Some, None, refl, sym, subst, ◌∙◌, arith}
 use Rattle.std.specs.Prelude.{All, IsSome}
 use Rattle.std.proofs.lemmas.List.Elements.{All-append, All-from_recursion, All-weaker}
 use Rattle.nz_log.specs.Logs.{Entry, IsLive, LogState, Puts, entry_at, level_at}
 use Rattle.nz_reals.specs.State.{Theory}
 use Rattle.nz_sat.specs.declared.clauses.Held.{Held}
-use Rattle.nz_sat.specs.Sats.{AreHeld, AreSameSince, IsSameIn, SatState, added_as}
+use Rattle.nz_sat.specs.Sats.{AreHeld, AreSameSince, IsSameIn, SatState, held_of}
 use Rattle.nz_engine.proofs.HeldClauses.{same_literals}
 
 -- where the log keeps each clause that is held
@@ -38,9 +38,9 @@ live_since None log hs none = subst (All (λ (h : Held). IsLive log h.id)) (sym 
 live_since (Some s) log hs h = All-weaker (IsSameIn s log) (λ (h : Held). IsLive log h.id) (λ h k. k.0) hs h
 
 -- where one more of it is held, and it sees the log again
-pub seen_also : (is_redundant : Bool) (seen saw : Option LogState) (log : LogState) (hs more : List Held) (id : ℕ) → AreSameSince seen log hs → IsLive log id → more ≡ hs ++ added_as is_redundant log id ∷ [] → saw ≡ Some log → AreSameSince saw log more
-seen_also is_redundant seen saw log hs more id since live joined sees =
+pub seen_also : (seen saw : Option LogState) (log : LogState) (hs more : List Held) (id : ℕ) → AreSameSince seen log hs → IsLive log id → more ≡ hs ++ held_of log id ∷ [] → saw ≡ Some log → AreSameSince saw log more
+seen_also seen saw log hs more id since live joined sees =
     let P = λ (h : Held). IsLive log h.id in
-    let now = seen_now log (hs ++ added_as is_redundant log id ∷ [])
-    (All-append P hs (added_as is_redundant log id ∷ []) (live_since seen log hs since) (All-from_recursion P (added_as is_redundant log id ∷ []) (live, tt))) in
+    let now = seen_now log (hs ++ held_of log id ∷ [])
+    (All-append P hs (held_of log id ∷ []) (live_since seen log hs since) (All-from_recursion P (held_of log id ∷ []) (live, tt))) in
     subst (λ (s : Option LogState). AreSameSince s log more) (sym sees) (subst (AreSameSince (Some log) log) (sym joined) now)

@@ -1,21 +1,26 @@
 -- What is prepared stands also where learned clauses go: each row and each unit is held by a clause that was added.
-use Rattle.std.proofs.Common.{◌≡◌, ℕ, Bool, false, List, refl, ap, subst, sym}
+use Rattle.std.proofs.Common.{◌≡◌, ℕ, Bool, true, false, List, refl, ap, subst, sym, ◌∙◌, arith}
 use Rattle.std.specs.Prelude.{◌&&◌, All, Contains, not, nat_lt}
+use Rattle.nz_lists.proofs.Numbers.{not_below}
 use Rattle.nz_spec.specs.terms.Table.{Node}
 use Rattle.nz_log.specs.declared.lits.Lit.{Lit}
 use Rattle.nz_log.specs.Logs.{IsLive, level_at, literals_at}
 use Rattle.nz_reals.specs.State.{Theory}
 use Rattle.nz_search.specs.Levels.{Level}
 use Rattle.nz_sat.specs.declared.clauses.Held.{Held}
-use Rattle.nz_sat.specs.Sats.{SatState, held_of, held_shed, is_shed}
+use Rattle.nz_sat.specs.Sats.{SatState, added_as, held_shed, is_shed}
 use Rattle.nz_engine.specs.Preparing.{IsPrepared, IsSearched, PreparedState}
 use Rattle.nz_engine.proofs.LevelPreservation.{left_since}
 use Rattle.nz_engine.proofs.UnlistedClauses.{left_all, left_from, left_has}
 
 -- a clause that was added stays
-added_stays : (before glue : ℕ) (hs : List Held) (h : Held) → h.is_redundant ≡ false → Contains hs h → Contains (held_shed before glue hs) h
+added_stays : (before glue : ℕ) (hs : List Held) (h : Held) → h.glue ≡ 0 → Contains hs h → Contains (held_shed before glue hs) h
 added_stays before glue hs h added has =
-    left_has (λ (x : Held). not (is_shed before glue x)) hs h (ap (λ (b : Bool). not (b && (nat_lt h.id before && nat_lt glue h.glue))) added) has
+    left_has (λ (x : Held). not (is_shed before glue x)) hs h (ap (λ (n : ℕ). not (nat_lt h.id before && nat_lt glue n)) added ∙ either (nat_lt h.id before)) has
+  where
+    either : (b : Bool) → not (b && nat_lt glue 0) ≡ true
+    either true = ap not (not_below glue 0 (omega arith))
+    either false = refl
 
 module _ (ns : List Node) (levels : List Level) (roots : List (List ℕ)) (p : PreparedState) (before glue : ℕ) (h : IsPrepared ns levels roots p) where
   abbrev left : List Held
@@ -36,10 +41,10 @@ module _ (ns : List Node) (levels : List Level) (roots : List (List ℕ)) (p : P
         held = left_all (λ (x : Held). IsLive p.log x.id × (level_at p.log x.id ≡ x.level)) p.sat.clauses left left_only h.held;
         seen = left_since p.sat.seen p.log p.sat.clauses left left_only h.seen;
         searched = left_all (λ (x : Held). All (λ (l : Lit). IsSearched ns p.log p.form l.atom) (literals_at p.log x.id)) p.sat.clauses left left_only h.searched;
-        rows = λ i t row. added_stays before glue p.sat.clauses (held_of p.log i) refl (h.rows i t row);
+        rows = λ i t row. let r = h.rows i t row in record { need = r.need; may = r.may; has = added_stays before glue p.sat.clauses (added_as r.need p.log i) refl r.has };
         units = λ k t below at.
             let u = h.units k t below at in
-            record { held = u.held; there = added_stays before glue p.sat.clauses u.held u.added u.there; added = u.added; named = u.named; literals = u.literals; behind = u.behind };
+            record { held = u.held; there = added_stays before glue p.sat.clauses u.held u.added u.there; need = u.need; added = u.added; named = u.named; literals = u.literals; behind = u.behind };
         numbers = λ k t below at. let n = h.numbers k t below at in record { level = n.level; covered = n.covered; behind = n.behind };
         within = h.within;
         numbers_within = h.numbers_within;

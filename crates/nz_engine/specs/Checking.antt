@@ -52,7 +52,7 @@ use Rattle.nz_reals.specs.State.{Theory}
 use Rattle.nz_reals.specs.Sums.{AreNonzero}
 use Rattle.nz_sat.specs.Numbers.{AreNotedIn, IsAtomAt, atom_literal, numbered}
 use Rattle.nz_sat.specs.declared.clauses.Held.{Held}
-use Rattle.nz_sat.specs.Sats.{HoldsLearned, IsSatisfied, IsTheoryMet, truth_of}
+use Rattle.nz_sat.specs.Sats.{HoldsLearned, IsSatisfied, IsTheoryMet, truth_of, TellsTrue}
 use Rattle.nz_engine.specs.Engines.{literals_in}
 use Rattle.nz_engine.specs.Preparing.{AreJust, PreparedState, IsAllAdded, IsSearched, IsStanding, atoms_of, boolean_terms, ids_held}
 use Rattle.nz_engine.specs.SearchLaws.{SearchLaws}
@@ -374,6 +374,11 @@ pub record HasFound (ns : List Node) (assumed : List TermLit) (p : PreparedState
   pub told : List spec.Literal
   pub point : Point
   pub at : IsAt p.sat.theory ns forms told point
+
+-- The list goes under the assumed literals, and tells each bound that is true.
+pub record IsAllTold (ns : List Node) (assumed : List TermLit) (p : PreparedState) (s : Search) : Type 0 where
+  pub under : s.under ≡ map (literal_of ns) assumed
+  pub tells : TellsTrue ns p.log p.sat p.noted s
 
 -- ---- Truths
 

@@ -1,5 +1,5 @@
 -- What an engine keeps from check to check: clauses in a log, each held by a search.
-use Rattle.std.specs.Prelude.{◌≡◌, ◌⊎◌, ℕ, ◌<◌, ◌≤◌, ◌++◌, Bool, true, false, List, [], ◌∷◌, length, map, flat_map, min, take, suc, All, Contains, Some, None, IsSome, if◌then◌else◌, slice_get}
+use Rattle.std.specs.Prelude.{⊤, ◌≡◌, ◌⊎◌, ℕ, ◌<◌, ◌≤◌, ◌++◌, Bool, true, false, List, [], ◌∷◌, length, map, flat_map, min, take, suc, All, Contains, Some, None, IsSome, if◌then◌else◌, slice_get}
 use Rattle.nz_spec.specs.clauses.Gates.{is_boolean_term}
 use Rattle.nz_spec.specs.clauses.Literal.{StandOnce}
 use Rattle.nz_spec.specs.terms.Table.{Node, term_in}
@@ -10,9 +10,10 @@ use Rattle.nz_lin.specs.declared.bound.Bound.{Bound}
 use Rattle.nz_log.specs.declared.atoms.Atom.{Atom}
 use Rattle.nz_log.specs.declared.atoms.Atom.TheVariants.{Term, AtMost}
 use Rattle.nz_log.specs.declared.lits.Lit.{Lit}
+use Rattle.nz_log.specs.declared.origins.Subject.TheVariants.{Truth}
 use Rattle.nz_log.specs.Leveled.{IsLeveled}
 use Rattle.nz_log.specs.Atoms.{HasTerm, lit_of, term_place}
-use Rattle.nz_log.specs.Logs.{LogState, empty_log, literals_at, told_level, Drops}
+use Rattle.nz_log.specs.Logs.{LogState, empty_log, literals_at, told_level, Drops, subject_at}
 use Rattle.nz_log.specs.Sound.{IsLog, live_at}
 use Rattle.nz_log.specs.Growth.{Grows}
 use Rattle.nz_term.specs.TermLits.{yes}
@@ -24,6 +25,8 @@ use Rattle.nz_reals.specs.Exclusions.{AddsOn, HasNeighbours, IsExclusion}
 use Rattle.nz_reals.specs.Stands.{HasTold, IsOf}
 use Rattle.nz_reals.specs.State.{Theory}
 use Rattle.nz_sat.specs.declared.clauses.Held.{Held}
+use Rattle.nz_sat.specs.declared.clauses.Need.{Need}
+use Rattle.nz_sat.specs.declared.clauses.Need.TheVariants.{Always, Never, Of}
 use Rattle.nz_sat.specs.Sats.{SatState, AreHeld, AreSameSince, HoldsMore, added_as, held_of, held_up_to}
 use Rattle.nz_search.specs.Levels.{Level, added_by_level, asserted_by_level, numbers_by_level}
 use Rattle.nz_engine.specs.declared.levels.Kind.{Kind}
@@ -107,11 +110,24 @@ pub record IsMadeOf (ns : List Node) (roots : List ℕ) (t : ℕ) : Type 0 where
   pub within : root < length ns
   pub part : Contains (listing_order (term_in ns root)) (term_in ns t)
 
+-- A clause of the log may need a true literal so: always, or where the term has a truth that it is about.
+abbrev pub MayNeed : LogState → ℕ → Need → Type 0
+MayNeed log i Always = ⊤
+MayNeed log i (Of a) = (t : ℕ) × (subject_at log i ≡ Truth t) × (slice_get log.atoms a ≡ Some (Term t))
+MayNeed log i Never = ⊥
+
+-- The search holds a row of a table, which was added.
+pub record HoldsRow (log : LogState) (clauses : List Held) (i : ℕ) : Type 0 where
+  pub need : Need
+  pub may : MayNeed log i need
+  pub has : Contains clauses (added_as need log i)
+
 -- The search holds that a term is true, by a clause that was added, of a level below which no more than so many assertions stand.
 pub record HoldsUnit (levels : List (List ℕ)) (p : PreparedState) (k t : ℕ) : Type 0 where
   pub held : Held
   pub there : Contains p.sat.clauses held
-  pub added : held.is_redundant ≡ false
+  pub need : held.need ≡ Always
+  pub added : held.glue ≡ 0
   pub named : HasTerm p.log.atoms t
   pub literals : literals_at p.log held.id ≡ unit_of p.log t
   pub behind : count_in levels held.level ≤ k
@@ -139,7 +155,7 @@ pub record IsPrepared (ns : List Node) (levels : List Level) (roots : List (List
   pub held : AreHeld p.log p.sat.clauses
   pub seen : IsSeen p
   pub searched : AreSearched ns p.log p.form p.sat.clauses
-  pub rows : (i t : ℕ) → IsRowAt p.log i t → Contains p.sat.clauses (held_of p.log i)
+  pub rows : (i t : ℕ) → IsRowAt p.log i t → HoldsRow p.log p.sat.clauses i
   pub units : (k t : ℕ) → k < p.given → slice_get (asserted_numbers (asserted_by_level levels)) k ≡ Some t → HoldsUnit (asserted_by_level levels) p k t
   pub numbers : (k t : ℕ) → k < p.numbered → slice_get (asserted_numbers (numbers_by_level levels)) k ≡ Some t → IsNumbered (numbers_by_level levels) p k t
   pub within : p.given ≤ count_of (asserted_by_level levels)
@@ -226,7 +242,7 @@ pub record Excludes (log : LogState) (old : SatState Theory) (atoms : List ℕ) 
   pub adds : AddsOn atoms log log'
   pub ids : List ℕ
   pub exclusions : All (IsExclusion log' atoms) ids
-  pub joined : new.clauses ≡ old.clauses ++ map (added_as true log') ids
+  pub joined : new.clauses ≡ old.clauses ++ map (held_of log') ids
   pub seen : AreSameSince new.seen log' new.clauses
   pub neighbours : HasNeighbours new.theory log' atoms (ids_held new.clauses)
 

@@ -281,6 +281,9 @@ pub fn decide(
     theories_restart();
     pivots_are_legal();
     term_stays();
+    term_has_its_number();
+    rows_meet_tables();
+    atoms_of_terms();
     known_table(terms);
     let mut prepared = posed(alloc, kept, levels, terms, assumed, work)?;
     let refuted = prepared.solve(terms, assumed, work)?;

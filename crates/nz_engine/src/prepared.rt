@@ -3,7 +3,7 @@ ghost use Rattle.std.specs.Prelude.{◌≡◌, ℕ, ◌++◌, All, List, map, If
 ghost use Rattle.nz_spec.specs.terms.Table.{Node};
 ghost use Rattle.nz_log.specs.Logs.{IsLive};
 ghost use Rattle.nz_log.specs.Spelling.{AreStepsOf};
-ghost use Rattle.nz_sat.specs.Sats.{AreSameSince, added_as};
+ghost use Rattle.nz_sat.specs.Sats.{AreSameSince, held_of};
 ghost use Rattle.nz_search.specs.Levels.{Level};
 ghost use Rattle.nz_engine.specs.Preparing.{CutsTo, IsPrepared, nothing_prepared};
 
@@ -123,21 +123,16 @@ fn take_theory(alloc: Global, sat: &mut Sat<Reals>) -> Reals
     mem::replace(&mut sat.theory, Reals::new(alloc))
 }
 
-/// Holds these clauses too, as ones that need a true literal or as redundant ones.
-fn hold(
-    sat: &mut Sat<Reals>,
-    log: &Log,
-    clauses: &[ClauseId],
-    is_redundant: bool,
-) -> Result<(), Memory>
+/// Holds these clauses too.
+fn hold(sat: &mut Sat<Reals>, log: &Log, clauses: &[ClauseId]) -> Result<(), Memory>
     requires live { All (λ id. IsLive log.now id) clauses.now }
     requires since { AreSameSince sat.old.seen log.now sat.old.clauses }
     ensures since { OnOk result (AreSameSince sat.new.seen log.now sat.new.clauses) }
-    ensures held { OnOk result (sat.new.clauses ≡ sat.old.clauses ++ map (added_as is_redundant log.now) clauses.now) }
+    ensures held { OnOk result (sat.new.clauses ≡ sat.old.clauses ++ map (held_of log.now) clauses.now) }
     ensures theory { sat.new.theory ≡ sat.old.theory }
 {
     for clause in clauses {
-        sat.add(log, *clause, is_redundant)?;
+        sat.add(log, *clause)?;
     }
     Ok(())
 }

@@ -9,6 +9,8 @@ use Rattle.nz_spec.specs.clauses.Literal.{once}
 use Rattle.nz_log.specs.declared.atoms.Atom.{Atom}
 use Rattle.nz_log.specs.declared.lits.Lit.{Lit}
 use Rattle.nz_log.specs.declared.origins.Link.{Link}
+use Rattle.nz_log.specs.declared.origins.Subject.{Subject}
+use Rattle.nz_log.specs.declared.origins.Subject.TheVariants.{Derived, Itself, Truth}
 use Rattle.nz_rows.specs.declared.rows.RowLiteral.{RowLiteral}
 use Rattle.nz_log.specs.Atoms.{AreWithin, Stay, clause_in, literal_in, terms_at, lit_of, lits_of}
 use Rattle.nz_log.specs.declared.multiples.LitMultiple.{LitMultiple}
@@ -36,6 +38,17 @@ row_term (axiom_of (branch_of l)) = None
 row_term (axiom_of (cut_of ms)) = None
 row_term (chain_of first ks) = None
 
+-- what a clause is about: the truth of a term, where it is one of a link, or it follows from others or from arithmetic, or has to be true as it is
+abbrev pub subject_of : Origin → Subject
+subject_of (assertion_of k) = Itself
+subject_of (gate_of t j) = Itself
+subject_of (axiom_of (link_of t j)) = Truth t
+subject_of (axiom_of (unit_of t j)) = Itself
+subject_of (axiom_of (farkas_of ms)) = Derived
+subject_of (axiom_of (branch_of l)) = Derived
+subject_of (axiom_of (cut_of ms)) = Derived
+subject_of (chain_of first ks) = Derived
+
 pub record Entry : Type 0 where
   pub literals : List Lit
   pub level : ℕ
@@ -62,6 +75,9 @@ literals_at s i = elim (entry_at s i) [ None ↦ [] | Some e ↦ e.literals ]
 
 abbrev pub level_at : LogState → ℕ → ℕ
 level_at s i = elim (entry_at s i) [ None ↦ 0 | Some e ↦ e.level ]
+
+abbrev pub subject_at : LogState → ℕ → Subject
+subject_at s i = elim (entry_at s i) [ None ↦ Itself | Some e ↦ subject_of e.origin ]
 
 -- ---- Levels
 

@@ -21,5 +21,5 @@ pub use atoms::Atom;
 pub use lits::{AtomId, Lit};
 pub use log::Log;
 pub use multiples::LitMultiple;
-pub use origins::{ClauseId, Link};
+pub use origins::{ClauseId, Link, Subject};
 pub use steps::{Literal, LiteralMultiple, Step};

@@ -4,7 +4,7 @@ ghost use Rattle.nz_spec.specs.terms.Table.{Node};
 ghost use Rattle.nz_lin.specs.Bounds.{HasUnits, literal_over};
 ghost use Rattle.nz_log.specs.declared.atoms.Atom.TheVariants.{AtMost};
 ghost use Rattle.nz_log.specs.Atoms.{AreAtoms, HasTerm, IsFoundTerm, IsLitIn, JoinOnly, literal_in, term_place};
-ghost use Rattle.nz_log.specs.Logs.{IsLive, JoinsAtoms, Puts, RestsOn, empty_log, entry_at, level_at, literals_at};
+ghost use Rattle.nz_log.specs.Logs.{IsLive, JoinsAtoms, Puts, RestsOn, empty_log, entry_at, level_at, literals_at, subject_at};
 ghost use Rattle.nz_log.specs.Spelling.{AreStepsOf, literal_read};
 ghost use Rattle.nz_log.specs.Stored.{entry_of, origin_of};
 
@@ -16,7 +16,7 @@ mod names;
 
 use crate::atoms::{Atom, Atoms};
 use crate::lits::{AtomId, Lit};
-use crate::origins::{ClauseId, Stored};
+use crate::origins::{Axiom, ClauseId, Origin, Stored, Subject};
 use crate::resolvent::Resolvent;
 use crate::steps::{Literal, Step, spelled};
 use nz_base::Memory;
@@ -215,6 +215,20 @@ impl Log {
         ensures level { result ≡ level_at self.now id }
     {
         self.stored(id).level
+    }
+
+    /// What a clause is about.
+    pub fn subject(&self, id: ClauseId) -> Subject
+        requires live { IsLive self.now id }
+        ensures subject { result ≡ subject_at self.now id }
+    {
+        match &self.stored(id).origin {
+            Origin::Assertion(_) | Origin::Gate(..) | Origin::Axiom(Axiom::Unit(..)) => {
+                Subject::Itself
+            }
+            Origin::Axiom(Axiom::Link(term, _)) => Subject::Truth(*term),
+            Origin::Axiom(_) | Origin::Chain(..) => Subject::Derived,
+        }
     }
 
     /// The derivation of a clause: steps, numbered from 0, of which the last gives the clause, and each other one a clause that it

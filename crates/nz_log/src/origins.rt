@@ -42,6 +42,17 @@ pub enum Origin {
     Chain(ClauseId, Vec<Link>),
 }
 
+/// What a clause is about.
+#[derive(Clone, Copy, Debug, PartialEq, Eq)]
+pub enum Subject {
+    /// The truth of this comparison, of which it says which bounds follow.
+    Truth(TermId),
+    /// It has to be true as it is: an assertion, one of a gate, or one that says what a unit is.
+    Itself,
+    /// It follows from others, or from arithmetic.
+    Derived,
+}
+
 /// A clause as a log holds it.
 #[derive(Debug, Drop)]
 pub struct Stored {

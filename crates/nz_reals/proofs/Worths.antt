@@ -12,7 +12,7 @@ use Rattle.nz_spec.specs.simplex.Basis.{Valuation, worth, form_at, HasItsUnits}
 use Rattle.nz_spec.specs.simplex.BasisMoves.{AreNumbered}
 use Rattle.nz_spec.specs.simplex.Bland.{Point, Position, HasBasis}
 use Rattle.nz_spec.specs.search.Decide.{IsValueOf}
-use Rattle.nz_spec.specs.laws.Deciding.{IsMet}
+use Rattle.nz_spec.specs.clauses.Met.{IsMet}
 use Rattle.nz_spec.specs.clauses.Farkas.{bound_of}
 use Rattle.nz_spec.specs.terms.Form as spec
 use Rattle.nz_spec.specs.terms.Form.{unit_form, negated_part}

@@ -5,7 +5,7 @@ use Rattle.nz_fractions.specs.Fraction.{Fraction, ◌=ℚ◌, IsNumber}
 use Rattle.nz_spec.specs.simplex.Basis.{Valuation}
 use Rattle.nz_spec.specs.simplex.Bland.{Point, Position, HasValue}
 use Rattle.nz_spec.specs.search.Decide.{IsValueOf}
-use Rattle.nz_spec.specs.laws.Deciding.{IsMet}
+use Rattle.nz_spec.specs.clauses.Met.{IsMet}
 use Rattle.nz_spec.specs.terms.Form as form
 use Rattle.nz_spec.specs.numbers.Infinitesimal.{Infinitesimal, at}
 use Rattle.nz_spec.specs.clauses.Literal.{Literal, StandOnce}

@@ -22,6 +22,7 @@ use Rattle.nz_search.specs.Places.{OnWide}
 use Rattle.nz_search.specs.Standing.{Ends, Standing, Stands, search_after}
 use Rattle.nz_log.specs.Growth.{Grows}
 use Rattle.nz_sat.specs.declared.clauses.Held.{Held}
+use Rattle.nz_sat.specs.declared.clauses.Need.TheVariants.{Never}
 use Rattle.nz_sat.specs.declared.consult.Bounds.{Bounds}
 use Rattle.nz_sat.specs.declared.search.Search.{Search}
 use Rattle.nz_sat.specs.declared.trail.Assigned.{Assigned}
@@ -164,7 +165,7 @@ reaches_then {m = m} {m₁ = m₁} {m₂ = m₂} {s = s} {mid = mid} {a = a} {b 
       holds_more = record {
         learned = p.holds_more.learned ++ q.holds_more.learned;
         joined = q.holds_more.joined ∙ ap (λ (xs : List Held). xs ++ q.holds_more.learned) p.holds_more.joined ∙ append_assoc h p.holds_more.learned q.holds_more.learned;
-        are_redundant = All-append (λ (x : Held). x.is_redundant ≡ true) p.holds_more.learned q.holds_more.learned p.holds_more.are_redundant q.holds_more.are_redundant;
+        never_needed = All-append (λ (x : Held). x.need ≡ Never) p.holds_more.learned q.holds_more.learned p.holds_more.never_needed q.holds_more.never_needed;
         held = q.holds_more.held;
       };
       named = λ on. subst (λ (us : List ℕ). AreOn c us h₂) same (q.named (subst (λ (us : List ℕ). AreOn b us h₁) (sym same) (p.named on)));

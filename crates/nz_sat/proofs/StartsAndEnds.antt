@@ -1,18 +1,15 @@
 -- What a search knows where it begins, and what its end tells its callers.
-use Rattle.std.proofs.Common.{◌≡◌, ℕ, zero, suc, Bool, true, false, true≢false, List, [], ◌∷◌, ◌++◌, length, take, map, get_or, Option, Some, None, refl, sym, ap, subst, ◌∙◌, arith, append_assoc, Ok}
-use Rattle.std.specs.Prelude.{All, Contains, IsTrue, filter, option_map, slice_get}
+use Rattle.std.proofs.Common.{◌≡◌, ℕ, zero, suc, Bool, true, List, [], ◌∷◌, ◌++◌, length, take, map, get_or, Option, Some, refl, sym, ap, subst, ◌∙◌, arith, append_assoc, Ok}
+use Rattle.std.specs.Prelude.{All, Contains, IsSome, filter, option_map, slice_get}
 use Rattle.std.specs.declared.result.Result.{Result}
 use Rattle.std.proofs.lemmas.List.{append-nil, take_all}
 use Rattle.std.proofs.lemmas.List.Elements.{All-contains, All-map, All-same, All-weaker}
 use Rattle.std.proofs.lemmas.Option.{slice_get-get_or}
 use Rattle.nz_lists.proofs.Members.{has_found, map_has}
-use Rattle.nz_spec.specs.search.Atoms.{HasUnit, WasTold}
 use Rattle.nz_spec.specs.search.Legal.{Lead, after_line, after_lines}
-use Rattle.nz_spec.specs.search.Places.{AreDecidedTold}
 use Rattle.nz_spec.specs.search.Search as legal
-use Rattle.nz_spec.specs.search.Search.{Task, at_first, literal_by, literals_by, no_point, told_literals}
+use Rattle.nz_spec.specs.search.Search.{Task, at_first, literal_by, literals_by, no_point}
 use Rattle.nz_spec.specs.simplex.Bland.{Point}
-use Rattle.nz_spec.specs.clauses.Farkas.{is_linear_literal}
 use Rattle.nz_spec.specs.clauses.Literal.{Literal}
 use Rattle.nz_spec.specs.terms.Table.{Node}
 use Rattle.nz_spec.specs.search.Work.{BranchEntry, DecisionEntry, FoundEntry, LearnedEntry, NoteLine, PivotEntry, UnitLine, WorkLine, WorkList}
@@ -28,21 +25,23 @@ use Rattle.nz_search.specs.Notes.{noted_line, noted_list}
 use Rattle.nz_search.specs.Standing.{Ends, Standing, Stands, search_after}
 use Rattle.nz_search.specs.Theories.{IsBoundIn}
 use Rattle.nz_sat.specs.declared.clauses.Held.{Held}
+use Rattle.nz_sat.specs.declared.clauses.Need.{Need}
+use Rattle.nz_sat.specs.declared.clauses.Need.TheVariants.{Always, Never, Of}
 use Rattle.nz_sat.specs.declared.search.Search.{Search}
 use Rattle.nz_sat.specs.declared.trail.Assigned.{Assigned}
 use Rattle.nz_sat.specs.Clauses.{HasTrue}
 use Rattle.nz_sat.specs.Conflicts.{is_marked}
 use Rattle.nz_sat.specs.Numbers.{AreNotedIn, atom_literal, noted_atoms, numbered}
-use Rattle.nz_sat.specs.Sats.{AreConsistent, AreOn, HasBegun, HoldsLearned, IsAsked, IsSatisfied, IsTheoryMet, IsTrueClause, IsTrueLit, SatState}
+use Rattle.nz_sat.specs.Sats.{AreConsistent, AreOn, HasBegun, HoldsLearned, IsAsked, IsNeeded, IsSatisfied, IsTheoryMet, IsTrueClause, IsTrueLit, SatState, TellsTrue, truth_of}
 use Rattle.nz_sat.specs.Searching.{Advances, IsNoted, IsSearch, Satisfies, StaysInOrder, assumed_entries}
 use Rattle.nz_sat.specs.Theories.{IsMet, TellsTrail, TheoryState, bounds_on, told_literal, told_lits, told_on}
-use Rattle.nz_sat.specs.Trails.{AreTruthsOn, EachBehind, IsNext, IsTrueOn, is_decision}
+use Rattle.nz_sat.specs.Trails.{AreTruthsOn, EachBehind, IsNext, IsTrueOn, is_decision, truth_on}
 use Rattle.nz_sat.proofs.AssumedLiterals.{assumed_first, true_among}
 use Rattle.nz_sat.proofs.Chains.{filter_from, filter_has}
 use Rattle.nz_sat.proofs.LearnedClauses.{all_from}
 use Rattle.nz_sat.proofs.Levels.{below_true}
 use Rattle.nz_sat.proofs.LogGrowth.{said}
-use Rattle.nz_sat.proofs.ToldTrails.{entry_from, front_has, says_itself, says_numbered, stands_by, told_among, told_entry, told_said}
+use Rattle.nz_sat.proofs.ToldTrails.{entry_from, front_has, says_numbered, stands_by, told_among, told_entry, told_said}
 use Rattle.nz_sat.proofs.AtomTrails.{bound_marked, marked_bound}
 use Rattle.nz_sat.proofs.TrailEntries.{assigned_at}
 
@@ -122,17 +121,23 @@ ends_later A IsAt ns q work x s = (s.point, s.legal)
 
 -- ---- At the end
 
+-- what is needed by truths is needed by the same truths
+needed_by : (truth other : ℕ → Option Bool) → ((t : ℕ) → truth t ≡ other t) → (n : Need) → IsNeeded truth n → IsNeeded other n
+needed_by truth other same Always h = tt
+needed_by truth other same (Of t) h = subst IsSome (same t) h
+needed_by truth other same Never h = h
+
 -- what holds on the trail is what the truths say
 pub satisfied : {T : Type 0} → (log : LogState) (held : List Held) (assumed : List Lit) (atoms : List ℕ) (s : Search) (work : WorkList Note) (t : SatState T) → t.clauses ≡ held
     → AreTruthsOn s.trail.entries t.truths → Satisfies log held assumed atoms s work → IsSatisfied log t assumed
 satisfied log held assumed atoms s work t same truths h =
     let es = s.trail.entries in
     let is_true : (l : Lit) → IsTrueOn es l → IsTrueLit t l = λ l on. truths l.atom ∙ on in
-    let Truly : Held → Type 0 = λ x. x.is_redundant ≡ false → IsTrueClause t (literals_at log x.id) in
+    let Truly : Held → Type 0 = λ x. IsNeeded (truth_of t) x.need → IsTrueClause t (literals_at log x.id) in
     record {
       clauses = All-same Truly t.clauses held same
-          (All-weaker (λ (x : Held). x.is_redundant ≡ false → HasTrue es (literals_at log x.id)) Truly
-          (λ x has needed. let one = has needed in (one.literal, one.has, is_true one.literal one.holds)) held h.have_true);
+          (All-weaker (λ (x : Held). IsNeeded (truth_on es) x.need → HasTrue es (literals_at log x.id)) Truly
+          (λ x has needed. let one = has (needed_by (truth_of t) (truth_on es) truths x.need needed) in (one.literal, one.has, is_true one.literal one.holds)) held h.have_true);
       assumed_hold = λ k d inside.
           let l = get_or assumed k d in
           is_true l (below_true s.trail.size es h.search.on.order 0 l.atom l.sign (h.hold k d inside));
@@ -182,36 +187,27 @@ theory_met m log held s t atoms h same truths met =
       all = λ l atom bound holds. told_true m log held s h met l bound (sym (truths l.atom) ∙ holds);
     }
 
--- a literal that is linear is on a bound
-linear_bound : (ns : List Node) (state : LogState) (l : Lit) → IsTrue (is_linear_literal (literal_in ns state.atoms l)) → IsBoundIn state l
-linear_bound ns state l linear = bound_of (slice_get state.atoms l.atom) l.sign refl linear where
-  bound_of : (o : Option log.Atom) (sign : Bool) → slice_get state.atoms l.atom ≡ o → IsTrue (is_linear_literal (said ns sign o)) → IsBoundIn state l
-  bound_of None sign at h = absurd (true≢false (sym h))
-  bound_of (Some (Term t)) true at h = absurd (true≢false (sym h))
-  bound_of (Some (Term t)) false at h = absurd (true≢false (sym h))
-  bound_of (Some (AtMost b)) sign at h = (b, at)
-
--- each bound that was decided was told
-pub decided_told : (m : TheoryState) (log : LogState) (held : List Held) (assumed : List Lit) (atoms : List ℕ) (s : Search) (work : WorkList Note) → Satisfies log held assumed atoms s work
-    → IsMet m s.bounds s.trail.entries → (ns : List Node) → AreDecidedTold (search_after ns work)
-decided_told m log held assumed atoms s work h met ns =
+-- what was decided are true literals, and each bound that is true was told
+pub tells_true : {T : Type 0} → (m : TheoryState) (log : LogState) (held : List Held) (assumed : List Lit) (atoms : List ℕ) (s : Search) (work : WorkList Note) (t : SatState T)
+    → AreTruthsOn s.trail.entries t.truths → Satisfies log held assumed atoms s work → IsMet m s.bounds s.trail.entries → (ns : List Node) → TellsTrue ns log t atoms (search_after ns work)
+tells_true m log held assumed atoms s work t truths h met ns =
     let es = s.trail.entries in
     let r = search_after ns work in
     let f : Assigned → ℕ × Bool = λ e. numbered s.atoms e.literal in
-    let T : Literal → Type 0 = λ l. IsTrue (is_linear_literal l) → HasUnit l → WasTold r l in
+    let T : Literal → Type 0 = λ l. (x : Lit) × Contains atoms x.atom × IsTrueLit t x × (l ≡ literal_in ns log.atoms x) in
     let one : (e : Assigned) → Contains (filter is_decision es) e → T (literal_by r.atoms (f e)) =
     λ e has.
     let on : Contains es e = (filter_from is_decision es e has).0 in
-    let named = All-contains (λ (x : Assigned). Contains s.atoms x.literal.atom) es e h.search.on.on_trail on in
-    let says = says_numbered ns log s.atoms s.bounds es work h.noted.trail e.literal named in
-    subst T (sym says)
-    (λ linear unit.
     let at : slice_get es on.0 ≡ Some e = slice_get-get_or es on.0 e on.1 ∙ ap Some on.2 in
-    let told = told_true m log held s h.search met e.literal (linear_bound ns log e.literal linear) (entry_true s.trail.size es h.search.on.order on.0 e at) in
-    let has_told = map_has (literal_in ns log.atoms) (told_lits s.bounds es) e.literal told in
-    let m' = literal_in ns log.atoms e.literal in
-    let in_list : Contains (told_literals r) m' =
-    subst (λ (ls : List Literal). Contains ls m') (sym (told_said ns log s.atoms s.bounds es work h.noted.trail)) has_told in
-    (m', says_itself m', true, false, in_list)) in
-    subst (λ (ps : List (ℕ × Bool)). All T (literals_by r.atoms ps)) (sym (h.noted.trail.decided ns))
-    (All-map T (literal_by r.atoms) (map f (filter is_decision es)) (All-map (λ (p : ℕ × Bool). T (literal_by r.atoms p)) f (filter is_decision es) (all_from (λ (e : Assigned). T (literal_by r.atoms (f e))) (filter is_decision es) one)))
+    let named : Contains s.atoms e.literal.atom = All-contains (λ (x : Assigned). Contains s.atoms x.literal.atom) es e h.search.on.on_trail on in
+    let says = says_numbered ns log s.atoms s.bounds es work h.noted.trail e.literal named in
+    (e.literal, subst (λ (us : List ℕ). Contains us e.literal.atom) h.same named, truths e.literal.atom ∙ entry_true s.trail.size es h.search.on.order on.0 e at, says) in
+    record {
+      decided = subst (λ (ps : List (ℕ × Bool)). All T (literals_by r.atoms ps)) (sym (h.noted.trail.decided ns))
+          (All-map T (literal_by r.atoms) (map f (filter is_decision es))
+          (All-map (λ (p : ℕ × Bool). T (literal_by r.atoms p)) f (filter is_decision es) (all_from (λ (e : Assigned). T (literal_by r.atoms (f e))) (filter is_decision es) one)));
+      told = λ l bound holds.
+          let told = told_true m log held s h.search met l bound (sym (truths l.atom) ∙ holds) in
+          subst (λ (ls : List Literal). Contains ls (literal_in ns log.atoms l)) (sym (told_said ns log s.atoms s.bounds es work h.noted.trail))
+          (map_has (literal_in ns log.atoms) (told_lits s.bounds es) l told);
+    }

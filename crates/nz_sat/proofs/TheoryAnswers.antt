@@ -406,7 +406,7 @@ back_refuted {m = m} {m' = m'} {start = start} {cut = cut} {log = log} {log' = l
       grows = grows_far log log' new p.grows grows;
       sound = λ ns levels known within order.
           more ns levels (p.keeps.over ns known) (atoms_stay log.atoms log'.atoms p.grows.atoms ns start.atoms within) (p.sound ns levels known within order);
-      holds_more = record { learned = p.holds_more.learned; joined = p.holds_more.joined; are_redundant = p.holds_more.are_redundant; held = held_on log' new held' grows p.holds_more.held };
+      holds_more = record { learned = p.holds_more.learned; joined = p.holds_more.joined; never_needed = p.holds_more.never_needed; held = held_on log' new held' grows p.holds_more.held };
       named = λ on. on_kept log' new start.atoms held' grows p.holds_more.held (p.named on);
       learned = λ before. learned_grown log' new start.atoms held' grows p.holds_more.held work' (p.learned before);
       adds = p.adds;

@@ -1,20 +1,24 @@
 -- A search over clauses of a log, as its callers see it.
-use Rattle.std.specs.Prelude.{◌≡◌, ◌==◌, ◌&&◌, ℕ, ◌++◌, Bool, true, false, not, All, Contains, List, [], ◌∷◌, map, filter, nat_le, nat_lt, Option, Some, None, option_map, slice_index_or}
+use Rattle.std.specs.Prelude.{◌≡◌, ◌==◌, ◌&&◌, ℕ, ◌++◌, Bool, true, not, All, Contains, List, [], ◌∷◌, map, filter, nat_le, nat_lt, Option, Some, None, IsSome, ⊤, option_map, slice_get, slice_index_or}
 use Rattle.nz_spec.specs.terms.Table.{Node, IsTable}
 use Rattle.nz_spec.specs.search.Decide.{asserted_terms}
-use Rattle.nz_spec.specs.search.Search.{Task, Search}
+use Rattle.nz_spec.specs.search.Search.{Task, Search, literals_by, told_literals}
 use Rattle.nz_spec.specs.clauses.Gates.{holds}
 use Rattle.nz_spec.specs.search.Work.{WorkList}
-use Rattle.nz_spec.specs.clauses.Literal.{are_same_sign, StandOnce}
+use Rattle.nz_spec.specs.clauses.Literal.{Literal, are_same_sign, StandOnce}
 use Rattle.nz_log.specs.declared.lits.Lit.{Lit}
-use Rattle.nz_log.specs.Atoms.{literal_in}
+use Rattle.nz_log.specs.declared.origins.Subject.{Subject}
+use Rattle.nz_log.specs.declared.origins.Subject.TheVariants.{Derived, Itself, Truth}
+use Rattle.nz_log.specs.Atoms.{literal_in, term_place}
 use Rattle.nz_log.specs.Lits.{negated_lit}
-use Rattle.nz_log.specs.Logs.{LogState, IsLive, literals_at, level_at}
+use Rattle.nz_log.specs.Logs.{LogState, IsLive, literals_at, level_at, subject_at}
 use Rattle.nz_log.specs.Sound.{IsLog}
 use Rattle.nz_search.specs.declared.note.Note.{Note}
 use Rattle.nz_search.specs.Standing.{search_after}
 use Rattle.nz_search.specs.Theories.{IsBoundIn}
 use Rattle.nz_sat.specs.declared.clauses.Held.{Held}
+use Rattle.nz_sat.specs.declared.clauses.Need.{Need}
+use Rattle.nz_sat.specs.declared.clauses.Need.TheVariants.{Always, Never, Of}
 use Rattle.nz_sat.specs.declared.clauses.Part.{Part}
 use Rattle.nz_sat.specs.declared.clauses.Part.TheVariants.{But, Shed, UpTo}
 use Rattle.nz_sat.specs.Numbers.{IsAtomAt, numbered}
@@ -27,6 +31,12 @@ pub record SatState (T : Type 0) : Type 0 where
   pub seen : Option LogState
 
 -- ---- Truths
+
+-- a clause needs a true literal by the truths of atoms
+abbrev pub IsNeeded : (ℕ → Option Bool) → Need → Type 0
+IsNeeded truth Always = ⊤
+IsNeeded truth (Of t) = IsSome (truth t)
+IsNeeded truth Never = ⊥
 
 module _ {T : Type 0} where
   abbrev pub truth_of : SatState T → ℕ → Option Bool
@@ -43,9 +53,9 @@ module _ {T : Type 0} where
   abbrev pub IsTrueClause : SatState T → List Lit → Type 0
   IsTrueClause s c = (l : Lit) × Contains c l × IsTrueLit s l
 
-  -- Each clause that isn't redundant has a true literal, and each assumed literal is true. Other atoms may have no truth.
+  -- Each clause that needs one has a true literal, and each assumed literal is true. Other atoms may have no truth.
   pub record IsSatisfied (log : LogState) (s : SatState T) (assumed : List Lit) : Type 0 where
-    pub clauses : All (λ (h : Held). h.is_redundant ≡ false → IsTrueClause s (literals_at log h.id)) s.clauses
+    pub clauses : All (λ (h : Held). IsNeeded (truth_of s) h.need → IsTrueClause s (literals_at log h.id)) s.clauses
     pub assumed_hold : All (IsTrueLit s) assumed
 
   -- The theory was told just the literals of the atoms that are bounds and true, and some values meet them.
@@ -56,6 +66,11 @@ module _ {T : Type 0} where
     pub bounds : All (IsBoundIn log) literals
     pub hold : All (IsTrueLit s) literals
     pub all : (l : Lit) → Contains atoms l.atom → IsBoundIn log l → IsTrueLit s l → Contains literals l
+
+  -- Where a list leads to, what was decided are true literals of these atoms, and each bound that is true was told.
+  pub record TellsTrue (ns : List Node) (log : LogState) (s : SatState T) (atoms : List ℕ) (after : Search) : Type 0 where
+    pub decided : All (λ (m : Literal). (l : Lit) × Contains atoms l.atom × IsTrueLit s l × (m ≡ literal_in ns log.atoms l)) (literals_by after.atoms after.decided)
+    pub told : (l : Lit) → IsBoundIn log l → IsTrueLit s l → Contains (told_literals after) (literal_in ns log.atoms l)
 
 -- ---- Clauses
 
@@ -76,20 +91,29 @@ AreSameSince None log held = held ≡ []
 AreSameSince (Some seen) log held = All (IsSameIn seen log) held
 
 -- a clause that is added, with its level
-abbrev pub added_as : Bool → LogState → ℕ → Held
-added_as is_redundant log id = record { id = id; level = level_at log id; is_redundant = is_redundant; glue = 0 }
+abbrev pub added_as : Need → LogState → ℕ → Held
+added_as need log id = record { id = id; level = level_at log id; need = need; glue = 0 }
 
--- one that needs a true literal
+-- when a clause of a log needs a true literal: where the term that it is about has a truth, if it has an atom
+abbrev pub need_by : LogState → Subject → Need
+need_by log (Truth t) = elim (slice_get log.atoms (term_place log.atoms t)) [ None ↦ Always | Some a ↦ Of (term_place log.atoms t) ]
+need_by log Itself = Always
+need_by log Derived = Never
+
+abbrev pub need_at : LogState → ℕ → Need
+need_at log i = need_by log (subject_at log i)
+
+-- one that needs a true literal as it says
 abbrev pub held_of : LogState → ℕ → Held
-held_of log id = added_as false log id
+held_of log id = added_as (need_at log id) log id
 
 -- a clause that the search learned, with its level, and its measure
 abbrev pub learned_of : LogState → ℕ → ℕ → Held
-learned_of log id glue = record { id = id; level = level_at log id; is_redundant = true; glue = glue }
+learned_of log id glue = record { id = id; level = level_at log id; need = Never; glue = glue }
 
--- no clause needs a true literal
-abbrev pub AreRedundant : List Held → Type 0
-AreRedundant held = All (λ (h : Held). h.is_redundant ≡ true) held
+-- no clause ever needs a true literal
+abbrev pub AreNeverNeeded : List Held → Type 0
+AreNeverNeeded held = All (λ (h : Held). h.need ≡ Never) held
 
 -- those at or below a level
 abbrev pub held_up_to : ℕ → List Held → List Held
@@ -101,7 +125,7 @@ held_but id held = filter (λ (h : Held). not (h.id == id)) held
 
 -- whether a clause was learned before the one of a number, with literals of more than so many levels
 abbrev pub is_shed : (before glue : ℕ) → Held → Bool
-is_shed before glue h = h.is_redundant && (nat_lt h.id before && nat_lt glue h.glue)
+is_shed before glue h = nat_lt h.id before && nat_lt glue h.glue
 
 -- those but the ones that were
 abbrev pub held_shed : (before glue : ℕ) → List Held → List Held
@@ -125,7 +149,7 @@ AreOn log atoms held = All (λ (h : Held). All (λ (l : Lit). Contains atoms l.a
 pub record HoldsMore (log : LogState) (old new : List Held) : Type 0 where
   pub learned : List Held
   pub joined : new ≡ old ++ learned
-  pub are_redundant : AreRedundant learned
+  pub never_needed : AreNeverNeeded learned
   pub held : AreHeld log new
 
 -- each clause that a list says was learned is held, with the same literals by the numbers of these atoms

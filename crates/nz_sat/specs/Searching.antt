@@ -1,5 +1,5 @@
 -- A search under way.
-use Rattle.std.specs.Prelude.{◌≡◌, ◌==◌, if◌then◌else◌, ℕ, suc, ◌<◌, ◌≤◌, ◌++◌, ◌⊎◌, Bool, false, All, Contains, List, [], ◌∷◌, length, map, Option, Some, None, IfErr, IfOk, IfSome, IsSome, unwrap_or}
+use Rattle.std.specs.Prelude.{◌≡◌, ◌==◌, if◌then◌else◌, ℕ, suc, ◌<◌, ◌≤◌, ◌++◌, ◌⊎◌, Bool, All, Contains, List, [], ◌∷◌, length, map, Option, Some, None, IfErr, IfOk, IfSome, IsSome, unwrap_or}
 use Rattle.std.specs.declared.result.Result.{Result}
 use Rattle.nz_spec.specs.terms.Table.{Node}
 use Rattle.nz_spec.specs.clauses.Literal.{StandOnce}
@@ -14,12 +14,12 @@ use Rattle.nz_sat.specs.declared.analyze.Learned.{Learned}
 use Rattle.nz_sat.specs.declared.search.Search.{Search}
 use Rattle.nz_sat.specs.declared.trail.Assigned.{Assigned}
 use Rattle.nz_log.specs.Sound.{IsLog}
-use Rattle.nz_sat.specs.Trails.{GoesOn, IsTrueOn, assigned, below, decided, depth, implied, with_entry}
+use Rattle.nz_sat.specs.Trails.{GoesOn, IsTrueOn, assigned, below, decided, depth, implied, truth_on, with_entry}
 use Rattle.nz_sat.specs.Clauses.{HasReasonOf, HasTrue, IsAssumed, IsFalsified, IsOpen}
 use Rattle.nz_log.specs.Growth.{Grows}
 use Rattle.nz_sat.specs.Conflicts.{AreUnmarked, IsFalsifiedUnder}
 use Rattle.nz_sat.specs.Numbers.{IsAtomAt, number_of, numbered}
-use Rattle.nz_sat.specs.Sats.{AreConsistent, AreHeld, AreOn, HoldsLearned, HoldsMore, ids}
+use Rattle.nz_sat.specs.Sats.{AreConsistent, AreHeld, AreOn, HoldsLearned, HoldsMore, IsNeeded, ids}
 use Rattle.nz_sat.specs.Theories.{AddsLines, EndsLegally, IsMet, IsOfSearch, IsTrailOn, Keeps, TellsTrail, TheoryState, told_lits}
 use Rattle.nz_sat.specs.Watched.{AreWatched, HoldsAs, lone_ids, watch_state}
 
@@ -239,9 +239,9 @@ pub record Runs (log : LogState) (held : List Held) (assumed : List Lit) (start 
   pub assumed_only : All (IsAssumed assumed) s.trail.entries
   pub hold : All (IsTrueOn (below 0 s.trail.entries)) assumed
 
--- each clause that isn't redundant has a true literal
+-- each clause that needs one has a true literal
 abbrev pub HaveTrue : LogState → List Held → List Assigned → Type 0
-HaveTrue log held es = All (λ (h : Held). h.is_redundant ≡ false → HasTrue es (literals_at log h.id)) held
+HaveTrue log held es = All (λ (h : Held). IsNeeded (truth_on es) h.need → HasTrue es (literals_at log h.id)) held
 
 -- An atom is undecided that a clause has a literal of.
 pub record IsUndecidedIn (log : LogState) (held : Held) (es : List Assigned) (t : ℕ) : Type 0 where

@@ -1,32 +1,57 @@
 //! The clauses of a search.
-ghost use Rattle.std.specs.Prelude.{◌≡◌};
+ghost use Rattle.std.specs.Prelude.{◌≡◌, false};
 ghost use Rattle.nz_log.specs.Logs.{IsLive};
 ghost use Rattle.nz_sat.specs.Clauses.{held_as, other_in, watched_as, with_watch};
-ghost use Rattle.nz_sat.specs.Sats.{added_as, is_in, learned_of};
+ghost use Rattle.nz_sat.specs.Sats.{IsNeeded, held_of, is_in, learned_of, need_at};
+ghost use Rattle.nz_sat.specs.Trails.{truth_on};
 
-use nz_log::{ClauseId, Lit, Log};
+use crate::trail::Trail;
+use nz_log::laws::atoms_of_terms;
+use nz_log::{AtomId, ClauseId, Lit, Log, Subject};
+
+/// When a clause has to have a true literal where values are found.
+#[derive(Clone, Copy, Debug, PartialEq, Eq)]
+pub enum Need {
+    Always,
+    /// Where this atom has a truth, of which the clause says something.
+    Of(AtomId),
+    /// It follows from the others, as learned clauses do, or from arithmetic.
+    Never,
+}
+
+impl Need {
+    /// Whether it has to, on a trail.
+    pub(crate) fn is_now(self, trail: &Trail) -> bool
+        ensures so { result ≡ false → IsNeeded (truth_on trail.now.entries) self → ⊥ }
+    {
+        match self {
+            Need::Always => true,
+            Need::Of(atom) => trail.assigned(atom).is_some(),
+            Need::Never => false,
+        }
+    }
+}
 
 /// A clause of a search, with its level.
 #[derive(Clone, Copy, Debug, PartialEq, Eq)]
 pub struct Held {
     pub id: ClauseId,
     pub level: usize,
-    /// Whether it needs no true literal: it follows from the others, as learned clauses do, or from arithmetic.
-    pub is_redundant: bool,
+    pub need: Need,
     /// Of a learned one, of how many levels its literals were when it was learned, at least 1, and 0 of one that was added.
     pub glue: usize,
 }
 
 impl Held {
     /// A clause of the log that is added.
-    pub(crate) fn added(log: &Log, id: ClauseId, is_redundant: bool) -> Held
+    pub(crate) fn added(log: &Log, id: ClauseId) -> Held
         requires live { IsLive log.now id }
-        ensures held { result ≡ added_as is_redundant log.now id }
+        ensures held { result ≡ held_of log.now id }
     {
         Held {
             id,
             level: log.level(id),
-            is_redundant,
+            need: need_of(log, id),
             glue: 0,
         }
     }
@@ -39,9 +64,25 @@ impl Held {
         Held {
             id,
             level: log.level(id),
-            is_redundant: true,
+            need: Need::Never,
             glue,
         }
+    }
+}
+
+/// When a clause of a log has to have a true literal. Without an atom of the term that it is about it has to have one always.
+fn need_of(log: &Log, id: ClauseId) -> Need
+    requires live { IsLive log.now id }
+    ensures need { result ≡ need_at log.now id }
+{
+    atoms_of_terms();
+    match log.subject(id) {
+        Subject::Truth(term) => match log.find_term(term) {
+            Some(atom) => Need::Of(atom),
+            None => Need::Always,
+        },
+        Subject::Itself => Need::Always,
+        Subject::Derived => Need::Never,
     }
 }
 
@@ -64,9 +105,7 @@ impl Part {
         match self {
             Part::UpTo(level) => held.level <= level,
             Part::But(id) => held.id != id,
-            Part::Shed { before, glue } => {
-                !(held.is_redundant && held.id < before && glue < held.glue)
-            }
+            Part::Shed { before, glue } => !(held.id < before && glue < held.glue),
         }
     }
 }
@@ -77,8 +116,7 @@ pub struct WatchedClause {
     /// Its number in the log.
     pub id: ClauseId,
     pub level: usize,
-    /// Whether it needs no true literal.
-    pub is_redundant: bool,
+    pub need: Need,
     /// Of a learned one, of how many levels its literals were when it was learned.
     pub glue: usize,
     pub first: Lit,
@@ -93,7 +131,7 @@ impl WatchedClause {
         WatchedClause {
             id: held.id,
             level: held.level,
-            is_redundant: held.is_redundant,
+            need: held.need,
             glue: held.glue,
             first,
             second,
@@ -107,7 +145,7 @@ impl WatchedClause {
         Held {
             id: self.id,
             level: self.level,
-            is_redundant: self.is_redundant,
+            need: self.need,
             glue: self.glue,
         }
     }

@@ -1,5 +1,5 @@
-//! A search by clause learning over the clauses of a log: an assignment of the noted atoms that makes each of its clauses true, or a
-//! clause of the log that refutes the assumed literals.
+//! A search by clause learning over the clauses of a log: truths of some of the noted atoms that make each of its clauses true that needs it,
+//! or a clause of the log that refutes the assumed literals.
 #![tactic(auto)]
 
 mod analyze;
@@ -22,5 +22,5 @@ mod trail;
 mod turns;
 mod watches;
 
-pub use clauses::Held;
+pub use clauses::{Held, Need};
 pub use sat::Sat;

@@ -1,14 +1,15 @@
 //! Clauses that need a true literal and have none: only what is in one of them has to be decided.
-ghost use Rattle.std.specs.Prelude.{◌≡◌, ◌^◌, ◌<◌, false, Contains, IfSome, None};
+ghost use Rattle.std.specs.Prelude.{◌≡◌, ◌^◌, ◌<◌, Contains, IfSome, None};
 ghost use Rattle.nz_log.specs.Logs.{IsLive, literals_at};
 ghost use Rattle.nz_sat.specs.declared.clauses.Held.{Held};
 ghost use Rattle.nz_sat.specs.Clauses.{HasTrue, IsOpen};
-ghost use Rattle.nz_sat.specs.Sats.{AreHeld};
+ghost use Rattle.nz_sat.specs.Sats.{AreHeld, IsNeeded};
 ghost use Rattle.nz_sat.specs.Searching.{AreOpen, HaveTrue, IsUndecidedIn};
-ghost use Rattle.nz_sat.specs.Trails.{assigned};
+ghost use Rattle.nz_sat.specs.Trails.{assigned, truth_on};
 ghost use Rattle.nz_sat.specs.Watched.{AreWatched, watch_state};
 
 use crate::clauses::Held;
+use crate::order::Order;
 use crate::propagation::Propagation;
 use crate::trail::Trail;
 use nz_log::{AtomId, Lit, Log};
@@ -33,29 +34,31 @@ fn undecided(trail: &Trail, literals: &[Lit]) -> Option<Lit>
 fn undecided_in(log: &Log, held: Held, trail: &Trail) -> Option<AtomId>
     requires live { IsLive log.now held.id }
     ensures undecided { IfSome result (IsUndecidedIn log.now held trail.now.entries) }
-    ensures none { result ≡ None → held.is_redundant ≡ false → IsOpen trail.now.entries (literals_at log.now held.id) → HasTrue trail.now.entries (literals_at log.now held.id) }
+    ensures none { result ≡ None → IsNeeded (truth_on trail.now.entries) held.need → IsOpen trail.now.entries (literals_at log.now held.id) → HasTrue trail.now.entries (literals_at log.now held.id) }
 {
-    if held.is_redundant {
+    if !held.need.is_now(trail) {
         return None;
     }
     let literal = undecided(trail, log.clause(held.id))?;
     Some(literal.atom())
 }
 
-/// An undecided atom of the first of these clauses that needs a true literal and has none.
-pub fn first_undecided(log: &Log, held: &[Held], trail: &Trail) -> Option<AtomId>
+/// An undecided atom of the first of these clauses that needs a true literal and has none. The undecided atoms of all such clauses are wanted.
+pub fn first_undecided(log: &Log, held: &[Held], trail: &Trail, order: &mut Order) -> Option<AtomId>
     requires held { AreHeld log.now held.now }
     requires open { AreOpen log.now held.now trail.now.entries }
     ensures undecided { IfSome result (λ t. (h : Held) × Contains held.now h × IsUndecidedIn log.now h trail.now.entries t) }
     ensures none { result ≡ None → HaveTrue log.now held.now trail.now.entries }
 {
+    let mut first = None;
     for one in held {
         let found = undecided_in(log, *one, trail);
         if found.is_some() {
-            return found;
+            order.want(trail, log.clause(one.id));
         }
+        first = first.or(found);
     }
-    None
+    first
 }
 
 impl Propagation {

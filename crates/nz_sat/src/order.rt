@@ -91,6 +91,15 @@ impl Order {
         }
     }
 
+    /// The undecided atoms of these literals are wanted.
+    pub fn want(&mut self, trail: &Trail, literals: &[Lit]) {
+        for literal in literals {
+            if trail.value(*literal).is_none() {
+                self.heap.insert(literal.atom());
+            }
+        }
+    }
+
     /// The search goes back to a level: what was unwanted above it may be wanted.
     pub fn go_back(&mut self, level: usize) {
         while let Some(last) = self.unwanted.last().copied() {

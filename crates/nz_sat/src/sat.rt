@@ -1,6 +1,5 @@
 //! The search as its callers see it.
 ghost use Rattle.std.specs.Prelude.{◌≡◌, ℕ, ◌≤◌, ◌∷◌, ◌++◌, [], All, List, None, Some, IfErr, IfOk, IfSome, OnErr, OnOk};
-ghost use Rattle.nz_spec.specs.search.Places.{AreDecidedTold};
 ghost use Rattle.nz_spec.specs.search.Search.{Task};
 ghost use Rattle.nz_spec.specs.terms.Table.{Node};
 ghost use Rattle.nz_spec.specs.search.Work.{IsSpent, unit_count};
@@ -15,7 +14,7 @@ ghost use Rattle.nz_search.specs.Standing.{Ends, Stands, search_after};
 ghost use Rattle.nz_log.specs.Growth.{Grows};
 ghost use Rattle.nz_sat.specs.Conflicts.{Refutes};
 ghost use Rattle.nz_sat.specs.Numbers.{AreNotedIn, IsAtomAt, noted_atoms};
-ghost use Rattle.nz_sat.specs.Sats.{AreConsistent, AreHeld, AreNamed, AreOn, AreSameSince, HasBegun, HoldsLearned, HoldsMore, IsAsked, IsSameSearch, IsSatisfied, IsTheoryMet, added_as, held_but, held_part, held_shed, held_up_to, is_in, literal_truth};
+ghost use Rattle.nz_sat.specs.Sats.{AreConsistent, AreHeld, AreNamed, AreOn, AreSameSince, HasBegun, HoldsLearned, HoldsMore, IsAsked, IsSameSearch, IsSatisfied, IsTheoryMet, TellsTrue, held_but, held_of, held_part, held_shed, held_up_to, is_in, literal_truth};
 ghost use Rattle.nz_sat.specs.Trails.{AreTruthsOn};
 
 use crate::clauses::{Held, Part};
@@ -70,34 +69,34 @@ impl<T: Theory> Sat<T> {
         }
     }
 
-    /// The clauses that it holds, with a flag on those that need no true literal.
+    /// The clauses that it holds, each with when it needs a true literal.
     pub fn clauses(&self) -> &[Held]
         ensures clauses { result.now ≡ self.now.clauses }
     {
         &self.clauses
     }
 
-    /// Adds a clause of the log. One that is redundant, since it follows from arithmetic, say, needs no true literal where values are found.
+    /// Adds a clause of the log. When it needs a true literal comes of what it is about.
     ///
     /// # Errors
     ///
     /// `Memory`. Then the search is as before.
-    pub fn add(&mut self, log: &Log, id: ClauseId, is_redundant: bool) -> Result<(), Memory>
+    pub fn add(&mut self, log: &Log, id: ClauseId) -> Result<(), Memory>
         requires live { IsLive log.now id }
         requires since { AreSameSince self.old.seen log.now self.old.clauses }
-        ensures added { OnOk result (self.new.clauses ≡ self.old.clauses ++ added_as is_redundant log.now id ∷ []) }
+        ensures added { OnOk result (self.new.clauses ≡ self.old.clauses ++ held_of log.now id ∷ []) }
         ensures truths { self.new.truths ≡ self.old.truths }
         ensures theory { self.new.theory ≡ self.old.theory }
         ensures seen { OnOk result (self.new.seen ≡ Some log.now) }
         ensures unchanged { OnErr result (self.new ≡ self.old) }
     {
-        self.clauses.push(Held::added(log, id, is_redundant))?;
+        self.clauses.push(Held::added(log, id))?;
         self.seen = Some(Snapshot::of(log));
         Ok(())
     }
 
-    /// Searches for truths of some of these atoms, which are those that the work list notes, under which each clause has a true literal that isn't
-    /// redundant, each assumed literal is true, and the theory is feasible, which was told nothing yet. Answers `None` where it found them, and otherwise a clause of the
+    /// Searches for truths of some of these atoms, which are those that the work list notes, under which each clause has a true literal that needs
+    /// one, each assumed literal is true, and the theory is feasible, which was told nothing yet. Answers `None` where it found them, and otherwise a clause of the
     /// log whose literals are negations of assumed ones.
     ///
     /// # Errors
@@ -126,7 +125,7 @@ impl<T: Theory> Sat<T> {
         ensures satisfied { IfOk result (λ r. r ≡ None → IsSatisfied log.new self.new assumed.now) }
         // The theory was told just the bounds that are true, and some values meet them.
         ensures feasible { IfOk result (λ r. r ≡ None → IsTheoryMet log.new (T.has_told self.new.theory) (T.is_feasible self.new.theory) self.new atoms.now) }
-        ensures decided_told { IfOk result (λ r. r ≡ None → (ns : List Node) → AreDecidedTold (search_after ns work.new)) }
+        ensures told { IfOk result (λ r. r ≡ None → (ns : List Node) → TellsTrue ns log.new self.new atoms.now (search_after ns work.new)) }
         ensures refuted { IfOk result (λ r. IfSome r (λ id. IsLive log.new id × Refutes assumed.now (literals_at log.new id))) }
         // No truth is left but those that it answers.
         ensures no_truths { IfOk result (λ r. IfSome r (λ _. self.new.truths ≡ [])) }

@@ -333,7 +333,7 @@ impl Search {
             .next(log, &self.atoms, &self.propagation, &self.trail)
         {
             Some(atom) => Some(atom),
-            None => first_undecided(log, held, &self.trail),
+            None => first_undecided(log, held, &self.trail, &mut self.order),
         }
     }
 

@@ -150,7 +150,7 @@ impl Held {
         if !are_on(self.log.clause(id), &self.atoms) {
             return Err(Memory);
         }
-        self.sat.add(&self.log, id, false)
+        self.sat.add(&self.log, id)
     }
 
     /// Adds that the term of a live assertion is true.

@@ -24,7 +24,8 @@ use Rattle.nz_spec.specs.simplex.Basis.{Valuation}
 use Rattle.nz_spec.specs.terms.WellSorted.{AllAre, HaveOperands, IsWellSorted, AreWellSorted}
 use Rattle.nz_spec.specs.terms.Taken.{IsTakenHead, HasTakenHeads, HaveTakenHeads, IsTaken}
 use Rattle.nz_spec.specs.search.Branches.{is_integer_of}
-use Rattle.nz_spec.specs.laws.Deciding.{IsMet, HasMetLiteral, MeetsTables, TablesDecide}
+use Rattle.nz_spec.specs.clauses.Met.{IsMet, HasMetLiteral}
+use Rattle.nz_spec.specs.laws.Deciding.{MeetsTables, TablesDecide}
 use Rattle.nz_fractions.proofs.Laws.{=ℚ_refl, =ℚ_sym, =ℚ_trans, =ℚ-from_same, ≤ℚ-from_eq, ≤ℚ_antisymm, <ℚ_irrefl}
 use Rattle.nz_fractions.proofs.Order.{fraction_eq-same, lt_is, lt_is_not, le_is, le_is_not}
 use Rattle.nz_spec.proofs.ArgumentTruths.{alone}
@@ -235,18 +236,18 @@ module _ (number : Numbering) (a : Assignment) (truths : Term → Option Bool) (
     abbrev AreParts : List Term → Type 0
     AreParts us = (u : Term) → Contains us u → Contains parts u
 
-    links_said : (t : Term) → Contains parts t → AllSaid (link_clauses number t)
-    links_said t at = all_said (link_clauses number t) (m.links t at)
+    links_said : (t : Term) (sign : Bool) → Contains parts t → truths t ≡ Some sign → AllSaid (link_clauses number t)
+    links_said t sign at has = all_said (link_clauses number t) (m.clauses.links t sign at has)
 
     units_said : (t : Term) → Contains parts t → AllSaid (unit_clauses number t)
-    units_said t at = all_said (unit_clauses number t) (m.units t at)
+    units_said t at = all_said (unit_clauses number t) (m.clauses.units t at)
 
     gate_settled : (h : Head) (ts : Terms) → IsRow h ts → AllAre true ts → AreDecided ts → Contains parts (apply h ts) → Settled (apply h ts)
-    gate_settled h ts r b d at =
+    gate_settled h ts r b d at sign has =
         node_settled a Says one_truth h ts r b
-        (AllByRecursion-weaker (HasMetLiteral truths v) OneSaid met_said (gate_clauses (apply h ts)) (m.gates (apply h ts) at))
+        (AllByRecursion-weaker (HasMetLiteral truths v) OneSaid met_said (gate_clauses (apply h ts)) (m.clauses.gates (apply h ts) sign at has))
         (all_settled ts b d)
-        (λ c sign e has. m.constants c sign (subst (Contains parts) e at) has)
+        (λ c sign e has. m.constants c sign (subst (Contains parts) e at) has) sign has
 
     constant_decided : (c : Constant) → Contains parts (apply (constant c) no_terms) → IsDecided (apply (constant c) no_terms)
     constant_decided c at = by_sort (is_bool c.sort) refl
@@ -258,9 +259,9 @@ module _ (number : Numbering) (a : Assignment) (truths : Term → Option Bool) (
     equality_decided : (x y : Term) → IsWellSorted [] x → (b : Bool) → AllAre b (terms x (terms y no_terms)) → AreDecided (terms x (terms y no_terms))
         → Contains parts (apply equality (terms x (terms y no_terms))) → Settled (apply equality (terms x (terms y no_terms)))
     equality_decided x y s true b d at = gate_settled equality (terms x (terms y no_terms)) tt b d at
-    equality_decided x y s false b d at =
+    equality_decided x y s false b d at = λ sign has.
         equality_settled x y (decided_as x false b.0 d.0) (decided_as y false b.1.0 d.1.0) (value_is a good [] x s) b.0
-        (links_said (apply equality (terms x (terms y no_terms))) at)
+        (links_said (apply equality (terms x (terms y no_terms))) sign at has) sign has
 
     node_decided : (h : Head) (ts : Terms) → IsTakenHead h ts → HaveOperands h ts → AreWellSorted [] ts → is_linear_node h (constant_values ts) ≡ true
         → AreDecided ts → Contains parts (apply h ts) → IsDecided (apply h ts)
@@ -274,10 +275,10 @@ module _ (number : Numbering) (a : Assignment) (truths : Term → Option Bool) (
     node_decided disjunction ts k o s l d at = gate_settled disjunction ts tt o d at
     node_decided exclusion (terms t (terms u no_terms)) k o s l d at = gate_settled exclusion (terms t (terms u no_terms)) tt o d at
     node_decided equality (terms t (terms u no_terms)) k o s l d at = equality_decided t u s.0 o.0 o.1 d at
-    node_decided less (terms t (terms u no_terms)) k o s l d at =
-        less_settled t u (decided_as t false o.0 d.0) (decided_as u false o.1.0 d.1.0) (links_said (apply less (terms t (terms u no_terms))) at)
-    node_decided at_most (terms t (terms u no_terms)) k o s l d at =
-        at_most_settled t u (decided_as t false o.0 d.0) (decided_as u false o.1.0 d.1.0) (links_said (apply at_most (terms t (terms u no_terms))) at)
+    node_decided less (terms t (terms u no_terms)) k o s l d at = λ sign has.
+        less_settled t u (decided_as t false o.0 d.0) (decided_as u false o.1.0 d.1.0) (links_said (apply less (terms t (terms u no_terms))) sign at has) sign has
+    node_decided at_most (terms t (terms u no_terms)) k o s l d at = λ sign has.
+        at_most_settled t u (decided_as t false o.0 d.0) (decided_as u false o.1.0 d.1.0) (links_said (apply at_most (terms t (terms u no_terms))) sign at has) sign has
     node_decided (choice bool_sort) (terms c (terms t (terms u no_terms))) k o s l d at =
         gate_settled (choice bool_sort) (terms c (terms t (terms u no_terms))) tt o d at
     node_decided (choice real_sort) (terms c (terms t (terms u no_terms))) k o s l d at =

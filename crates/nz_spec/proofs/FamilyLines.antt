@@ -2,7 +2,7 @@
 use Rattle.std.proofs.Common.{◌≡◌, ◌⊎◌, inl, inr, Bool, false, [], ◌∷◌, pos, refl, sym, subst}
 use Rattle.std.specs.Prelude.{if◌then◌else◌}
 use Rattle.nz_ints.proofs.Ring.{Atom, ◌⊕◌, ◌⊗◌, Minus}
-use Rattle.nz_fractions.specs.Fraction.{Fraction, denominator, over, whole, ◌=ℚ◌, ◌<ℚ◌, fraction_lt, ◌+ℚ◌, ◌-ℚ◌, ◌*ℚ◌, ◌/ℚ◌, reciprocal, Arithmetic, Sum, Difference, Product, Quotient, outcome}
+use Rattle.nz_fractions.specs.Fraction.{Fraction, denominator, over, whole, ◌=ℚ◌, ◌<ℚ◌, fraction_lt, ◌-ℚ◌, ◌*ℚ◌, ◌/ℚ◌, reciprocal, Arithmetic, Sum, Difference, Product, Quotient, outcome}
 use Rattle.nz_fractions.proofs.Laws.{=ℚ_sym, ≤ℚ-from_eq, ≤ℚ_refl, ≤ℚ-from_lt, <ℚ-≤ℚ_trans, ≤ℚ-<ℚ_trans, <ℚ_irrefl, reduce-same}
 use Rattle.nz_fractions.proofs.Order.{lt_from}
 use Rattle.nz_fractions.proofs.Arithmetic.{+ℚ-zero, +ℚ-same, neg_ℚ-same, *ℚ-one, outcome-sum, outcome-difference, outcome-product}

@@ -11,7 +11,7 @@ use Rattle.nz_spec.specs.terms.FormOf.{form_of}
 use Rattle.nz_spec.specs.clauses.Links.{minus, at_most_literal, below_literal}
 use Rattle.nz_spec.specs.clauses.Forced.{Truths, worth_of}
 use Rattle.nz_spec.specs.simplex.Basis.{Valuation, worth}
-use Rattle.nz_spec.specs.laws.Deciding.{IsMet}
+use Rattle.nz_spec.specs.clauses.Met.{IsMet}
 use Rattle.nz_spec.proofs.FormValues.{by_difference, form_joined-worth}
 use Rattle.nz_spec.proofs.LinkTruths.{moved_over}
 

@@ -36,6 +36,7 @@ allows q listed earlier earlier_goals more more_earlier more_goals = record {
   bounds = λ l has. (l, has, say_itself l);
   asserted = λ l has. (l, has, say_itself l);
   literals = λ l has. (l, literals_more q.numbering q.listed listed more l has, say_itself l);
+  met = λ truths v h. h;
   operation = λ t op listed has. has;
 }
 

@@ -8,7 +8,7 @@ use Rattle.nz_spec.specs.clauses.Literal.{Literal, term_literal, is_at_most, is_
 use Rattle.nz_spec.specs.clauses.Forced.{Truths, IsForced, IsKnown}
 use Rattle.nz_spec.specs.clauses.Polarity.{Need, disjuncts, asked_by, behind, literal_of, standing_for, spliced}
 use Rattle.nz_spec.specs.simplex.Basis.{Valuation}
-use Rattle.nz_spec.specs.laws.Deciding.{IsMet}
+use Rattle.nz_spec.specs.clauses.Met.{IsMet}
 use Rattle.nz_spec.specs.laws.Forcing.{AreNeeded}
 use Rattle.nz_spec.proofs.ArgumentTruths.{alone}
 use Rattle.nz_spec.proofs.SaidClauses.{OneSaid, said_parts}

@@ -19,7 +19,7 @@ use Rattle.nz_spec.specs.clauses.Links.{at_most_literal, below_literal}
 use Rattle.nz_spec.specs.clauses.Forced.{Truths, GivesBranch, worth_of, IsForced, AreForced, IsOneForced, IsKnown, AreKnown}
 use Rattle.nz_spec.specs.clauses.Polarity.{Need, conjuncts, conjuncts_of, disjuncts, disjuncts_of, asked_by, behind, numbers_among, results, rows_of, unit_rows, literal_of, spliced, own_clauses, needs_of}
 use Rattle.nz_spec.specs.simplex.Basis.{Valuation}
-use Rattle.nz_spec.specs.laws.Deciding.{IsMet, HasMetLiteral}
+use Rattle.nz_spec.specs.clauses.Met.{IsMet, HasMetLiteral}
 use Rattle.nz_spec.specs.laws.Forcing.{HaveMetLiterals, MeetsNeeds, IsStated, IsAsserted, IsNamed, NeededClausesForce, AssertedTermsAreTrue}
 use Rattle.nz_spec.proofs.ArgumentTruths.{alone}
 use Rattle.nz_spec.proofs.ForcedOnce.{forced_once}

@@ -1,5 +1,5 @@
 -- A check may begin, and go on, as that of a task may that asks the same of other terms, or numbers them in another way.
-use Rattle.std.proofs.Common.{◌≡◌, ℕ, suc, ◌≤◌, Bool, true, false, not, ◌&&◌, ◌||◌, ◌⊎◌, inl, inr, List, [], ◌∷◌, ◌++◌, All, Contains, length, flat_map, Some, refl, sym, ap₂, ◌∙◌, true≢false, arith}
+use Rattle.std.proofs.Common.{◌≡◌, ℕ, suc, ◌≤◌, Bool, true, false, not, ◌&&◌, ◌||◌, ◌⊎◌, inl, inr, List, [], ◌∷◌, ◌++◌, All, Contains, length, flat_map, Option, Some, refl, sym, ap₂, ◌∙◌, true≢false, arith}
 use Rattle.std.specs.Prelude.{◌==◌, count_by, get_or, slice_get}
 use Rattle.std.specs.List.{list_all, list_any}
 use Rattle.std.proofs.lemmas.Bool.{and_from, and_parts}
@@ -15,6 +15,8 @@ use Rattle.nz_spec.specs.terms.Same.{are_same_term}
 use Rattle.nz_spec.specs.terms.Order.{listing_order}
 use Rattle.nz_spec.specs.clauses.Gates.{is_boolean_term}
 use Rattle.nz_spec.specs.clauses.Literal.{Literal, SayTheSame, are_same_sign, is_literal_true}
+use Rattle.nz_spec.specs.clauses.Met.{MeetsClauses}
+use Rattle.nz_spec.specs.simplex.Basis.{Valuation}
 use Rattle.nz_spec.specs.simplex.Bland.{Point, Position}
 use Rattle.nz_spec.specs.simplex.LiteralBounds.{is_unit_form}
 use Rattle.nz_spec.specs.simplex.Climb.{IsInRange, Family, member, linear_literals, unit_of}
@@ -29,7 +31,7 @@ use Rattle.nz_spec.specs.search.Search.{Task, terms_known, goals_known, Found, S
 use Rattle.nz_spec.specs.search.Atoms.{IsTruth, IsTabled, IsBoundOf, IsBroken, IsCut, IsInTurn, on_unit, on_cut, bounds_asserted, HasUnit, WasTold, MayBranch, IsAtom, of_term, of_table, of_beginning, of_split, of_branch}
 use Rattle.nz_spec.specs.search.Beginnings.{IsKnownForm, of_bound, of_goal, IsKnownPlace, at_zero, at_bound, MayBegin, IsComparison, MaySearchUnder, MayKeep, MayClimbUnder, MayGoUnder}
 use Rattle.nz_spec.specs.search.Legal.{IsClimbing, Drifts, MayDrift, IsExchange, MayImprove, found_at, after_line, after_lines, MayFollow, Lead, are_alike, AreSpread, AreFew, AreLegal, IsSpentLegally}
-use Rattle.nz_spec.specs.search.Places.{IsWishOf, IsOfWish, IsOfPenalty, term_operations, IsOfTerm, IsModelAt, IsOfWorth, IsSteadyFor, Begins, IsOfLine, IsDue, IsOperationAt, IsStoppedLegally}
+use Rattle.nz_spec.specs.search.Places.{IsWishOf, IsOfWish, IsOfPenalty, term_operations, IsOfTerm, IsModelAt, IsOfWorth, IsSteadyFor, Begins, IsOfLine, IsToldEnough, IsDue, IsOperationAt, IsStoppedLegally}
 use Rattle.nz_spec.proofs.FlatLists.{all_fewer, count_more}
 use Rattle.nz_spec.proofs.SameSums.{say_back, say_along, say_units, say_truth, say_broken}
 
@@ -118,6 +120,7 @@ pub record Allows (q r : Task) : Type 0 where
   pub bounds : AreAmong (flat_map (bounds_asserted r.numbering) r.asserted) (flat_map (bounds_asserted q.numbering) q.asserted)
   pub asserted : AreAmong (linear_literals r.numbering (flat_map listing_order r.asserted)) (linear_literals q.numbering (flat_map listing_order q.asserted))
   pub literals : AreAmong (linear_literals q.numbering q.listed) (linear_literals r.numbering r.listed)
+  pub met : (truths : Term → Option Bool) (v : Valuation) → MeetsClauses truths v q.numbering (flat_map listing_order q.asserted) → MeetsClauses truths v r.numbering (flat_map listing_order r.asserted)
   pub operation : (t : Term) (op : Operation) → Contains q.listed t → Contains (term_operations q.numbering t) op → Contains (term_operations r.numbering t) op
 
 told_too : (s : Search) (m k : Literal) → SayTheSame m k → WasTold s k → WasTold s m
@@ -479,6 +482,13 @@ module _ (q : Task) (listed earlier : List Term) (earlier_goals : List Goal) (nu
       record { which = h.which; listed = h.listed; steady = steady-more s f h.steady; goes = h.goes; first = h.first }
   operation-more s x (scaling_site forms moves) op h = h
 
+  enough-more : (s : Search) → IsToldEnough q s → IsToldEnough r s
+  enough-more s (truths, each) = (
+    truths,
+    λ v told.
+        let h = each v told in record { held = h.held; decided = h.decided; clauses = allows.met truths v h.clauses },
+  )
+
   due-more : (lines : List (WorkLine Note)) (s : Search) (x : Point) (site : Site) → IsDue q lines s x site → IsDue r lines s x site
   due-more lines s x (term_site t) h = h
   due-more lines s x (goal_site goal) h = h
@@ -490,9 +500,9 @@ module _ (q : Task) (listed earlier : List Term) (earlier_goals : List Goal) (nu
   due-more lines s x (tight_site l) h = h
   due-more lines s x (split_site unit) h = h
   due-more lines s x (move_site form moves side) h = h
-  due-more lines s x (limit_site form side) h = h
-  due-more lines s x (model_site form) h = h
-  due-more lines s x (worth_site t bs) h = h
+  due-more lines s x (limit_site form side) h = enough-more s h
+  due-more lines s x (model_site form) h = enough-more s h
+  due-more lines s x (worth_site t bs) h = enough-more s h
   due-more lines s x (line_site t f) (told, begins) = (told, begins-more lines s x f begins)
   due-more lines s x (goal_line_site goal f) (told, begins) = (told, begins-more lines s x f begins)
   due-more lines s x (scaling_site forms moves) h = h

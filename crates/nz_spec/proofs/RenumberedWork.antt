@@ -1,5 +1,5 @@
 -- What is legal where units are numbered in one way is legal where they are numbered in another: what is asked of a list says the same of literals in another order.
-use Rattle.std.proofs.Common.{◌≡◌, ◌⊎◌, inl, inr, Bool, true, List, [], ◌∷◌, ◌++◌, flat_map, refl, sym, ap₂, ◌∙◌, subst}
+use Rattle.std.proofs.Common.{◌≡◌, ◌⊎◌, inl, inr, Bool, true, List, [], ◌∷◌, ◌++◌, flat_map, Option, refl, sym, ap₂, ◌∙◌, subst}
 use Rattle.std.specs.Prelude.{Contains}
 use Rattle.std.specs.List.{AllByRecursion}
 use Rattle.std.proofs.lemmas.List.Elements.{All-contains, Contains-append_cases, Contains-append_left, Contains-append_right, Contains-push_cases}
@@ -13,6 +13,8 @@ use Rattle.nz_spec.specs.terms.FormOf.{form_of}
 use Rattle.nz_spec.specs.clauses.Gates.{list_of}
 use Rattle.nz_spec.specs.clauses.Literal.{Literal, Clause, negation_of, SayTheSame}
 use Rattle.nz_spec.specs.clauses.Links.{at_most_literal, link_clauses}
+use Rattle.nz_spec.specs.clauses.Met.{HasMetLiteral, MeetsClauses}
+use Rattle.nz_spec.specs.simplex.Basis.{Valuation}
 use Rattle.nz_spec.specs.clauses.Units.{unit_clauses}
 use Rattle.nz_spec.specs.clauses.Farkas.{is_linear_literal}
 use Rattle.nz_spec.specs.simplex.Climb.{linear_literals}
@@ -25,7 +27,7 @@ use Rattle.nz_spec.proofs.FlatLists.{filter_from, filter_has, flat_from, flat_ha
 use Rattle.nz_spec.proofs.Negations.{literal-back}
 use Rattle.nz_spec.proofs.OtherTasks.{other_task, AreAmong, Allows, legal-more, spent-more, stopped-more}
 use Rattle.nz_spec.proofs.RenumberedTerms.{most_renumbers, terms_renumber}
-use Rattle.nz_spec.proofs.SameSums.{say_along, say_linear, say_negated, renumbered_says}
+use Rattle.nz_spec.proofs.SameSums.{say_along, say_linear, say_met, say_negated, renumbered_says}
 
 -- the element of one list that stands for one of the other
 module _ {A B : Type 0} (R : A → B → Type 0) where
@@ -168,6 +170,29 @@ module _ (m n : Numbering) (us : List Term) (may : MayRenumber m n us) where
       ap₂ (λ (c : Computation Form) (rows : List (Computation Clause)). c.operations ++ flat_map (λ (d : Computation Clause). d.operations) rows) (none.form n) (none.rows n) in
       absurd (has_none op (subst (λ (os : List Operation). Contains os op) operations has))
 
+  -- ---- What is met
+
+  module _ (truths : Term → Option Bool) (v : Valuation) where
+    clause_met : (c d : Clause) → ClausesRenumber m n us c d → HasMetLiteral truths v c → HasMetLiteral truths v d
+    clause_met c d h (l, has, met) =
+        let (k, there, same) = each_first (LiteralsRenumber m n us) c d h l has in (k, there, say_met truths v l k (renumbered_says m n us l k same) met)
+
+    abbrev HasMetResult : Computation Clause → Type 0
+    HasMetResult c = HasMetLiteral truths v c.result
+
+    rows_met : (cs ds : List (Computation Clause)) → AreEach (GoTogether (ClausesRenumber m n us)) cs ds → AllByRecursion HasMetResult cs → AllByRecursion HasMetResult ds
+    rows_met [] [] h met = tt
+    rows_met [] (d ∷ ds) h met = absurd h
+    rows_met (c ∷ cs) [] h met = absurd h
+    rows_met (c ∷ cs) (d ∷ ds) h met = (clause_met c.result d.result h.0.result met.0, rows_met cs ds h.1 met.1)
+
+    clauses_met : (ts : List Term) → ((t : Term) → Contains ts t → Contains us t) → MeetsClauses truths v m ts → MeetsClauses truths v n ts
+    clauses_met ts within h = record {
+      gates = h.gates;
+      links = λ t sign at has. rows_met (link_clauses m t) (link_clauses n t) (terms_renumber.links m n us may t (within t at)) (h.links t sign at has);
+      units = λ t at. rows_met (unit_clauses m t) (unit_clauses n t) (terms_renumber.units m n us may t (within t at)) (h.units t at);
+    }
+
   -- ---- What a term is made of
 
   mutual
@@ -196,8 +221,8 @@ allows q numbering h =
     let us = h.terms in
     let covered : (t : Term) → Contains q.listed t → IsCovered us t = λ t has. All-contains (IsCovered us) q.listed t h.listed has in
     let asserted : (t : Term) → Contains q.asserted t → Contains us t = λ t has. All-contains (Contains us) q.asserted t h.asserted has in
-    let parts : (u : Term) → Contains (flat_map listing_order q.asserted) u → IsCovered us u = λ u has.
-    let t = flat_from listing_order q.asserted u has in inl (order_within q.numbering numbering us h.may t.0 (asserted t.0 t.1) u t.2) in
+    let parts : (u : Term) → Contains (flat_map listing_order q.asserted) u → Contains us u = λ u has.
+    let t = flat_from listing_order q.asserted u has in order_within q.numbering numbering us h.may t.0 (asserted t.0 t.1) u t.2 in
     let other = back q.numbering numbering us h.may in
     record {
       listed = λ t has. has;
@@ -205,8 +230,9 @@ allows q numbering h =
       goals = λ g has. has;
       bound = bound_renumbers q.numbering numbering us h.may q.listed covered;
       bounds = bounds_renumber numbering q.numbering us other q.asserted asserted;
-      asserted = linear_renumber numbering q.numbering us other (flat_map listing_order q.asserted) parts;
+      asserted = linear_renumber numbering q.numbering us other (flat_map listing_order q.asserted) (λ u has. inl (parts u has));
       literals = linear_renumber q.numbering numbering us h.may q.listed covered;
+      met = λ truths v. clauses_met q.numbering numbering us h.may truths v (flat_map listing_order q.asserted) parts;
       operation = λ t op has. operation_renumbers numbering q.numbering us other t (covered t has) op;
     }
 

@@ -5,7 +5,7 @@ use Rattle.std.specs.List.{AllByRecursion}
 use Rattle.std.specs.Ordering.{is_lt}
 use Rattle.nz_ints.proofs.Ring.{Atom, Literal as Number, ◌⊕◌, ◌⊗◌, Minus}
 use Rattle.nz_fractions.specs.Fraction.{Fraction, denominator, whole, ◌=ℚ◌, ◌<ℚ◌, ◌+ℚ◌, neg_ℚ, ◌*ℚ◌, fraction_le, fraction_lt}
-use Rattle.nz_fractions.proofs.Laws.{=ℚ_refl, =ℚ_sym, =ℚ-from_same, ≤ℚ-from_eq, ≤ℚ_trans}
+use Rattle.nz_fractions.proofs.Laws.{=ℚ_refl, =ℚ_sym, =ℚ-from_same, ≤ℚ-from_eq, ≤ℚ_trans, ≤ℚ-<ℚ_trans, <ℚ-≤ℚ_trans}
 use Rattle.nz_fractions.proofs.Order.{lt-cmp, lt_from, le_is, le_from}
 use Rattle.nz_fractions.proofs.Arithmetic.{+ℚ-zero, +ℚ-same, cmp-same}
 use Rattle.nz_fractions.proofs.Identities.{times_zero}
@@ -17,6 +17,7 @@ use Rattle.nz_spec.specs.terms.Form.{Numbering, Part, found, HaveOwnUnits, AreSa
 use Rattle.nz_spec.specs.clauses.Literal.{Literal, term_literal, is_at_most, is_below, negation_of, SayTheSame, is_literal_true}
 use Rattle.nz_spec.specs.clauses.LinearLiteral.{is_without_units}
 use Rattle.nz_spec.specs.clauses.Farkas.{is_linear_literal, bound_of}
+use Rattle.nz_spec.specs.clauses.Met.{IsMet}
 use Rattle.nz_spec.specs.simplex.Basis.{Coefficients, Valuation, worth, weighted, unit_coefficient}
 use Rattle.nz_spec.specs.simplex.Bland.{Position, ◌<δ◌, standing, at_most_bound}
 use Rattle.nz_spec.specs.search.Search.{HasWorth}
@@ -227,6 +228,13 @@ say_truth a (term_literal t p) (term_literal u q) h = ap₂ (λ (x : Term) (s : 
 say_truth a (is_at_most ps b) (is_at_most qs c) h = same_le (parts_value a ps) (parts_value a qs) b c (same_value a ps qs h.0) h.1
 say_truth a (is_below ps b) (is_below qs c) h = same_lt (parts_value a ps) (parts_value a qs) b c (same_value a ps qs h.0) h.1
 say_truth a l m h = absurd h
+
+pub say_met : (truths : Term → Option Bool) (v : Valuation) (l m : Literal) → SayTheSame l m → IsMet truths v l → IsMet truths v m
+say_met truths v (term_literal t p) (term_literal u q) h k = ap truths (sym h.0) ∙ k ∙ ap Some h.1
+say_met truths v (is_at_most ps b) (is_at_most qs c) h k = ≤ℚ_trans (≤ℚ-from_eq (=ℚ_sym (same_worth v ps qs h.0))) (≤ℚ_trans k (≤ℚ-from_eq (=ℚ-from_same h.1)))
+say_met truths v (is_below ps b) (is_below qs c) h k =
+    ≤ℚ-<ℚ_trans (≤ℚ-from_eq (=ℚ_sym (same_worth v ps qs h.0))) (<ℚ-≤ℚ_trans k (≤ℚ-from_eq (=ℚ-from_same h.1)))
+say_met truths v l m h k = absurd h
 
 pub say_broken : (p : Position) (l m : Literal) → SayTheSame l m → IsBroken p l → IsBroken p m
 say_broken p (term_literal t r) (term_literal u q) h k = record { value = k.value; has = k.has; outside = k.outside }

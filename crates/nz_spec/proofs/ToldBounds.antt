@@ -23,7 +23,7 @@ use Rattle.nz_spec.specs.simplex.PositionMoves.{is_outside}
 use Rattle.nz_spec.specs.simplex.LiteralBounds.{FormBound, bounded_from, bound_on_side, sum_bound, bound_said, are_same_side, tighter_of, with_bound_said, tightest, position_under}
 use Rattle.nz_spec.specs.clauses.Farkas.{bound_of}
 use Rattle.nz_spec.specs.laws.ToldBounds.{IsWithinAt, AreWithinAt, ToldBoundsAreMet}
-use Rattle.nz_spec.specs.laws.Deciding.{IsMet}
+use Rattle.nz_spec.specs.clauses.Met.{IsMet}
 use Rattle.nz_spec.proofs.InfinitesimalOrder.{AtMost, at_most_parts, at_most_trans, =δ_refl}
 use Rattle.nz_spec.proofs.BasisValues.{solutions_are_worth}
 use Rattle.nz_spec.proofs.BlandRefutes.{IsPast, not_outside, past-equal}

@@ -6,7 +6,7 @@ use Rattle.nz_lists.proofs.Members.{has_cases, has_first, has_none}
 use Rattle.nz_ints.specs.Division.{gcd_within, gcd, floor_div}
 use Rattle.nz_ints.proofs.Divisors.{gcd-one}
 use Rattle.nz_ints.proofs.Ring.{Atom, Literal as Whole, ◌⊕◌, ◌⊗◌}
-use Rattle.nz_fractions.specs.Fraction.{Fraction, whole, over, denominator, IsWhole, ◌=ℚ◌, fraction_eq, ◌+ℚ◌, ◌-ℚ◌, neg_ℚ, ◌*ℚ◌, ◌/ℚ◌, reciprocal, flipped, floor, reduce}
+use Rattle.nz_fractions.specs.Fraction.{Fraction, whole, over, denominator, IsWhole, fraction_eq, ◌+ℚ◌, ◌-ℚ◌, neg_ℚ, ◌*ℚ◌, ◌/ℚ◌, reciprocal, flipped, floor, reduce}
 use Rattle.nz_fractions.proofs.Laws.{=ℚ_sym, IsLowest, reduce-same, reduce-is}
 use Rattle.nz_fractions.proofs.Arithmetic.{+ℚ-same}
 use Rattle.nz_fractions.proofs.Solver.{◌∙ℚ◌, solve, times_left}

@@ -1,8 +1,9 @@
 -- The worked place is where its list ends.
-use Rattle.std.proofs.Common.{◌≡◌, inl, inr, ℕ, zero, suc, Bool, true, false, List, [], ◌∷◌, pos, Some, None, refl, sym, ap, subst, ◌∙◌, arith, true≢false}
+use Rattle.std.proofs.Common.{◌≡◌, inl, inr, ℕ, zero, suc, Bool, true, false, List, [], ◌∷◌, pos, Some, None, refl, sym, ap, subst, ◌∙◌, arith, true≢false, Option, flat_map}
 use Rattle.std.specs.Prelude.{Contains, IsTrue, if◌then◌else◌}
+use Rattle.std.specs.List.{AllByRecursion}
 use Rattle.std.proofs.lemmas.Option.{same_Some}
-use Rattle.std.proofs.lemmas.List.Elements.{All-nil, All-cons}
+use Rattle.std.proofs.lemmas.List.Elements.{All-nil, All-cons, All-contains, All-from_recursion}
 use Rattle.nz_lists.proofs.Members.{has_first}
 use Rattle.nz_ints.specs.Division.{gcd_within, gcd, lcm}
 use Rattle.nz_fractions.specs.Fraction.{Fraction, whole, largest, denominator, over, ◌=ℚ◌, ◌≤ℚ◌, fraction_eq, fraction_le, fraction_lt, fraction_cmp, neg_ℚ, ◌+ℚ◌, ◌-ℚ◌, ◌*ℚ◌, reduce, IsNumber, is_wide_sum, exact, outcome, is_wide, first_wide}
@@ -10,22 +11,24 @@ use Rattle.nz_fractions.proofs.Laws.{IsLowest, lowest-same, reduce-is, ≤ℚ_re
 use Rattle.nz_fractions.proofs.Arithmetic.{+ℚ-same}
 use Rattle.nz_fractions.proofs.Solver.{◌∙ℚ◌, times_left}
 use Rattle.nz_spec.specs.numbers.Infinitesimal.{Infinitesimal, ◌=δ◌, infinitesimal_cmp, Pair, is_limiting, limits, at}
-use Rattle.nz_spec.specs.numbers.Computation.{at_once, in_turn}
+use Rattle.nz_spec.specs.numbers.Computation.{Computation, at_once, in_turn}
 use Rattle.nz_spec.specs.terms.Term.{Constant, constant, Term, apply, Assignment, Value, number, is_true, is_bool, value_of, default_value, are_same_constant, IsOfSort}
 use Rattle.nz_spec.specs.terms.Form.{Part, unit_form}
 use Rattle.nz_spec.specs.terms.Model.{IsAssignment, assignment_of}
-use Rattle.nz_spec.specs.clauses.Literal.{Literal, is_literal_true}
-use Rattle.nz_spec.specs.clauses.Gates.{fails}
-use Rattle.nz_spec.specs.clauses.Links.{at_most_literal}
-use Rattle.nz_spec.specs.simplex.Basis.{IsBasis, alone as one_at}
+use Rattle.nz_spec.specs.terms.Order.{listing_order}
+use Rattle.nz_spec.specs.clauses.Literal.{Clause, is_literal_true}
+use Rattle.nz_spec.specs.clauses.Gates.{fails, holds, gate_clauses}
+use Rattle.nz_spec.specs.clauses.Links.{at_most_literal, link_clauses}
+use Rattle.nz_spec.specs.clauses.Met.{IsMet, HasMetLiteral}
+use Rattle.nz_spec.specs.clauses.Units.{unit_clauses}
+use Rattle.nz_spec.specs.simplex.Basis.{IsBasis, Valuation, alone as one_at}
 use Rattle.nz_spec.specs.simplex.Bland.{Point, Position, is_nonbasic, standing, Side, lower_side, upper_side, HasValue, IsWithinBounds}
 use Rattle.nz_spec.specs.simplex.Climb.{unit_of}
 use Rattle.nz_spec.specs.simplex.LiteralBounds.{moved_by}
 use Rattle.nz_spec.specs.search.Search.{Search, at_first, no_point, position_of}
-use Rattle.nz_spec.specs.search.Atoms.{IsBoundOf, HasUnit, WasTold}
+use Rattle.nz_spec.specs.search.Atoms.{IsBoundOf}
 use Rattle.nz_spec.specs.search.Legal.{after_lines, Lead, AreLegal}
-use Rattle.nz_spec.specs.search.Places.{IsPairOf, IsChosen, IsConstantAt, IsNoForm, IsModelAt, AreDecidedTold}
-use Rattle.nz_spec.specs.clauses.Farkas.{is_linear_literal}
+use Rattle.nz_spec.specs.search.Places.{IsPairOf, IsChosen, IsConstantAt, IsNoForm, IsModelAt, IsToldEnough}
 use Rattle.nz_spec.specs.worked.TermSamples.{x_constant, x_term, numeral_term}
 use Rattle.nz_spec.specs.worked.WorkedArithmetic.{sample_order, x_from_one}
 use Rattle.nz_spec.specs.worked.WorkedPlaces.{from_one_term, great_task, great_work, one_model, HasGreatWorth}
@@ -35,7 +38,6 @@ use Rattle.nz_spec.proofs.LinkTruths.{links_are_true}
 use Rattle.nz_spec.proofs.Sorted.{default_is}
 use Rattle.nz_spec.proofs.Starts.{legal_work_may_begin}
 use Rattle.nz_spec.proofs.Tables.{same_constant}
-use Rattle.nz_spec.proofs.SameSums.{say_itself}
 use Rattle.nz_spec.proofs.WorkedWork.{x_parts, joined_alone, opened, none_other, one_known, no_values, only_second, in_first_row, as_it_is}
 
 -- ---- The list
@@ -226,8 +228,38 @@ one_is_model = record {
 
 -- ---- The place
 
-decided_told : AreDecidedTold great_search
-decided_told = All-nil _
+-- every term is true
+abbrev all_true : Term → Option Bool
+all_true t = Some true
+
+abbrev HasMet : Valuation → Clause → Type 0
+HasMet v c = HasMetLiteral all_true v c
+
+-- nothing has gates, and x and its numeral neither rows of links nor of units
+abbrev MeetsAll : Valuation → Term → Type 0
+MeetsAll v u =
+    AllByRecursion (HasMet v) (gate_clauses u) × AllByRecursion (λ (c : Computation Clause). HasMet v c.result) (link_clauses sample_order u)
+    × AllByRecursion (λ (c : Computation Clause). HasMet v c.result) (unit_clauses sample_order u)
+
+parts_met : (v : Valuation) → IsMet all_true v x_from_one → AllByRecursion (MeetsAll v) (flat_map listing_order great_task.asserted)
+unfolding gcd_within gcd denominator over fraction_eq fraction_lt neg_ℚ ◌+ℚ◌ ◌-ℚ◌ ◌*ℚ◌ reduce exact outcome
+parts_met v met =
+    ((tt, tt, tt), ((tt, tt, tt), ((tt, ((x_from_one, (1, omega arith, refl), met), ((holds from_one_term, (0, omega arith, refl), refl), tt)), tt), tt)))
+
+told_enough : IsToldEnough great_task great_search
+unfolding denominator fraction_lt neg_ℚ
+told_enough = (
+  all_true,
+  λ v told.
+      let met : IsMet all_true v x_from_one = All-contains (IsMet all_true v) (x_from_one ∷ []) x_from_one told (has_first x_from_one []) in
+      let each : (u : Term) → Contains (flat_map listing_order great_task.asserted) u → MeetsAll v u =
+      λ u. All-contains (MeetsAll v) (flat_map listing_order great_task.asserted) u (All-from_recursion (MeetsAll v) (flat_map listing_order great_task.asserted) (parts_met v met)) in
+      record {
+        held = All-cons (IsMet all_true v) (holds from_one_term) [] refl (All-nil _);
+        decided = All-nil _;
+        clauses = record { gates = λ u sign at has. (each u at).0; links = λ u sign at has. (each u at).1; units = λ u at. (each u at).2 };
+      },
+)
 
 pub great_worth : HasGreatWorth
 unfolding gcd_within gcd lcm denominator neg_ℚ is_wide_sum is_wide first_wide legal
@@ -235,6 +267,6 @@ great_worth = record {
   within = omega arith;
   legal = legal;
   leaves = record { left = one_is_number; right = largest_is_number; wide = refl };
-  due = decided_told;
+  due = told_enough;
   at = record { listed = (5, omega arith, refl); model = one_is_model; of = inl refl };
 }

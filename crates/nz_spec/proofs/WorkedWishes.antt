@@ -1,5 +1,5 @@
 -- Worked groups of wishes are computed.
-use Rattle.std.proofs.Common.{◌≡◌, true, false, inr, [], ◌∷◌, pos, refl, sym, ap, ◌∙◌, arith, true≢false}
+use Rattle.std.proofs.Common.{◌≡◌, inr, [], ◌∷◌, pos, refl, sym, ap, ◌∙◌, arith, true≢false}
 use Rattle.nz_ints.specs.Division.{gcd_within, gcd, lcm}
 use Rattle.nz_fractions.specs.Fraction.{denominator, whole, over, largest, fraction_eq, ◌+ℚ◌, ◌*ℚ◌, reduce, is_wide_sum, is_wide_product, exact, outcome, is_wide, first_wide}
 use Rattle.nz_spec.specs.terms.Term.{Term, is_true, value_of}

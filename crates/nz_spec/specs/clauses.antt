@@ -6,6 +6,7 @@ pub mod Goals
 pub mod LinearLiteral
 pub mod Links
 pub mod Literal
+pub mod Met
 pub mod Polarity
 pub mod Steps
 pub mod Units

@@ -45,7 +45,7 @@ impl Prepared {
             Ok(clauses) => clauses,
             Err(stop) => return Err(stop_of(stop)),
         };
-        hold(&mut self.sat, &self.log, &clauses, false)?;
+        hold(&mut self.sat, &self.log, &clauses)?;
         Ok(())
     }
 
@@ -76,7 +76,7 @@ impl Prepared {
         };
         self.cover(terms, term, level)?;
         let clause = self.log.given(self.given, term, level)?;
-        self.sat.add(&self.log, clause, false)?;
+        self.sat.add(&self.log, clause)?;
         self.given = given;
         Ok(())
     }

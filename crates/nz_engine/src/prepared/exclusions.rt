@@ -40,5 +40,5 @@ pub(super) fn exclude(
     }
     let held = ids_of(alloc, sat.clauses())?;
     let exclusions = sat.theory.exclusions(log, atoms, &held)?;
-    hold(sat, log, &exclusions, true)
+    hold(sat, log, &exclusions)
 }

@@ -1,7 +1,6 @@
 //! The search: what it is handed, what comes before it, and the search itself.
 ghost use Rattle.std.specs.Prelude.{◌≡◌, ℕ, ◌≤◌, ◌++◌, [], List, length, map, take, None, IfErr, IfOk, IfSome, OnErr, OnOk};
 ghost use Rattle.nz_spec.specs.search.Search.{Task};
-ghost use Rattle.nz_spec.specs.search.Places.{AreDecidedTold};
 ghost use Rattle.nz_spec.specs.search.Work.{IsSpent};
 ghost use Rattle.nz_search.specs.declared.stop.Stop.TheVariants as stop;
 ghost use Rattle.nz_log.specs.Atoms.{AreAtoms};
@@ -12,7 +11,7 @@ ghost use Rattle.nz_search.specs.Standing.{search_after};
 ghost use Rattle.nz_term.specs.TermLits.{AreConsistent, AreNegations, literal_of};
 ghost use Rattle.nz_search.specs.Verdicts.{OnSpent};
 ghost use Rattle.nz_cform.specs.Covering.{Covers};
-ghost use Rattle.nz_engine.specs.Checking.{AreHanded, EndsWith, HasFound, IsBegun, IsPlain, IsPosed, IsReady, IsUnderWay, MayBeNamed, MaySearch, NotesUnder, Works};
+ghost use Rattle.nz_engine.specs.Checking.{AreHanded, EndsWith, HasFound, IsAllTold, IsBegun, IsPlain, IsPosed, IsReady, IsUnderWay, MayBeNamed, MaySearch, NotesUnder, Works};
 ghost use Rattle.nz_engine.specs.Engines.{literals_in};
 ghost use Rattle.nz_engine.specs.SearchLaws.{SearchLaws};
 ghost use Rattle.nz_engine.specs.Preparing.{BeganExcluded};
@@ -58,8 +57,8 @@ impl Prepared {
         ensures plain { (levels : List Level) (q : Task) → MaySearch terms.now levels assumed.now q work.old self.old → IsPlain q (search_after terms.now work.old) (search_after terms.now work.new) }
         // Each Boolean term that what was added is made of is named.
         ensures parts { OnOk result ((levels : List Level) → IsPosed terms.now levels assumed.now self.old → NamesParts terms.now levels (search_after terms.now work.new)) }
-        // Where it found values, the theory was told of every bound that was decided.
-        ensures told { IfOk result (λ r. r ≡ None → AreDecidedTold (search_after terms.now work.new)) }
+        // Where it found values, the theory was told of every bound that is true.
+        ensures told { IfOk result (λ r. r ≡ None → IsAllTold terms.now assumed.now self.new (search_after terms.now work.new)) }
         ensures works { Works terms.now work.old work.new }
         ensures spent { IfErr result (λ s. OnSpent s (IsSpent work.new)) }
         // Where one more unit was wanted, it goes under the assumed literals.

@@ -2,40 +2,23 @@
 -- Sources: Tseitin 1968 (clauses that define truths); Dutertre and de Moura, A Fast Linear-Arithmetic Solver for DPLL(T), CAV 2006, section 3
 -- (bounds that define comparisons).
 use Rattle.std.specs.Prelude.{◌≡◌, Bool, false, true, List, Option, Some, Contains}
-use Rattle.std.specs.List.{AllByRecursion}
-use Rattle.nz_fractions.specs.Fraction.{◌=ℚ◌, ◌≤ℚ◌, ◌<ℚ◌, ◌+ℚ◌}
-use Rattle.nz_spec.specs.numbers.Computation.{Computation}
+use Rattle.nz_fractions.specs.Fraction.{◌=ℚ◌, ◌+ℚ◌}
 use Rattle.nz_spec.specs.terms.Term.{Constant, constant, Term, apply, no_terms, truth, Assignment, value_of}
 use Rattle.nz_spec.specs.terms.Model.{IsAssignment}
 use Rattle.nz_spec.specs.terms.Order.{listing_order}
 use Rattle.nz_spec.specs.terms.Form.{Numbering, unit_value}
 use Rattle.nz_spec.specs.terms.FormOf.{form_of}
 use Rattle.nz_spec.specs.clauses.LinearLiteral.{is_whole}
-use Rattle.nz_spec.specs.clauses.Literal.{Literal, term_literal, is_at_most, is_below, Clause}
-use Rattle.nz_spec.specs.clauses.Gates.{is_boolean_term, gate_clauses}
-use Rattle.nz_spec.specs.clauses.Links.{link_clauses}
-use Rattle.nz_spec.specs.clauses.Units.{unit_clauses}
+use Rattle.nz_spec.specs.clauses.Gates.{is_boolean_term}
+use Rattle.nz_spec.specs.clauses.Met.{MeetsClauses}
 use Rattle.nz_spec.specs.simplex.Basis.{Valuation, worth}
 use Rattle.nz_spec.specs.search.Branches.{is_integer_of}
 use Rattle.nz_spec.specs.terms.Taken.{IsTaken}
 
 module _ (truths : Term → Option Bool) (v : Valuation) where
-  -- a literal on a term has its truth, and a bound holds of what the units are worth
-  abbrev pub IsMet : Literal → Type 0
-  IsMet (term_literal t sign) = truths t ≡ Some sign
-  IsMet (is_at_most ps b) = worth v ps ≤ℚ b
-  IsMet (is_below ps b) = worth v ps <ℚ b
-
-  -- one of the literals is met
-  abbrev pub HasMetLiteral : Clause → Type 0
-  HasMetLiteral c = (l : Literal) × Contains c l × IsMet l
-
-  -- Each clause of these terms has a literal that is met, though some terms may have no truth; their units of sort Int are worth integers, and the
-  -- assignment gives the constants among them their truths and numbers.
+  -- The clauses of these terms are met. Units of sort Int are worth integers, and the assignment gives the constants among the terms their truths and numbers.
   pub record MeetsTables (number : Numbering) (a : Assignment) (parts : List Term) : Type 0 where
-    pub gates : (u : Term) → Contains parts u → AllByRecursion HasMetLiteral (gate_clauses u)
-    pub links : (u : Term) → Contains parts u → AllByRecursion (λ (c : Computation Clause). HasMetLiteral c.result) (link_clauses number u)
-    pub units : (u : Term) → Contains parts u → AllByRecursion (λ (c : Computation Clause). HasMetLiteral c.result) (unit_clauses number u)
+    pub clauses : MeetsClauses truths v number parts
     pub constants : (c : Constant) (sign : Bool) → Contains parts (apply (constant c) no_terms) → truths (apply (constant c) no_terms) ≡ Some sign → a c ≡ truth sign
     pub numbers : (c : Constant) → Contains parts (apply (constant c) no_terms) → is_boolean_term (apply (constant c) no_terms) ≡ false
         → unit_value a (apply (constant c) no_terms) =ℚ v (apply (constant c) no_terms)

@@ -15,7 +15,7 @@ use Rattle.nz_spec.specs.clauses.Forced.{Truths, worth_of, IsForced, IsKnown, Ag
 use Rattle.nz_spec.specs.clauses.Polarity.{Need, conjuncts, literal_of, own_clauses, needed_clauses, needs_of, stating_clauses}
 use Rattle.nz_spec.specs.simplex.Basis.{Valuation}
 use Rattle.nz_spec.specs.terms.Taken.{IsTaken}
-use Rattle.nz_spec.specs.laws.Deciding.{IsMet, HasMetLiteral}
+use Rattle.nz_spec.specs.clauses.Met.{IsMet, HasMetLiteral}
 
 -- ---- Clauses that are met
 

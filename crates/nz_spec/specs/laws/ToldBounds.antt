@@ -11,7 +11,7 @@ use Rattle.nz_spec.specs.simplex.Bland.{Point, Position, HasBasis, HasValue, Sid
 use Rattle.nz_spec.specs.search.Places.{IsChosen}
 use Rattle.nz_spec.specs.clauses.Farkas.{bound_of}
 use Rattle.nz_spec.specs.simplex.LiteralBounds.{bound_said, position_under}
-use Rattle.nz_spec.specs.laws.Deciding.{IsMet}
+use Rattle.nz_spec.specs.clauses.Met.{IsMet}
 
 -- a value is past no bound of a side where this fraction stands for δ
 abbrev pub IsWithinAt : Fraction → Side → Infinitesimal → Infinitesimal → Type 0

@@ -1,7 +1,7 @@
 -- Where an operation may leave the numbers in a check: the computations of terms, rows, values, sums and bounds that are made there.
 -- Sources: Dutertre and de Moura, A Fast Linear-Arithmetic Solver for DPLL(T), CAV 2006, sections 3 to 5; Gomory, Outline of an algorithm for integer
 -- solutions to linear programs, 1958. The order of the operations is this solver's own.
-use Rattle.std.specs.Prelude.{◌≡◌, ℕ, suc, ◌<◌, ◌≤◌, true, false, ◌⊎◌, List, [], ◌∷◌, ◌++◌, length, map, flat_map, take, All, Contains, Some, None, IsTrue, slice_get, ⊤, ℤ, pos, ◌+ℤ◌}
+use Rattle.std.specs.Prelude.{◌≡◌, ℕ, suc, ◌<◌, ◌≤◌, Bool, true, false, ◌⊎◌, List, [], ◌∷◌, ◌++◌, length, map, flat_map, take, All, Contains, Option, Some, None, IsTrue, slice_get, ⊤, ℤ, pos, ◌+ℤ◌}
 use Rattle.std.specs.List.{list_all}
 use Rattle.nz_fractions.specs.Fraction.{Fraction, whole, ◌=ℚ◌, ◌≤ℚ◌, neg_ℚ, ◌*ℚ◌, reduce, Sum, Difference, Product, Quotient, outcome, Operation, is_wide, IsNumber, first_wide}
 use Rattle.nz_spec.specs.numbers.Infinitesimal.{Infinitesimal, Pair, at, is_limiting, limit_operations, IsLeastLimit}
@@ -18,7 +18,8 @@ use Rattle.nz_spec.specs.clauses.Links.{link_clauses}
 use Rattle.nz_spec.specs.clauses.Units.{unit_clauses}
 use Rattle.nz_spec.specs.clauses.Farkas.{Multiple, is_multiple, is_linear_literal, sums_of, sum_of_multiples, is_contradiction}
 use Rattle.nz_spec.specs.clauses.Cuts.{cut_clause}
-use Rattle.nz_spec.specs.simplex.Basis.{Coefficients, IsRow, IsCoefficient}
+use Rattle.nz_spec.specs.clauses.Met.{IsMet, MeetsClauses}
+use Rattle.nz_spec.specs.simplex.Basis.{Coefficients, IsRow, IsCoefficient, Valuation}
 use Rattle.nz_spec.specs.simplex.BasisMoves.{Rows, AreRows, AreNumbered, exchange, joining_row}
 use Rattle.nz_spec.specs.simplex.Bland.{Point, is_nonbasic, row_value, Position, HasValue, Side, lower_side, upper_side, bound_on, IsWithinBounds}
 use Rattle.nz_spec.specs.simplex.Climb.{IsInRange, Course, steady, along, Family, member, units_in, terms_in, unit_of}
@@ -27,7 +28,7 @@ use Rattle.nz_spec.specs.clauses.Goals.{Goal}
 use Rattle.nz_spec.specs.clauses.Wishes.{Wish, Group, cost_of, wish_joined, wishes_form, wishes_goal, penalty}
 use Rattle.nz_spec.specs.search.Work.{WorkLine, NoteLine, WorkList, unit_count}
 use Rattle.nz_spec.specs.search.Notes.{Note, form_note, goal_note, Site, term_site, goal_site, joining_site, exchange_site, value_site, sum_site, cut_site, tight_site, split_site, move_site, limit_site, model_site, worth_site, line_site, goal_line_site, scaling_site, Place}
-use Rattle.nz_spec.specs.search.Search.{Task, Found, Search, at_first, no_point, literals_by, told_literals, position_of, HasWorth, IsHeld}
+use Rattle.nz_spec.specs.search.Search.{Task, Found, Search, at_first, no_point, literals_by, literals_held, told_literals, position_of, HasWorth, IsHeld}
 use Rattle.nz_spec.specs.search.Atoms.{AreOfRow, HasUnit, WasTold}
 use Rattle.nz_spec.specs.search.Beginnings.{IsComparison}
 use Rattle.nz_spec.specs.search.Legal.{after_lines, Lead, IsExchange, AreLegal}
@@ -372,19 +373,24 @@ EndWithForm lines = (front : List (WorkLine Note)) × (((atom : ℕ) × (lines �
 abbrev pub AreToldOf : Search → List Literal → Type 0
 AreToldOf s ls = All (λ (l : Literal). IsTrue (is_linear_literal l) → HasUnit l → WasTold s l) ls
 
--- so was each atom that was decided
-abbrev pub AreDecidedTold : Search → Type 0
-AreDecidedTold s = AreToldOf s (literals_by s.atoms s.decided)
+-- Each literal is met that is asserted, gone under or decided, and so are the clauses of the tables of all that what is asserted is made of.
+pub record IsAllMet (q : Task) (s : Search) (truths : Term → Option Bool) (v : Valuation) : Type 0 where
+  pub held : All (IsMet truths v) (literals_held q s)
+  pub decided : All (IsMet truths v) (literals_by s.atoms s.decided)
+  pub clauses : MeetsClauses truths v q.numbering (flat_map listing_order q.asserted)
 
--- When a computation is made: the row of a form just after the form's line, an exchange where it may be the next line, a model's fraction and values once every
--- bound that was decided was told (those that are left open bound nothing), and lines that begin in this list once every bound was told under which a climb
--- goes.
+-- What the simplex was told is enough: with some truths of terms, all is met wherever the told literals are.
+abbrev pub IsToldEnough : Task → Search → Type 0
+IsToldEnough q s = (truths : Term → Option Bool) × ((v : Valuation) → All (IsMet truths v) (told_literals s) → IsAllMet q s truths v)
+
+-- When a computation is made: the row of a form just after the form's line, an exchange where it may be the next line, a model's fraction and values once what
+-- was told is enough (bounds that are left open bound nothing), and lines that begin in this list once every bound was told under which a climb goes.
 abbrev pub IsDue : Task → List (WorkLine Note) → Search → Point → Site → Type 0
 IsDue q lines s x joining_site = EndWithForm lines
 IsDue q lines s x (exchange_site leaves enters) = (y : Point) × IsExchange q s x y leaves enters
-IsDue q lines s x (limit_site form side) = AreDecidedTold s
-IsDue q lines s x (model_site form) = AreDecidedTold s
-IsDue q lines s x (worth_site t bs) = AreDecidedTold s
+IsDue q lines s x (limit_site form side) = IsToldEnough q s
+IsDue q lines s x (model_site form) = IsToldEnough q s
+IsDue q lines s x (worth_site t bs) = IsToldEnough q s
 IsDue q lines s x (line_site t f) = AreToldOf s s.under × Begins q lines s x f
 IsDue q lines s x (goal_line_site goal f) = AreToldOf s s.under × Begins q lines s x f
 IsDue q lines s x (scaling_site forms moves) = AreToldOf s s.under

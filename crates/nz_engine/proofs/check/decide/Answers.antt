@@ -18,6 +18,7 @@ use Rattle.nz_engine.proofs.AtomNotes.{stopped_lead}
 use Rattle.nz_engine.proofs.CheckEnds.{ends_stop, legal_at, model_stop, none_spent, root_stop, root_unspent, same_error, spent_of, stop_within}
 use Rattle.nz_engine.proofs.RefutedAssumptions.{dead_end}
 use Rattle.nz_engine.proofs.KeptTheory.{lead_from, none_more, on_spent_all, on_wide_all, one_more, readied_after, works_from}
+use Rattle.nz_engine.proofs.ToldEnough.{told_enough}
 use Rattle.nz_engine.proofs.check.decide.Goals as goal
 
 -- ---- What is asked isn't posed
@@ -244,7 +245,9 @@ returns-in-Err-clause-stopped c =
     let at = (c.in_ok-prepared.ensures.may q may).0 in
     let u = c.in_ok-refuted.ensures.under_way levels q at in
     model_stop ns levels assumed q c.args.work.now work may.asked (c.solve.ensures.plain levels q at) c.solve.ensures.works.within c.solve.new.self.sat.theory c.in-Err.stop
-    (c.in-Err.ensures.place q.listed u.covered) u.leads (c.in_ok-refuted.ensures.told c.in-None.is))
+    (c.in-Err.ensures.place q.listed u.covered) u.leads
+    (told_enough c.rows_meet_tables.ensures.met c.term_has_its_number.ensures.number c.atoms_of_terms.ensures.atoms ns levels assumed c.solve.new.self
+    (c.in_ok-refuted.ensures.posed levels at.posed) (c.in_ok-refuted.ensures.found c.in-None.is) q at.asserted at.numbering u.named (search_after ns work) (c.in_ok-refuted.ensures.told c.in-None.is)))
 
 pub returns-in-Err-clause-place_within : goal.returns-in-Err-clause-place_within
 returns-in-Err-clause-place_within c =
@@ -258,4 +261,6 @@ returns-in-Err-clause-place_within c =
     let u = c.in_ok-refuted.ensures.under_way levels q at in
     stop_within ns q work c.in-Err.stop
     (model_stop ns levels assumed q c.args.work.now work may.asked (c.solve.ensures.plain levels q at) c.solve.ensures.works.within c.solve.new.self.sat.theory c.in-Err.stop
-    (c.in-Err.ensures.place q.listed u.covered) u.leads (c.in_ok-refuted.ensures.told c.in-None.is))
+    (c.in-Err.ensures.place q.listed u.covered) u.leads
+    (told_enough c.rows_meet_tables.ensures.met c.term_has_its_number.ensures.number c.atoms_of_terms.ensures.atoms ns levels assumed c.solve.new.self
+    (c.in_ok-refuted.ensures.posed levels at.posed) (c.in_ok-refuted.ensures.found c.in-None.is) q at.asserted at.numbering u.named (search_after ns work) (c.in_ok-refuted.ensures.told c.in-None.is)))

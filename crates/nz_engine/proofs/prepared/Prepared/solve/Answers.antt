@@ -94,7 +94,7 @@ returns-clause-parts c =
 pub returns-clause-told : goal.returns-clause-told
 returns-clause-told c =
     let b = begun_as c.self.view_is (c.deref.ensures.value ∙ ap (λ (s : PreparedState). s.noted) c.self.view_is) c.deref-2.ensures.value c.in_ok-literals.ensures.begun.1 in
-    search_told b c.solve.new.log c.solve.new.self c.solve.new.work c.solve.result c.solve.ensures.grows c.solve.ensures.decided_told
+    search_told b c.solve.new.log c.solve.new.self c.solve.new.work c.solve.result c.solve.ensures.grows c.solve.ensures.stays c.solve.ensures.told
 
 pub returns-clause-works : goal.returns-clause-works
 returns-clause-works c =

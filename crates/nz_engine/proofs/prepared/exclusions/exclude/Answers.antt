@@ -4,7 +4,7 @@ use Rattle.std.specs.Prelude.{All}
 use Rattle.nz_log.specs.Logs.{IsLive}
 use Rattle.nz_reals.specs.Exclusions.{HasNeighbours}
 use Rattle.nz_reals.specs.State.{Theory, known_at}
-use Rattle.nz_sat.specs.Sats.{SatState, added_as}
+use Rattle.nz_sat.specs.Sats.{SatState, held_of}
 use Rattle.nz_engine.specs.Preparing.{ids_held}
 use Rattle.nz_engine.proofs.ExclusionClauses.{excludes_by, excludes_none, live_ids, on_both}
 use Rattle.nz_engine.proofs.SeenClauses.{still_seen}
@@ -42,6 +42,6 @@ returns c =
     record {
       excludes = on_both c.hold.result
           (λ joined since.
-          let same : c.hold.new.sat.clauses ≡ old.clauses ++ map (added_as true log) cs = subst (λ (is : List ℕ). c.hold.new.sat.clauses ≡ old.clauses ++ map (added_as true log) is) c.deref-2.ensures.value joined in
+          let same : c.hold.new.sat.clauses ≡ old.clauses ++ map (held_of log) cs = subst (λ (is : List ℕ). c.hold.new.sat.clauses ≡ old.clauses ++ map (held_of log) is) c.deref-2.ensures.value joined in
           excludes_by c.args.log.now log old c.hold.new.sat atoms cs c.hold.ensures.theory c.exclusions.ensures.adds c.in_ok-exclusions.ensures.clauses same since neighbours) c.hold.ensures.held c.hold.ensures.since;
     }

@@ -1,5 +1,5 @@
 -- What the run of the search told, over these atoms.
-use Rattle.std.proofs.Common.{◌≡◌, true, ℕ, Err, List, [], length, Option, ap, refl, sym, subst, ◌∙◌, rules, All, Contains}
+use Rattle.std.proofs.Common.{◌≡◌, ℕ, Err, List, [], length, Option, ap, refl, sym, subst, ◌∙◌, rules, All, Contains}
 use Rattle.std.proofs.lemmas.List.{append-nil}
 use Rattle.std.proofs.lemmas.List.Elements.{All-nil}
 use Rattle.nz_log.specs.declared.lits.Lit.{Lit}
@@ -7,6 +7,7 @@ use Rattle.nz_search.specs.declared.stop.Stop.TheVariants as stop
 use Rattle.nz_log.specs.Logs.{LogState, literals_at}
 use Rattle.nz_search.specs.Standing.{Ends, Stands}
 use Rattle.nz_sat.specs.declared.clauses.Held.{Held}
+use Rattle.nz_sat.specs.declared.clauses.Need.TheVariants.{Never}
 use Rattle.nz_sat.specs.Sats.{AreHeld, AreOn, AreSameSince, HasBegun, HoldsLearned, IsAsked, SatState}
 use Rattle.nz_sat.specs.Searching.{Satisfies}
 use Rattle.nz_sat.specs.Theories.{state_of}
@@ -15,7 +16,7 @@ use Rattle.nz_sat.specs.Watched.{HoldsWatched, IsKept}
 use Rattle.nz_sat.proofs.KeptClauses.{kept_now, run_holds}
 use Rattle.nz_sat.proofs.SearchSteps.{advances_same}
 use Rattle.nz_sat.proofs.SearchLines.{adds_noted, adds_same, adds_within}
-use Rattle.nz_sat.proofs.StartsAndEnds.{decided_told, ends_later, first_noted, run_ends, run_learned, run_named, run_sound, satisfied, theory_met}
+use Rattle.nz_sat.proofs.StartsAndEnds.{ends_later, first_noted, run_ends, run_learned, run_named, run_sound, satisfied, tells_true, theory_met}
 use Rattle.nz_sat.proofs.sat.Sat.solve.Goals as goal
 
 pub new-requires-clause-named : goal.new-requires-clause-named
@@ -40,7 +41,7 @@ invariant_of-self g c =
 pub returns-in_err-search-clause-held : goal.returns-in_err-search-clause-held
 returns-in_err-search-clause-held g c =
     let same = ap (λ (s : SatState g.row.T.Denot). s.clauses) c.self.view_is in
-    record { learned = []; joined = same ∙ sym (append-nil c.args.self.now.clauses); are_redundant = All-nil (λ (h : Held). h.is_redundant ≡ true); held = subst (AreHeld c.args.log.now) (sym same) c.requires.held }
+    record { learned = []; joined = same ∙ sym (append-nil c.args.self.now.clauses); never_needed = All-nil (λ (h : Held). h.need ≡ Never); held = subst (AreHeld c.args.log.now) (sym same) c.requires.held }
 
 pub returns-in_err-search-clause-named : goal.returns-in_err-search-clause-named
 returns-in_err-search-clause-named g c =
@@ -183,10 +184,17 @@ returns-clause-feasible g c none =
     theory_met (state_of g.T.Theory.is_over g.T.Theory.has_told g.T.Theory.is_feasible g.T.Theory.is_of g.T.Theory.is_at c.run-refuted.new.theory) log c.run-refuted.new.held.items s _ atoms holds.search same
     (c.in_ok-self-inside.ensures.truths none) met
 
-pub returns-clause-decided_told : goal.returns-clause-decided_told
-returns-clause-decided_told g c none =
-    decided_told (state_of g.T.Theory.is_over g.T.Theory.has_told g.T.Theory.is_feasible g.T.Theory.is_of g.T.Theory.is_at c.run-refuted.new.theory) c.run-refuted.new.log c.run-refuted.new.held.items
-    c.args.assumed.now c.in_ok-search.search.atoms c.run-refuted.new.self c.run-refuted.new.work (c.in_ok-refuted.ensures.satisfied none) (c.in_ok-refuted.ensures.steps.met none)
+pub returns-clause-told : goal.returns-clause-told
+returns-clause-told g c none =
+    let s = c.run-refuted.new.self in
+    let log = c.run-refuted.new.log in
+    let held = c.run-refuted.new.held.items in
+    let assumed = c.args.assumed.now in
+    let work = c.run-refuted.new.work in
+    let holds : Satisfies log held assumed c.args.atoms.now s work =
+    subst (λ (us : List ℕ). Satisfies log held assumed us s work) c.in_ok-search.ensures.atoms (c.in_ok-refuted.ensures.satisfied none) in
+    tells_true (state_of g.T.Theory.is_over g.T.Theory.has_told g.T.Theory.is_feasible g.T.Theory.is_of g.T.Theory.is_at c.run-refuted.new.theory) log held assumed c.args.atoms.now s work _
+    (c.in_ok-self-inside.ensures.truths none) holds (c.in_ok-refuted.ensures.steps.met none)
 
 -- the clauses that are held are kept
 pub invariant_of-self-2 : goal.invariant_of-self-2
