@@ -10,6 +10,7 @@ pub mod ExclusionClauses
 pub mod FoundClauses
 pub mod GoneFrom
 pub mod HeldClauses
+pub mod KeptClauses
 pub mod KeptState
 pub mod KeptTheory
 pub mod LaterSearches

@@ -109,8 +109,8 @@ module _ (rows_meet : RowsMeetTables) (decides : TablesDecide) (numbers : TermHa
   abbrev worths : Valuation
   worths = adds.worths
 
-  covered_within' : (t : ℕ) → IsSome (covered_at p.form t) → t < length ns
-  covered_within' = covered_within rows_meet numbers own ns levels assumed p posed found
+  inside : (t : ℕ) → IsSome (covered_at p.form t) → t < length ns
+  inside = covered_within rows_meet numbers own ns levels assumed p posed found
 
   -- the worths meet each bound that is true
   bounds_met : (l : Lit) (b : Bound) → Contains p.noted l.atom → slice_get p.log.atoms l.atom ≡ Some (atoms.AtMost b) → IsTrueLit p.sat l → IsMet truths worths (literal_in ns p.log.atoms l)
@@ -126,7 +126,7 @@ module _ (rows_meet : RowsMeetTables) (decides : TablesDecide) (numbers : TermHa
 
   covered_parts : (t : ℕ) → IsSome (covered_at p.form t) → AllByRecursion IsCovered (listing_order (term_in ns t))
   covered_parts =
-      all_parts of_node ns posed.table (λ t. IsSome (covered_at p.form t)) IsCovered covered_within'
+      all_parts of_node ns posed.table (λ t. IsSome (covered_at p.form t)) IsCovered inside
       (λ t some.
       let n = some_of (covered_at p.form t) some in
       All-weaker (IsCoveredWithin p.form n.0) (λ k. IsSome (covered_at p.form k)) (λ k within. some_within (covered_at p.form k) n.0 within) (kids_at ns t) (ready.covers.arguments t n.0 n.1))
@@ -167,7 +167,7 @@ module _ (rows_meet : RowsMeetTables) (decides : TablesDecide) (numbers : TermHa
       by_test false bool f = absurd cc
       by_test true bool f =
           let i = has.0 in
-          let below = covered_within' i has.1 in
+          let below = inside i has.1 in
           let n = node_of i c below has.2 in
           let number_is : number_in ns (apply (constant c) no_terms) ≡ i = ap (number_in ns) (sym has.2) ∙ numbers ns posed.table i below in
           let own_truth : truth_in p i ≡ Some sign = ap (truth_in p) (sym number_is) ∙ f in
@@ -178,7 +178,7 @@ module _ (rows_meet : RowsMeetTables) (decides : TablesDecide) (numbers : TermHa
   constant_number : (c : Constant) → IsCovered (apply (constant c) no_terms) → is_bool c.sort ≡ false → unit_value values (apply (constant c) no_terms) =ℚ worths (apply (constant c) no_terms)
   constant_number c has other =
       let i = has.0 in
-      let below = covered_within' i has.1 in
+      let below = inside i has.1 in
       let n = node_of i c below has.2 in
       let taken : IsTaken (apply (constant c) no_terms) = subst IsTaken has.2 (ready.taken i has.1) in
       let real : c.sort ≡ real_sort = real_of c.sort other taken.heads.0 in
@@ -212,7 +212,7 @@ module _ (rows_meet : RowsMeetTables) (decides : TablesDecide) (numbers : TermHa
   -- a covered Boolean term has the value that its truth says
   decided : (t : ℕ) (sign : Bool) → IsSome (covered_at p.form t) → is_boolean_term (term_in ns t) ≡ true → truth_in p t ≡ Some sign → value_of values (term_in ns t) ≡ truth sign
   decided t sign some boolean known =
-      decides.truths (number_in ns) values truths worths (term_in ns t) sign (ready.taken t some) sorted (tables_met t some) boolean (truth_is rows_meet numbers own ns levels assumed p posed found t (covered_within' t some) boolean ∙ known)
+      decides.truths (number_in ns) values truths worths (term_in ns t) sign (ready.taken t some) sorted (tables_met t some) boolean (truth_is rows_meet numbers own ns levels assumed p posed found t (inside t some) boolean ∙ known)
 
   -- ---- What is asserted
 

@@ -1,5 +1,5 @@
 -- What is prepared stands also where learned clauses go: each row and each unit is held by a clause that was added.
-use Rattle.std.proofs.Common.{◌≡◌, ℕ, Bool, true, false, List, refl, ap, subst, sym, ◌∙◌, arith}
+use Rattle.std.proofs.Common.{◌≡◌, ◌≤◌, ℕ, Bool, true, false, List, refl, ap, subst, sym, ◌∙◌, arith}
 use Rattle.std.specs.Prelude.{◌&&◌, All, Contains, not, nat_lt}
 use Rattle.nz_lists.proofs.Numbers.{not_below}
 use Rattle.nz_spec.specs.terms.Table.{Node}
@@ -13,14 +13,18 @@ use Rattle.nz_engine.specs.Preparing.{IsPrepared, IsSearched, PreparedState}
 use Rattle.nz_engine.proofs.LevelPreservation.{left_since}
 use Rattle.nz_engine.proofs.UnlistedClauses.{left_all, left_from, left_has}
 
--- a clause that was added stays
-added_stays : (before glue : ℕ) (hs : List Held) (h : Held) → h.glue ≡ 0 → Contains hs h → Contains (held_shed before glue hs) h
-added_stays before glue hs h added has =
-    left_has (λ (x : Held). not (is_shed before glue x)) hs h (ap (λ (n : ℕ). not (nat_lt h.id before && nat_lt glue n)) added ∙ either (nat_lt h.id before)) has
+-- a clause whose literals are of few levels stays
+pub few_stay : (before glue : ℕ) (hs : List Held) (h : Held) → h.glue ≤ glue → Contains hs h → Contains (held_shed before glue hs) h
+few_stay before glue hs h few has =
+    left_has (λ (x : Held). not (is_shed before glue x)) hs h (ap (λ (b : Bool). not (nat_lt h.id before && b)) (not_below glue h.glue few) ∙ either (nat_lt h.id before)) has
   where
-    either : (b : Bool) → not (b && nat_lt glue 0) ≡ true
-    either true = ap not (not_below glue 0 (omega arith))
+    either : (b : Bool) → not (b && false) ≡ true
+    either true = refl
     either false = refl
+
+-- and so does one that was added
+added_stays : (before glue : ℕ) (hs : List Held) (h : Held) → h.glue ≡ 0 → Contains hs h → Contains (held_shed before glue hs) h
+added_stays before glue hs h added has = few_stay before glue hs h (omega (arith, added)) has
 
 module _ (ns : List Node) (levels : List Level) (roots : List (List ℕ)) (p : PreparedState) (before glue : ℕ) (h : IsPrepared ns levels roots p) where
   abbrev left : List Held

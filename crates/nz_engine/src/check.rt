@@ -21,6 +21,7 @@ ghost use Rattle.nz_search.specs.Verdicts.{OnSpent};
 ghost use Rattle.nz_cform.specs.Covering.{Covers};
 ghost use Rattle.nz_engine.specs.Checking.{AreCoveredAmong, HasFound, IsAnswer, IsPosed, IsRootStop, IsStop, IsStopOf, IsUnderWay, MaySearch, Works, terms_named, without_goals};
 ghost use Rattle.nz_engine.specs.Engines.{IsKept, IsLow, IsReadied, nothing_kept, prepared_of, theory_of};
+ghost use Rattle.nz_engine.specs.Keeping.{IsCutTo, IsKeptTo, IsLowered, KeepsClauses, KeepsLowered, Retains};
 ghost use Rattle.nz_engine.specs.Lists.{MayGoOnFrom};
 ghost use Rattle.nz_engine.specs.Preparing.{Extends, IsAllAdded, IsPrepared, IsStanding};
 
@@ -66,6 +67,7 @@ pub fn take_kept(alloc: Global, kept: &mut Retained) -> Retained
 fn cut_to(mut prepared: Prepared, levels: &Levels) -> Retained
     requires kept { (ns : List Node) × (old : List Level) × IsReadied ns old prepared }
     ensures low { (ns : List Node) (old : List Level) → take (length levels.now) old ≡ levels.now → IsReadied ns old prepared → IsLow ns levels.now result }
+    ensures keeps { IsCutTo prepared levels.now result }
     ensures theory { theory_of result ≡ prepared.sat.theory }
 {
     covers_stay();
@@ -83,6 +85,7 @@ fn cut_to(mut prepared: Prepared, levels: &Levels) -> Retained
 pub fn cut_kept(kept: Retained, levels: &Levels) -> Retained
     requires kept { (ns : List Node) × (old : List Level) × IsKept ns old kept }
     ensures low { (ns : List Node) (old : List Level) → take (length levels.now) old ≡ levels.now → IsKept ns old kept → IsLow ns levels.now result }
+    ensures keeps { IsKeptTo kept levels.now result }
     ensures theory { theory_of result ≡ theory_of kept }
 {
     match kept {
@@ -95,6 +98,7 @@ pub fn cut_kept(kept: Retained, levels: &Levels) -> Retained
 pub fn lowered(kept: Retained, levels: &Levels) -> Retained
     requires kept { (ns : List Node) × IsKept ns levels.now kept }
     ensures low { (ns : List Node) → IsKept ns levels.now kept → IsLow ns levels.now result }
+    ensures keeps { IsLowered kept levels.now result }
     ensures theory { theory_of result ≡ theory_of kept }
 {
     match kept {
@@ -113,6 +117,7 @@ pub fn lowered(kept: Retained, levels: &Levels) -> Retained
 fn begun(alloc: Global, kept: Retained, levels: &Levels) -> Result<Prepared, Memory>
     requires kept { (ns : List Node) × IsKept ns levels.now kept }
     ensures stands { IfOk result (λ p. (front ns : List Node) → IsFrontOfTable front ns → IsKept front levels.now kept → IsPrepared ns levels.now (added_by_level levels.now) p) }
+    ensures keeps { IfOk result (KeepsLowered levels.now kept) }
     ensures theory { IfOk result (λ p. p.sat.theory ≡ theory_of kept) }
 {
     logs_stay();
@@ -159,6 +164,7 @@ fn posed_anew(
     requires kept { (front : List Node) × IsFrontOfTable front terms.now × IsKept front levels.now kept }
     ensures posed { IfOk result (λ p. IsPosed terms.now levels.now assumed.now p) }
     ensures among { IfOk result (λ p. (ts : List spec.Term) → AreListedIn terms.now levels.now assumed.now ts → AreCoveredAmong terms.now p ts) }
+    ensures keeps { IfOk result (KeepsLowered levels.now kept) }
     ensures theory { IfOk result (λ p. p.sat.theory ≡ theory_of kept) }
     ensures stop { IfErr result (IsRootStop terms.now (asserted_numbers (added_by_level levels.now) ++ terms_named assumed.now)) }
 {
@@ -190,6 +196,7 @@ fn posed_on(
     ensures posed { IfOk result (λ p. IsPosed terms.now levels.now assumed.now p) }
     ensures among { IfOk result (λ p. (ts : List spec.Term) → AreListedIn terms.now levels.now assumed.now ts → AreCoveredAmong terms.now (prepared_of kept) ts → AreCoveredAmong terms.now p ts) }
     ensures extends { IfOk result (Extends (prepared_of kept)) }
+    ensures keeps { IfOk result (KeepsClauses (prepared_of kept)) }
     ensures stop { IfErr result (IsRootStop terms.now (asserted_numbers (added_by_level levels.now) ++ terms_named assumed.now)) }
 {
     known_table(terms);
@@ -216,6 +223,7 @@ fn posed(
     requires kept { (front : List Node) × IsFrontOfTable front terms.now × IsKept front levels.now kept }
     requires from { (q : Task) × MayGoOnFrom terms.now levels.now assumed.now q work.now kept }
     ensures may { IfOk result (λ p. (q : Task) → MayGoOnFrom terms.now levels.now assumed.now q work.now kept → MaySearch terms.now levels.now assumed.now q work.now p × MaySearch terms.now levels.now assumed.now (without_goals q) work.now p) }
+    ensures keeps { IfOk result (Retains levels.now work.now kept) }
     ensures stop { IfErr result (IsRootStop terms.now (asserted_numbers (added_by_level levels.now) ++ terms_named assumed.now)) }
 {
     if work.is_empty() {
@@ -268,6 +276,7 @@ pub fn decide(
     ensures answer { IfOk result (λ f. IsAnswer terms.now levels.now assumed.now f.prepared.log f.verdict) }
     ensures parts { IfOk result (λ f. NamesParts terms.now levels.now (search_after terms.now work.new)) }
     ensures readied { IfOk result (λ f. IsReadied terms.now levels.now f.prepared) }
+    ensures keeps { IfOk result (λ f. Retains levels.now work.old kept f.prepared) }
     // Where this check may be made of the list, from where it leads.
     ensures legal { (q : Task) → MayGoOnFrom terms.now levels.now assumed.now q work.old kept → AreLegal q (noted_list terms.now work.new).lines }
     ensures under_way { IfOk result (λ f. (q : Task) → MayGoOnFrom terms.now levels.now assumed.now q work.old kept → IsUnderWay terms.now levels.now q work.new f.prepared × IsUnderWay terms.now levels.now (without_goals q) work.new f.prepared) }

@@ -5,6 +5,7 @@ pub mod BoundClashes
 pub mod ConstantValues
 pub mod Contradictions
 pub mod ExclusionClauses
+pub mod FewerBounds
 pub mod InfinitesimalLimits
 pub mod JoinedForms
 pub mod Joints

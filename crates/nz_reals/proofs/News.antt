@@ -86,7 +86,7 @@ module _ (order : InfinitesimalsAreOrdered) (v : ℕ) (side : Side) where
       by_test true false f t = t
       by_test false n f t = absurd (true≢false (sym f))
 
-  finds : (o : Option Held) (es : List Held) (e : Held) → Contains es e → is_bound_of v side e ≡ true → NotNews side e.value (fold (standing_with v side) o es)
+  pub finds : (o : Option Held) (es : List Held) (e : Held) → Contains es e → is_bound_of v side e ≡ true → NotNews side e.value (fold (standing_with v side) o es)
   finds o [] e h on = absurd (omega (arith, h.1))
   finds o (x ∷ xs) e h on = by_case (λ more. finds (standing_with v side o x) xs e more on) (has_cases x e xs h)
     where

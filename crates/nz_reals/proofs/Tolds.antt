@@ -13,6 +13,7 @@ use Rattle.nz_spec.specs.simplex.Bland.{zero_infinitesimal}
 use Rattle.nz_trail.specs.declared.limits.Side.TheVariants.{Lower}
 use Rattle.nz_spec.specs.numbers.Infinitesimal.{infinitesimal_cmp}
 use Rattle.nz_spec.specs.clauses.Literal.{StandOnce}
+use Rattle.nz_lin.specs.declared.form.Part.{Part}
 use Rattle.nz_lin.specs.Forms.{AreUnits}
 use Rattle.nz_log.specs.declared.atoms.Atom.{Atom}
 use Rattle.nz_log.specs.declared.atoms.Atom.TheVariants.{AtMost}
@@ -256,6 +257,22 @@ stored_undone find old new k x stored undone = record {
   finds = subst (FindsForms find) (sym (forms_stay old new k x stored.tolds undone)) stored.finds;
   tolds = tolds_undone old new k x stored.tolds undone;
 }
+
+-- nothing but the values of the simplex, and what stands nonbasic, has changed
+pub stored_moved : (find : Atom → Option ℕ) (t : Theory) (s : State) → s.forms ≡ t.simplex.forms → s.asserted ≡ t.simplex.asserted → IsStored find t → IsStored find (record t { simplex = s })
+stored_moved find t s forms asserted stored = record {
+  forms = forms_move t.simplex s forms stored.forms;
+  finds = subst (FindsForms find) (sym forms) stored.finds;
+  tolds = record {
+    listed = λ i k knows. subst (λ (fs : List (List Part)). k.form < length fs) (sym forms) (stored.tolds.listed i k knows);
+    backed = subst (AllByRecursion (IsBacked (record t { simplex = s }))) (sym asserted) (AllByRecursion-weaker (IsBacked t) (IsBacked (record t { simplex = s })) backed_still t.simplex.asserted stored.tolds.backed);
+    knows = stored.tolds.knows;
+    marks = λ r x at. subst (λ (bs : List Held). IsMark bs r x.mark) (sym asserted) (stored.tolds.marks r x at);
+  };
+}
+  where
+    backed_still : (h : Held) → IsBacked t h → IsBacked (record t { simplex = s }) h
+    backed_still h k = record { told = k.told; at = k.at; known = k.known; knows = k.knows; form = k.form; side = k.side; value = k.value }
 
 pub told_here : (old new : Theory) (l : Lit) (k : Known) (s : SideBound) (reason : ℕ) → known_at old l.atom ≡ Some k → s ≡ said_by k l.sign → reason ≡ length old.told → new.known ≡ old.known
     → new.told ≡ old.told ++ told_now old l ∷ []

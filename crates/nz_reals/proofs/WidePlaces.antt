@@ -1,6 +1,6 @@
 -- Where an operation leaves the numbers, at the places of the definitions.
 use Rattle.std.proofs.Common.{◌≡◌, ℕ, ◌==◌, ◌<◌, inl, Bool, true, false, List, [], ◌∷◌, ◌++◌, map, length, Option, Some, None, Result, Ok, Err, refl, sym, ap, ◌∙◌, subst, pos, append_assoc, append-nil}
-use Rattle.std.specs.Prelude.{Contains, IfErr, IsSome, fold, is_some, option_map, slice_index_or, if◌then◌else◌}
+use Rattle.std.specs.Prelude.{Contains, IsSome, fold, is_some, option_map, slice_index_or, if◌then◌else◌}
 use Rattle.std.specs.List.{AllByRecursion}
 use Rattle.std.proofs.Math.Path.{fun_ext}
 use Rattle.std.proofs.lemmas.List.{length-map}
@@ -46,7 +46,7 @@ use Rattle.nz_search.specs.Places.{OnWide}
 use Rattle.nz_search.specs.Theories.{EndsAt, IsDueIn, IsPlaceOfStep, Leads}
 use Rattle.nz_simplex.specs.declared.answer.SimplexStop.{SimplexStop}
 use Rattle.nz_simplex.specs.declared.answer.SimplexStop.TheVariants as stops
-use Rattle.nz_simplex.specs.Checks.{Answers, IsPlace, IsRefuted, IsSite, site_operations}
+use Rattle.nz_simplex.specs.Checks.{Answers, IsPlace, IsRefuted, IsSite, IsStepped, site_operations}
 use Rattle.nz_simplex.specs.State as simplex
 use Rattle.nz_simplex.specs.State.{IsSound, State, point_in, position_over}
 use Rattle.nz_reals.specs.declared.reals.MarkedLiteral.{MarkedLiteral}
@@ -69,6 +69,23 @@ noted_joined w [] = ap (λ ls. record w { lines = ls }) (sym (append-nil w.lines
 noted_joined w (p ∷ ps) =
     noted_joined (with_line w (UnitLine (PivotEntry p.leaves p.enters))) ps
     ∙ ap (λ ls. record w { lines = ls }) (append_assoc w.lines (UnitLine (PivotEntry p.leaves p.enters) ∷ []) (map (λ (q : Pivot). UnitLine (PivotEntry q.leaves q.enters)) ps))
+
+-- check steps were made
+pub stepped_moved : (t : Theory) (s : State) (before after : WorkList Note) → IsSound t.simplex → IsStepped (λ (w : WorkList Note) (leaves enters : ℕ). with_line w (UnitLine (PivotEntry leaves enters))) before after t.simplex s
+    → IsMoved t (record t { simplex = s }) before after
+stepped_moved t s before after sound steps = record {
+  known = refl;
+  told = refl;
+  forms = steps.forms;
+  asserted = steps.asserted;
+  consistent = λ ns over. (sound.ready ns over).consistent;
+  adds = record { pivots = steps.pivots; joined = steps.noted ∙ noted_joined before steps.pivots };
+  lead = steps.lead;
+}
+
+-- or none
+pub still_moved : (t : Theory) (work : WorkList Note) → IsSound t.simplex → IsMoved t t work work
+still_moved t work sound = stepped_moved t t.simplex work work sound (record { pivots = []; noted = refl; lead = λ ns over. refl; forms = refl; asserted = refl })
 
 -- ---- The places of a simplex
 
@@ -160,13 +177,6 @@ module _ (ns : List Node) (s : State) (sound : IsSound s) (over : simplex.IsOver
 
 pub stop_answer : (ns : List Node) (s : State) (left : ℕ) (e : SimplexStop) (place : Place) → Answers ns s left (Err e) → e ≡ stops.Wide place → IsPlace ns s place
 stop_answer ns s left e place answer is = subst (λ (x : SimplexStop). Answers ns s left (Err x)) is answer
-
-pub spent_answer : (ns : List Node) (s : State) (left : ℕ) (e : SimplexStop) → Answers ns s left (Err e) → e ≡ stops.Spent → (p : Pivot) × MayPivot (position_over ns s) p
-spent_answer ns s left e answer is = (subst (λ (x : SimplexStop). Answers ns s left (Err x)) is answer).1
-
--- one more pivot may follow, where a unit was wanted
-abbrev pub Wants : List Node → State → Result Bool Stop → Type 0
-Wants ns s result = IfErr result (λ (e : Stop). e ≡ Spent → (p : Pivot) × MayPivot (position_over ns s) p)
 
 -- the operation at a place, wherever a theory with these bounds stands
 abbrev pub Placed : List Node → State → Place → Type 0

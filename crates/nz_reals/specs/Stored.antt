@@ -1,5 +1,5 @@
 -- What the fields of the theory are.
-use Rattle.std.specs.Prelude.{◌≡◌, ◌==◌, ℕ, ◌<◌, ◌≤◌, false, List, length, None, Option, Some, if◌then◌else◌, slice_get}
+use Rattle.std.specs.Prelude.{◌≡◌, ◌==◌, ℕ, ◌<◌, ◌≤◌, Bool, true, false, List, length, None, Option, Some, if◌then◌else◌, slice_get}
 use Rattle.std.specs.List.{AllByRecursion}
 use Rattle.nz_spec.specs.clauses.Literal.{StandOnce}
 use Rattle.nz_spec.specs.terms.Table.{Node}
@@ -13,6 +13,7 @@ use Rattle.nz_tab.specs.Units.{is_unit_form}
 use Rattle.nz_reals.specs.declared.atoms.BoundedAtom.{BoundedAtom}
 use Rattle.nz_reals.specs.declared.reals.MarkedLiteral.{MarkedLiteral}
 use Rattle.nz_reals.specs.Known.{Known, known_of, said_by}
+use Rattle.nz_reals.specs.Stands.{IsFeasible}
 use Rattle.nz_reals.specs.State.{Theory, known_among, known_at, known_list}
 use Rattle.nz_reals.specs.Sums.{IsFormSum, zero_bound}
 
@@ -59,6 +60,10 @@ pub record IsStored (find : Atom → Option ℕ) (t : Theory) : Type 0 where
   pub forms : AreForms t.simplex
   pub finds : FindsForms find t.simplex.forms
   pub tolds : AreTolds t
+
+-- where it is known to be feasible, it is
+abbrev pub KnowsFeasible : Bool → Theory → Type 0
+KnowsFeasible known t = known ≡ true → IsFeasible t
 
 -- ---- What is known of atoms
 

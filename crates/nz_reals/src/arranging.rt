@@ -130,6 +130,7 @@ impl Reals {
         if !self.simplex.is_basic(leaves) || self.simplex.is_basic(enters) {
             return false;
         }
+        self.is_known_feasible = false;
         matches!(self.simplex.exchange(leaves, enters), Ok(true))
     }
 
@@ -163,6 +164,7 @@ impl Reals {
         ensures stood { MayHaveStood self.old self.new var (infinitesimal_of value) }
     {
         if !self.simplex.is_basic(var) {
+            self.is_known_feasible = false;
             self.simplex.stand(var, value);
         }
     }
@@ -221,6 +223,7 @@ impl Reals {
     {
         one_number();
         let form = Form::times_unit(self.alloc, Frac::whole(1), part.unit, part.sort)?;
+        self.is_known_feasible = false;
         match self.simplex.add_form(&form) {
             Ok(var) => Ok(var),
             // A unit alone has no row, so no operation leaves the numbers.

@@ -161,6 +161,7 @@ impl Reals {
         stored(self);
         // Room comes first, so that nothing has changed where there is none.
         self.forms.reserve(1)?;
+        self.is_known_feasible = false;
         let var = match self.simplex.add_form(sum.form()) {
             Ok(var) => var,
             Err(ArithmeticStop::Wide(wide)) => return Err(stopped(wide, Site::Joining)),

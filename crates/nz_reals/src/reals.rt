@@ -39,6 +39,8 @@ pub struct Reals {
     pub(crate) forms: IndexMap<Atom, Var>,
     pub(crate) bounded: BoundedAtoms,
     pub(crate) told: Vec<MarkedLiteral>,
+    // Whether the point is known to be within all bounds. A tighter bound or a change of the forms ends that; taking bounds back doesn't.
+    pub(crate) is_known_feasible: bool,
 }
 
 impl Model for Reals {
@@ -48,11 +50,11 @@ impl Model for Reals {
 
     ghost use Rattle.indexmap.specs.IndexMap.{get};
     ghost use Rattle.nz_log.specs.Keys.{are_same_atom};
-    ghost use Rattle.nz_reals.specs.Stored.{IsStored};
+    ghost use Rattle.nz_reals.specs.Stored.{IsStored, KnowsFeasible};
 
     ghost view = { λ r. record { simplex = r.simplex; known = r.bounded; told = r.told.items } };
 
-    ghost invariant = { λ r. IsStored (get are_same_atom r.forms) (record { simplex = r.simplex; known = r.bounded; told = r.told.items }) };
+    ghost invariant = { λ r. let t : Theory = record { simplex = r.simplex; known = r.bounded; told = r.told.items } in IsStored (get are_same_atom r.forms) t × KnowsFeasible r.is_known_feasible t };
 }
 
 impl Reals {
@@ -67,6 +69,7 @@ impl Reals {
             forms: IndexMap::new(alloc),
             bounded: BoundedAtoms::new(alloc),
             told: Vec::new(alloc),
+            is_known_feasible: false,
         }
     }
 
@@ -138,6 +141,7 @@ impl Reals {
                 Ok(None)
             }
             AssertOutcome::Tighter => {
+                self.is_known_feasible = false;
                 self.told.push(MarkedLiteral { literal, mark }).unwrap();
                 Ok(None)
             }

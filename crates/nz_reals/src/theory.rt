@@ -80,6 +80,7 @@ impl Theory for Reals {
     }
 
     fn undo(&mut self, mark: usize) {
+        infinitesimals_are_ordered();
         if let Some(first) = self.told.get(mark) {
             let bounds = first.mark;
             self.simplex.undo(bounds);
@@ -102,7 +103,7 @@ impl Theory for Reals {
 }
 
 impl Reals {
-    /// Looks for a point within all bounds. Answers false where bounds contradict.
+    /// Looks for a point within all bounds, where the point isn't known to be so. Answers false where bounds contradict.
     fn seek(&mut self, work: &mut Work<Note>) -> Result<bool, Stop>
         ensures moved { IsMoved self.old self.new work.old work.new }
         ensures feasible { result ≡ Ok true → IsFeasible self.new }
@@ -112,8 +113,14 @@ impl Reals {
         ensures spent { IfErr result (λ e. e ≡ stop.Spent → IsSpent work.new) }
     {
         stored(self);
+        if self.is_known_feasible {
+            return Ok(true);
+        }
         match self.simplex.check(work) {
-            Ok(Check::Feasible) => Ok(true),
+            Ok(Check::Feasible) => {
+                self.is_known_feasible = true;
+                Ok(true)
+            }
             Ok(Check::Clash) => Ok(false),
             Err(SimplexStop::Spent) => {
                 work.left();

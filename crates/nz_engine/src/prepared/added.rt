@@ -11,6 +11,7 @@ ghost use Rattle.nz_cform.specs.Stops as form;
 ghost use Rattle.nz_search.specs.Levels.{Level, added_by_level, asserted_by_level, numbers_by_level};
 ghost use Rattle.nz_engine.specs.declared.levels.Kind.TheVariants as kind;
 ghost use Rattle.nz_engine.specs.Checking.{AreTakenAt, IsRootStop, IsTermStop};
+ghost use Rattle.nz_engine.specs.Keeping.{KeepsClauses};
 ghost use Rattle.nz_engine.specs.Preparing.{CoversAlso, IsAllAdded, IsNext, IsPrepared, IsSeen};
 
 use super::{Prepared, hold};
@@ -58,6 +59,7 @@ impl Prepared {
         requires covers { Covers terms.now self.old.log self.old.form }
         requires seen { IsSeen self.old }
         ensures stands { OnOk result ((levels : List Level) → IsNext levels self.old kind.Asserted term level → IsPrepared terms.now levels (added_by_level levels) self.old → IsPrepared terms.now levels (added_by_level levels) self.new) }
+        ensures keeps { OnOk result (KeepsClauses self.old self.new) }
         ensures given { OnOk result (self.new.given ≡ suc self.old.given) }
         ensures numbered { OnOk result (self.new.numbered ≡ self.old.numbered) }
         ensures theory { self.new.sat.theory ≡ self.old.sat.theory }
@@ -90,6 +92,7 @@ impl Prepared {
         requires covers { Covers terms.now self.old.log self.old.form }
         requires seen { IsSeen self.old }
         ensures stands { OnOk result ((levels : List Level) → IsNext levels self.old kind.Number term level → IsPrepared terms.now levels (added_by_level levels) self.old → IsPrepared terms.now levels (added_by_level levels) self.new) }
+        ensures keeps { OnOk result (KeepsClauses self.old self.new) }
         ensures given { OnOk result (self.new.given ≡ self.old.given) }
         ensures numbered { OnOk result (self.new.numbered ≡ suc self.old.numbered) }
         ensures theory { self.new.sat.theory ≡ self.old.sat.theory }
@@ -143,6 +146,7 @@ impl Prepared {
         requires stands { IsPrepared terms.now levels.now (added_by_level levels.now) self.old }
         ensures stands { OnOk result (IsPrepared terms.now levels.now (added_by_level levels.now) self.new) }
         ensures all { OnOk result (IsAllAdded levels.now self.new) }
+        ensures keeps { OnOk result (KeepsClauses self.old self.new) }
         ensures theory { self.new.sat.theory ≡ self.old.sat.theory }
         ensures stop { IfErr result (IsRootStop terms.now (asserted_numbers (added_by_level levels.now))) }
     {

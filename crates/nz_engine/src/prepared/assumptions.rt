@@ -8,6 +8,7 @@ ghost use Rattle.nz_cform.specs.Covering.{Covers};
 ghost use Rattle.nz_cform.specs.Forms.{covered_at};
 ghost use Rattle.nz_engine.specs.Checking.{AreCovered, AreTakenAt, IsRootStop, IsTermStop, terms_named};
 ghost use Rattle.nz_search.specs.Levels.{Level};
+ghost use Rattle.nz_engine.specs.Keeping.{KeepsClauses};
 ghost use Rattle.nz_engine.specs.Preparing.{Extends, IsAllAdded, IsAssumable, IsMadeOf, IsSeen, IsStanding};
 
 use super::Prepared;
@@ -33,6 +34,7 @@ impl Prepared {
         ensures covered { OnOk result (IsSome (covered_at self.new.form term)) }
         ensures made { OnOk result ((t : ℕ) → IsSome (covered_at self.new.form t) → IsSome (covered_at self.old.form t) ⊎ IsMadeOf terms.now (term ∷ []) t) }
         ensures extends { OnOk result (Extends self.old self.new) }
+        ensures keeps { OnOk result (KeepsClauses self.old self.new) }
         ensures theory { self.new.sat.theory ≡ self.old.sat.theory }
         ensures stop { IfErr result (IsTermStop terms.now (term_in terms.now term)) }
     {
@@ -69,6 +71,7 @@ impl Prepared {
         ensures covered { OnOk result (AreCovered self.new assumed.now) }
         ensures made { OnOk result ((t : ℕ) → IsSome (covered_at self.new.form t) → IsSome (covered_at self.old.form t) ⊎ IsMadeOf terms.now (terms_named assumed.now) t) }
         ensures extends { OnOk result (Extends self.old self.new) }
+        ensures keeps { OnOk result (KeepsClauses self.old self.new) }
         ensures theory { self.new.sat.theory ≡ self.old.sat.theory }
         ensures stop { IfErr result (IsRootStop terms.now (terms_named assumed.now)) }
     {

@@ -13,6 +13,7 @@ ghost use Rattle.nz_search.specs.Verdicts.{OnSpent};
 ghost use Rattle.nz_cform.specs.Covering.{Covers};
 ghost use Rattle.nz_engine.specs.Checking.{AreHanded, EndsWith, HasFound, IsAllTold, IsBegun, IsPlain, IsPosed, IsReady, IsUnderWay, MayBeNamed, MaySearch, NotesUnder, Works};
 ghost use Rattle.nz_engine.specs.Engines.{literals_in};
+ghost use Rattle.nz_engine.specs.Keeping.{KeepsClauses};
 ghost use Rattle.nz_engine.specs.SearchLaws.{SearchLaws};
 ghost use Rattle.nz_engine.specs.Preparing.{BeganExcluded};
 
@@ -34,8 +35,8 @@ use nz_term::{TermLit, Terms};
 use std::alloc::Global;
 
 impl Prepared {
-    /// Searches for truths of the covered Boolean terms and of the bounds, which it notes as atoms, under which each clause and each assumed literal is
-    /// true, and for values that meet the bounds. Answers `None` where it found them, and otherwise a clause whose literals are negations of assumed ones.
+    /// Searches for truths of covered Boolean terms and of bounds, which it notes as atoms, under which each clause that needs one has a true literal and
+    /// each assumed literal is true, and for values that meet the bounds. Answers `None` where it found them, and otherwise a clause whose literals are negations of assumed ones.
     ///
     /// # Errors
     ///
@@ -64,6 +65,7 @@ impl Prepared {
         // Where one more unit was wanted, it goes under the assumed literals.
         ensures under { IfErr result (λ s. OnSpent s ((search_after terms.now work.new).under ≡ map (literal_of terms.now) assumed.now)) }
         ensures excluded { OnOk result (BeganExcluded terms.now self.new) }
+        ensures keeps { OnOk result (KeepsClauses self.old self.new) }
     {
         let literals = self.begin(terms, assumed, work)?;
         self.sat.solve(&mut self.log, &self.noted, &literals, work)
@@ -78,6 +80,7 @@ impl Prepared {
     ) -> Result<Vec<Lit>, Stop>
         requires may { (levels : List Level) × (q : Task) × MaySearch terms.now levels assumed.now q work.old self.old }
         ensures begun { IfOk result (λ ls. (first : ℕ) × IsBegun terms.now assumed.now first self.old self.new self.new.noted ls.items work.old work.new) }
+        ensures keeps { OnOk result (KeepsClauses self.old self.new) }
         ensures stopped { IfErr result (λ e. (levels : List Level) (q : Task) → MaySearch terms.now levels assumed.now q work.old self.old → EndsWith terms.now q work.new e) }
         ensures plain { (levels : List Level) (q : Task) → MaySearch terms.now levels assumed.now q work.old self.old → IsPlain q (search_after terms.now work.old) (search_after terms.now work.new) }
         ensures works { Works terms.now work.old work.new }
@@ -101,6 +104,7 @@ impl Prepared {
         requires posed { (levels : List Level) × IsPosed terms.now levels assumed.now self.old }
         requires no_steps { work.old.lines ≡ [] }
         ensures begun { IfOk result (λ ls. IsBegun terms.now assumed.now 0 self.old self.new self.new.noted ls.items work.old work.new) }
+        ensures keeps { OnOk result (KeepsClauses self.old self.new) }
         ensures stopped { IfErr result (λ e. (levels : List Level) (q : Task) → MaySearch terms.now levels assumed.now q work.old self.old → EndsWith terms.now q work.new e) }
         ensures plain { (levels : List Level) (q : Task) → MaySearch terms.now levels assumed.now q work.old self.old → IsPlain q (search_after terms.now work.old) (search_after terms.now work.new) }
         ensures works { Works terms.now work.old work.new }
@@ -125,6 +129,7 @@ impl Prepared {
         requires may { (levels : List Level) × (q : Task) × MaySearch terms.now levels assumed.now q work.old self.old }
         requires some { work.old.lines ≡ [] → ⊥ }
         ensures begun { IfOk result (λ ls. IsBegun terms.now assumed.now (length self.old.noted) self.old self.new self.new.noted ls.items work.old work.new) }
+        ensures keeps { OnOk result (KeepsClauses self.old self.new) }
         ensures stopped { IfErr result (λ e. (levels : List Level) (q : Task) → MaySearch terms.now levels assumed.now q work.old self.old → EndsWith terms.now q work.new e) }
         ensures plain { (levels : List Level) (q : Task) → MaySearch terms.now levels assumed.now q work.old self.old → IsPlain q (search_after terms.now work.old) (search_after terms.now work.new) }
         ensures works { Works terms.now work.old work.new }
@@ -158,6 +163,7 @@ impl Prepared {
         requires first { first ≤ length self.old.noted }
         requires named { MayBeNamed terms.now self.old (take first self.old.noted) }
         ensures ready { IfOk result (λ ls. IsReady terms.now assumed.now first self.old self.new self.new.noted ls.items) }
+        ensures keeps { KeepsClauses self.old self.new }
         ensures theory { self.new.sat.theory ≡ self.old.sat.theory }
     {
         search_laws();

@@ -2,6 +2,7 @@
 ghost use Rattle.std.specs.Prelude.{◌≡◌, ℕ, List};
 ghost use Rattle.nz_spec.specs.terms.Table.{Node};
 ghost use Rattle.nz_search.specs.Levels.{Level};
+ghost use Rattle.nz_engine.specs.Keeping.{KeepsClauses};
 ghost use Rattle.nz_engine.specs.Preparing.{IsPrepared};
 
 use super::Prepared;
@@ -19,6 +20,7 @@ impl Prepared {
     /// Forgets the older half of the learned clauses, but for those that serve most, where they outnumber the others many times. Takes no memory.
     pub fn shed(&mut self)
         ensures stands { (ns : List Node) (levels : List Level) (roots : List (List ℕ)) → IsPrepared ns levels roots self.old → IsPrepared ns levels roots self.new }
+        ensures keeps { KeepsClauses self.old self.new }
         ensures rest { self.new ≡ record self.old { sat = self.new.sat } }
         ensures theory { self.new.sat.theory ≡ self.old.sat.theory }
     {

@@ -17,6 +17,7 @@ use Rattle.nz_engine.specs.Lists.{MayGoOnFrom}
 use Rattle.nz_engine.proofs.AtomNotes.{stopped_lead}
 use Rattle.nz_engine.proofs.CheckEnds.{ends_stop, legal_at, model_stop, none_spent, root_stop, root_unspent, same_error, spent_of, stop_within}
 use Rattle.nz_engine.proofs.RefutedAssumptions.{dead_end}
+use Rattle.nz_engine.proofs.KeptClauses.{retains_then}
 use Rattle.nz_engine.proofs.KeptTheory.{lead_from, none_more, on_spent_all, on_wide_all, one_more, readied_after, works_from}
 use Rattle.nz_engine.proofs.ToldEnough.{told_enough}
 use Rattle.nz_engine.proofs.check.decide.Goals as goal
@@ -148,6 +149,9 @@ returns-in-Some-clause-answer c =
 pub returns-in-Some-clause-parts : goal.returns-in-Some-clause-parts
 returns-in-Some-clause-parts c = c.in_ok-refuted.ensures.parts c.args.levels.now (c.in_ok-prepared.ensures.may c.requires.from.0 c.requires.from.1).0.posed
 
+pub returns-in-Some-clause-keeps : goal.returns-in-Some-clause-keeps
+returns-in-Some-clause-keeps c = retains_then c.in_ok-prepared.ensures.keeps c.in_ok-refuted.ensures.keeps
+
 pub returns-in-Some-clause-readied : goal.returns-in-Some-clause-readied
 returns-in-Some-clause-readied c =
     let levels = c.args.levels.now in
@@ -189,6 +193,9 @@ returns-in-Ok-clause-answer c =
 
 pub returns-in-Ok-clause-parts : goal.returns-in-Ok-clause-parts
 returns-in-Ok-clause-parts c = c.in_ok-refuted.ensures.parts c.args.levels.now (c.in_ok-prepared.ensures.may c.requires.from.0 c.requires.from.1).0.posed
+
+pub returns-in-Ok-clause-keeps : goal.returns-in-Ok-clause-keeps
+returns-in-Ok-clause-keeps c = retains_then c.in_ok-prepared.ensures.keeps c.in_ok-refuted.ensures.keeps
 
 pub returns-in-Ok-clause-readied : goal.returns-in-Ok-clause-readied
 returns-in-Ok-clause-readied c =

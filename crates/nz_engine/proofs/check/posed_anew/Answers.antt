@@ -9,6 +9,7 @@ use Rattle.nz_reals.specs.State.{Theory}
 use Rattle.nz_search.specs.Levels.{added_by_level}
 use Rattle.nz_engine.specs.Checking.{IsRootStop, terms_named}
 use Rattle.nz_engine.specs.Engines.{theory_of}
+use Rattle.nz_engine.proofs.KeptClauses.{lowered_then}
 use Rattle.nz_engine.proofs.KeptState.{kept_rest, over_grown}
 use Rattle.nz_engine.proofs.KeptTheory.{all_extends}
 use Rattle.nz_engine.proofs.CheckEnds.{root_more, same_error}
@@ -73,3 +74,6 @@ assume-requires-clause-stands c = ([], standing c.args.terms.now c.args.levels.n
 pub returns-clause-among : goal.returns-clause-among
 returns-clause-among c = λ ts listed.
     covered_by c.args.terms.now c.args.levels.now c.args.assumed.now c.add_terms.new.self c.assume.new.self ts listed (prepared_among c.args.assumed.now c.in_ok-add_terms.ensures.stands ts listed) c.in_ok-assume.ensures.made
+
+pub returns-clause-keeps : goal.returns-clause-keeps
+returns-clause-keeps c = lowered_then (lowered_then c.in_ok-prepared.ensures.keeps c.in_ok-add_terms.ensures.keeps) c.in_ok-assume.ensures.keeps

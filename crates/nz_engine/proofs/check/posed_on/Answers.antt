@@ -1,5 +1,5 @@
 -- What is assumed is covered beside what was.
-use Rattle.std.proofs.Common.{◌≡◌, ◌⊎◌, ℕ, ◌<◌, ◌++◌, IfErr, length, sym, subst}
+use Rattle.std.proofs.Common.{◌⊎◌, ℕ, ◌<◌, ◌++◌, IfErr, length, sym, subst}
 use Rattle.std.proofs.lemmas.List.Elements.{All-from_recursion, All-map, Contains-append_right}
 use Rattle.nz_spec.specs.search.Decide.{asserted_numbers}
 use Rattle.nz_spec.specs.terms.Taken.{IsTakenBoolean}
@@ -10,6 +10,7 @@ use Rattle.nz_reals.specs.State.{Theory}
 use Rattle.nz_search.specs.Levels.{added_by_level}
 use Rattle.nz_engine.specs.Checking.{IsRootStop, terms_named}
 use Rattle.nz_engine.specs.Engines.{prepared_of}
+use Rattle.nz_engine.specs.Keeping.{KeepsClauses}
 use Rattle.nz_engine.specs.Preparing.{Extends, IsAllAdded, IsMadeOf, PreparedState}
 use Rattle.nz_cform.specs.Forms.{covered_at}
 use Rattle.std.specs.Prelude.{IsSome}
@@ -67,3 +68,6 @@ returns-in_err-assume-clause-stop c =
     let named = terms_named c.args.assumed.now in
     subst (λ r. IfErr r (IsRootStop ns (added ++ named))) same
     (root_more ns named (added ++ named) c.in_err-assume.field-0.0 (λ r has. Contains-append_right added named r has) c.in_err-assume.ensures.stop)
+
+pub returns-clause-keeps : goal.returns-clause-keeps
+returns-clause-keeps c = subst (λ (p : PreparedState). KeepsClauses p c.assume.new.self) c.in_ok-prepared.ensures.same c.in_ok-assume.ensures.keeps

@@ -9,6 +9,7 @@ use Rattle.nz_term.specs.declared.term_lits.TermLit.{TermLit}
 use Rattle.nz_cform.specs.Forms.{covered_at}
 use Rattle.nz_engine.specs.Checking.{AreCovered, IsRootStop, terms_named}
 use Rattle.nz_engine.proofs.AssumptionLevels.{extends_both, extends_itself, made_then, standing_more}
+use Rattle.nz_engine.proofs.KeptClauses.{keeps_both, keeps_itself}
 use Rattle.nz_engine.proofs.NamedTerms.{all_named}
 use Rattle.nz_engine.proofs.CheckEnds.{root_of}
 use Rattle.nz_engine.proofs.prepared.Prepared.assume.Goals as goal
@@ -24,6 +25,7 @@ loop-literal-init c =
       covered = λ k d below. absurd (omega (arith, below));
       made = λ t some. inl some;
       extends = extends_itself c.args.self.now;
+      keeps = keeps_itself c.args.self.now;
     }
 
 pub assume_term-requires-clause-within : goal.assume_term-requires-clause-within
@@ -62,6 +64,7 @@ loop-literal-preserved c =
           (All-weaker (λ (m : TermLit). IsSome (covered_at c.loop-literal.self.form m.term)) P (λ m some. did.extends.covered m.term some) (take k assumed) before.covered) did.covered);
       made = λ t some. made_then ns assumed l.term has t (IsSome (covered_at c.args.self.now.form t)) (IsSome (covered_at c.loop-literal.self.form t)) (before.made t) (did.made t some);
       extends = extends_both c.args.self.now c.loop-literal.self c.assume_term.new.self before.extends did.extends;
+      keeps = keeps_both before.keeps did.keeps;
     }
 
 pub returns-clause-stands : goal.returns-clause-stands

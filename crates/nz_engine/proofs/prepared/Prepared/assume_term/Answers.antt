@@ -1,10 +1,13 @@
-use Rattle.std.proofs.Common.{◌⊎◌, ℕ, true, List, [], ◌∷◌, OnOk, subst}
+use Rattle.std.proofs.Common.{◌⊎◌, ℕ, true, List, [], ◌∷◌, OnOk, map, subst}
 use Rattle.std.specs.Prelude.{IsSome}
 use Rattle.std.proofs.lemmas.Result.{on_ok_weaker}
 use Rattle.nz_cform.specs.Forms.{covered_at}
 use Rattle.nz_search.specs.Levels.{Level}
+use Rattle.nz_sat.specs.Sats.{held_of}
+use Rattle.nz_engine.specs.Keeping.{KeepsClauses}
 use Rattle.nz_engine.specs.Preparing.{PreparedState, Extends, IsAssumable, IsMadeOf, IsStanding}
 use Rattle.nz_engine.proofs.AssumptionLevels.{also_extends, also_from, also_made, extends_itself, term_assumed}
+use Rattle.nz_engine.proofs.KeptClauses.{keeps_itself, keeps_joined}
 use Rattle.nz_engine.proofs.prepared.Prepared.assume_term.Goals as goal
 
 pub returns-clause-stands : goal.returns-clause-stands
@@ -38,5 +41,13 @@ returns-clause-made c =
     (on_ok_weaker c.cover.result
     (λ also. also_made ns own c.cover.new.self t c.args.level c.requires.within (also_from ns own c.cover.new.self true t c.args.level also)) c.cover.ensures.covered)
 
+pub returns-clause-keeps : goal.returns-clause-keeps
+returns-clause-keeps c =
+    subst (λ (s : PreparedState). OnOk c.cover.result (KeepsClauses s c.cover.new.self)) c.self.view_is
+    (on_ok_weaker c.cover.result (λ also. keeps_joined also.kept (map (held_of c.cover.new.self.log) also.ids) also.joined) c.cover.ensures.covered)
+
 pub returns-then-is_covered-clause-extends : goal.returns-then-is_covered-clause-extends
 returns-then-is_covered-clause-extends c = extends_itself c.args.self.now
+
+pub returns-then-is_covered-clause-keeps : goal.returns-then-is_covered-clause-keeps
+returns-then-is_covered-clause-keeps c = keeps_itself c.args.self.now

@@ -8,10 +8,12 @@ use Rattle.nz_search.specs.Standing.{search_after}
 use Rattle.nz_search.specs.declared.note.Note.{Note}
 use Rattle.nz_search.specs.Levels.{Level}
 use Rattle.nz_engine.specs.Checking.{AreLearnable, BeginsAnew, EndsWith, MaySearch, IsPlain, Works}
+use Rattle.nz_engine.specs.Keeping.{KeepsClauses}
 use Rattle.nz_engine.specs.Preparing.{Excludes, PreparedState}
 use Rattle.nz_engine.proofs.CheckEnds.{first_none, lead_none, plain_none}
 use Rattle.nz_engine.proofs.SearchEntry.{begun_search, lead_anew, learnable, plain_anew, plain_gone, stops_anew, works_anew, works_gone}
 use Rattle.nz_engine.proofs.ExclusionClauses.{prepared_in}
+use Rattle.nz_engine.proofs.KeptClauses.{keeps_both, keeps_excluded}
 use Rattle.nz_engine.proofs.SearchAtoms.{ready_as}
 use Rattle.nz_engine.proofs.SeenClauses.{since_same}
 use Rattle.nz_engine.proofs.prepared.Prepared.begin_list.Goals as goal
@@ -183,3 +185,8 @@ returns-clause-works c =
     let after = c.begin_anew.new.work in
     let begins = subst (λ (is : List ℕ). BeginsAnew p.log.atoms is p.sat.theory sat.theory c.args.work.now after (Ok tt)) c.deref.ensures.value c.in_ok-begin_anew.ensures.begins in
     works_gone c.search_laws.ensures.laws p r theory sat c.args.work.now c.go_under.new.work c.requires.no_steps after (Ok tt) begins c.in_ok-go_under.ensures.under
+
+pub returns-clause-keeps : goal.returns-clause-keeps
+returns-clause-keeps c =
+    let ready = subst (KeepsClauses c.args.self.now) (sym c.self.view_is) c.ready.ensures.keeps in
+    keeps_both ready (keeps_excluded c.begin_anew.new.sat c.deref-2.result.now c.begin_anew.ensures.clauses c.in_ok-exclude.ensures.excludes)

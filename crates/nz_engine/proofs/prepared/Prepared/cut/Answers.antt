@@ -1,5 +1,5 @@
 -- What is left is as the definitions of a cut say, also where no bound went.
-use Rattle.std.proofs.Common.{◌≡◌, ℕ, ◌<◌, ◌≤◌, false, length, List, refl, sym, subst, ◌∙◌}
+use Rattle.std.proofs.Common.{ℕ, ◌<◌, ◌≤◌, false, length, List, refl, sym, subst, ◌∙◌}
 use Rattle.std.specs.Prelude.{All, Contains, IsSome}
 use Rattle.nz_log.specs.declared.lits.Lit.{Lit}
 use Rattle.nz_log.specs.Logs.{IsLive, literals_at}

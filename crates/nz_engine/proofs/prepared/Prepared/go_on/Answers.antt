@@ -9,8 +9,10 @@ use Rattle.nz_search.specs.Standing.{search_after}
 use Rattle.nz_reals.specs.Stands.{IsOf}
 use Rattle.nz_search.specs.Levels.{Level}
 use Rattle.nz_engine.specs.Checking.{AreLearnable, EndsWith, IsPlain, LearnsMore, MayBeNamed, MaySearch, Works}
+use Rattle.nz_engine.specs.Keeping.{KeepsClauses}
 use Rattle.nz_engine.specs.Preparing.{Excludes, PreparedState}
 use Rattle.nz_engine.proofs.ExclusionClauses.{prepared_in}
+use Rattle.nz_engine.proofs.KeptClauses.{keeps_both, keeps_excluded}
 use Rattle.nz_engine.proofs.LaterSearches.{begun_later, front_known, lead_more, plain_more, ready_first, stops_more, way_lead, way_named, way_of, way_plain, way_works, works_more}
 use Rattle.nz_engine.proofs.SearchAtoms.{ready_as}
 use Rattle.nz_engine.proofs.SearchEntry.{learnable}
@@ -248,3 +250,8 @@ returns-clause-begun c =
     let learns = subst (λ (n : ℕ). LearnsMore p.log.atoms p.noted n t c.learn_on.new.sat.theory c.go_under.new.work c.learn_on.new.work (Ok tt)) first told in
     let excludes = subst (λ (is : List ℕ). Excludes p.log c.learn_on.new.sat is c.exclude.new.log c.exclude.new.sat) c.deref-2.ensures.value c.in_ok-exclude.ensures.excludes in
     begun_later c.search_laws.ensures.laws p r theory before c.requires.some t c.untell.ensures.untold c.untell.ensures.over c.untell.ensures.of c.untell.ensures.at c.go_under.new.work c.in_ok-go_under.ensures.under c.learn_on.new.sat c.learn_on.new.work learns (c.learn_on.ensures.clauses ∙ c.untell.ensures.clauses) (c.learn_on.ensures.seen ∙ c.untell.ensures.seen) c.exclude.new.log c.exclude.new.sat excludes c.requires.may
+
+pub returns-clause-keeps : goal.returns-clause-keeps
+returns-clause-keeps c =
+    let ready = subst (KeepsClauses c.args.self.now) (sym c.self-2.view_is) c.ready.ensures.keeps in
+    keeps_both ready (keeps_excluded c.learn_on.new.sat c.deref-2.result.now (c.learn_on.ensures.clauses ∙ c.untell.ensures.clauses) c.in_ok-exclude.ensures.excludes)

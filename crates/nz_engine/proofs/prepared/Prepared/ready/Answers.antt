@@ -2,6 +2,7 @@
 use Rattle.std.proofs.Common.{◌≡◌, ◌++◌, ℕ, List, take, ap}
 use Rattle.nz_engine.specs.Checking.{AreHanded, IsReady}
 use Rattle.nz_engine.specs.Preparing.{PreparedState}
+use Rattle.nz_engine.proofs.KeptClauses.{keeps_named}
 use Rattle.nz_engine.proofs.SearchAtoms.{both_ok, ready_named}
 use Rattle.nz_engine.proofs.prepared.Prepared.ready.Goals as goal
 
@@ -19,5 +20,6 @@ returns c =
           (λ ls handed behind.
           ready_named c.search_laws.ensures.laws c.logs_stay.ensures.stay c.logs_stay_leveled.ensures.stay c.args.first old c.named.ensures.rest c.named.ensures.joins c.named.ensures.all behind handed c.requires.posed)
           c.named.ensures.handed c.named.ensures.behind;
+      keeps = keeps_named c.named.ensures.joins c.named.ensures.rest;
       theory = ap (λ (s : PreparedState). s.sat.theory) c.named.ensures.rest;
     }

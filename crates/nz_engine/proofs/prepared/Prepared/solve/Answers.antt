@@ -1,5 +1,6 @@
 -- All is done that comes before a search, and then it runs.
-use Rattle.std.proofs.Common.{rules, ◌≡◌, List, map, Err, IfErr, ap, subst, ◌∙◌}
+use Rattle.std.proofs.Common.{rules, ◌≡◌, List, map, Err, IfErr, sym, ap, subst, ◌∙◌}
+use Rattle.nz_lists.proofs.Results.{on_ok}
 use Rattle.nz_spec.specs.search.Search.{Task}
 use Rattle.nz_search.specs.declared.stop.Stop.{Stop}
 use Rattle.nz_search.specs.Standing.{search_after}
@@ -7,8 +8,10 @@ use Rattle.nz_search.specs.Verdicts.{OnSpent}
 use Rattle.nz_term.specs.TermLits.{literal_of}
 use Rattle.nz_search.specs.Levels.{Level}
 use Rattle.nz_engine.specs.Checking.{EndsWith, MaySearch}
+use Rattle.nz_engine.specs.Keeping.{KeepsClauses}
 use Rattle.nz_engine.specs.Preparing.{PreparedState}
 use Rattle.nz_engine.proofs.CheckEnds.{none_spent, works_solved}
+use Rattle.nz_engine.proofs.KeptClauses.{keeps_both, keeps_joined}
 use Rattle.nz_engine.proofs.SearchRuns.{begun_as, search_begun, search_consistent, search_excluded, search_found, search_named, search_parts, search_plain, search_posed, search_refuted, search_since, search_stopped, search_told, search_told_terms, search_under, search_under_way}
 use Rattle.nz_engine.proofs.prepared.Prepared.solve.Goals as goal
 
@@ -104,3 +107,9 @@ pub returns-clause-excluded : goal.returns-clause-excluded
 returns-clause-excluded c =
     let b = begun_as c.self.view_is (c.deref.ensures.value ∙ ap (λ (s : PreparedState). s.noted) c.self.view_is) c.deref-2.ensures.value c.in_ok-literals.ensures.begun.1 in
     search_excluded b c.solve.new.log c.solve.new.self c.solve.new.work c.solve.result c.solve.ensures.grows c.solve.ensures.held
+
+pub returns-clause-keeps : goal.returns-clause-keeps
+returns-clause-keeps c =
+    let begun = subst (KeepsClauses c.args.self.now) (sym c.self.view_is) c.in_ok-literals.ensures.keeps in
+    let did = c.solve.ensures in
+    on_ok c.solve.result (keeps_both begun (keeps_joined (record { clauses = did.grows.kept; atoms = did.grows.atoms }) did.held.learned did.held.joined))

@@ -1,9 +1,8 @@
 -- One literal more is looked at.
-use Rattle.std.proofs.Common.{◌≡◌, length, take, subst, sym}
-use Rattle.std.specs.Prelude.{All, List}
+use Rattle.std.proofs.Common.{subst, sym}
+use Rattle.std.specs.Prelude.{All}
 use Rattle.std.proofs.lemmas.List.{take_all}
 use Rattle.std.proofs.lemmas.List.Elements.{All-more}
-use Rattle.nz_log.specs.declared.lits.Lit.{Lit}
 use Rattle.nz_engine.specs.Preparing.{IsListedIn}
 use Rattle.nz_engine.proofs.prepared.listed.has_listed_bounds.Goals as goal
 

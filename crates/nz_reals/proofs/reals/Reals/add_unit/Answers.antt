@@ -22,7 +22,7 @@ invariant_of-self c =
     let may : MayAddSum old (unit_of p) = subst (λ (t : Theory). MayAddSum t (unit_of p)) (sym c.self.view_is) c.requires.may in
     let is = unit_is c.one_number.ensures.one may.table may.over.table p c.in_ok-form.form c.whole.result c.whole.ensures may.units c.in_ok-form.ensures.form c.in_ok-form.ensures.units in
     let joined : IsJoined old.simplex new.simplex (unit_of p) c.in-Ok.var = subst (λ (f : List Part). IsJoined old.simplex new.simplex f c.in-Ok.var) is c.in-Ok.ensures.joined in
-    stored_alone old new p c.in-Ok.var may joined (λ i. old.known) (λ i. old.told) (get are_same_atom c.self.inside.forms) c.self.invariant
+    (stored_alone old new p c.in-Ok.var may joined (λ i. old.known) (λ i. old.told) (get are_same_atom c.self.inside.forms) c.self.invariant.0, λ known. absurd cc)
 
 pub returns-in-Ok : goal.returns-in-Ok
 returns-in-Ok c =

@@ -24,16 +24,18 @@ invariant_of-self-2 c =
     let free : IsFree old f = subst (λ (t : Theory). IsFree t f) (sym c.self.view_is) c.requires.free in
     let u = subst (λ r. OnOk r (Updates are_same_atom c.reserve.new.self c.insert.new.self (AtMost c.args.sum) (Some c.in-Ok.var))) c.unwrap.ensures c.insert.ensures.updates in
     let same : (a : Atom) → get are_same_atom c.reserve.new.self a ≡ get are_same_atom c.self.inside.forms a = λ a. rw c.in_ok-reserve.ensures.entries in
-    let key : AtMost c.args.sum ≡ AtMost (zero_bound f) = ap AtMost c.requires.zero in
-    record {
-      forms = forms_then old new f c.in-Ok.var may joined c.self.invariant.forms free;
-      finds =
-          finds_then old new f c.in-Ok.var may joined (get are_same_atom c.self.inside.forms) (get are_same_atom c.insert.new.self) c.self.invariant.finds free c.one_number.ensures.one
-          (ap (get are_same_atom c.insert.new.self) (sym key) ∙ u.1)
-          (λ a other. u.2 a (key_apart (AtMost c.args.sum) a (λ e. other (sym e ∙ key))) ∙ same a)
-          (key_decided (AtMost (zero_bound f)));
-      tolds = tolds_then old new f c.in-Ok.var may joined (λ i. old.known) (λ i. old.told) c.self.invariant.tolds;
-    }
+    let key : AtMost c.args.sum ≡ AtMost (zero_bound f) = ap AtMost c.requires.zero in (
+      record {
+        forms = forms_then old new f c.in-Ok.var may joined c.self.invariant.0.forms free;
+        finds =
+            finds_then old new f c.in-Ok.var may joined (get are_same_atom c.self.inside.forms) (get are_same_atom c.insert.new.self) c.self.invariant.0.finds free c.one_number.ensures.one
+            (ap (get are_same_atom c.insert.new.self) (sym key) ∙ u.1)
+            (λ a other. u.2 a (key_apart (AtMost c.args.sum) a (λ e. other (sym e ∙ key))) ∙ same a)
+            (key_decided (AtMost (zero_bound f)));
+        tolds = tolds_then old new f c.in-Ok.var may joined (λ i. old.known) (λ i. old.told) c.self.invariant.0.tolds;
+      },
+      λ known. absurd cc,
+    )
 
 pub returns-clause-form : goal.returns-clause-form
 returns-clause-form c =

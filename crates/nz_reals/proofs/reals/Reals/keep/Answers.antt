@@ -11,13 +11,15 @@ invariant_of-self c =
     let old : Theory = record { simplex = c.self.inside.simplex; known = c.self.inside.bounded; told = c.self.inside.told.items } in
     let new : Theory = record { simplex = c.self.inside.simplex; known = c.put.new.self; told = c.self.inside.told.items } in
     let none : told_lits old ≡ [] = ap told_lits c.self.view_is ∙ c.requires.untold in
-    let less : c.args.bounded.var < length old.simplex.forms = subst (λ (t : Theory). c.args.bounded.var < length t.simplex.forms) (sym c.self.view_is) c.requires.form in
-    record {
-      forms = c.self.invariant.forms;
-      finds = c.self.invariant.finds;
-      tolds = kept_tolds old new (λ i. old.simplex) (λ i. old.told) none c.self.invariant.tolds
-          (known_cases c.args.id c.args.bounded c.self.inside.bounded c.put.new.self (length old.simplex.forms) less c.put.result c.put.ensures.put c.put.ensures.unchanged);
-    }
+    let less : c.args.bounded.var < length old.simplex.forms = subst (λ (t : Theory). c.args.bounded.var < length t.simplex.forms) (sym c.self.view_is) c.requires.form in (
+      record {
+        forms = c.self.invariant.0.forms;
+        finds = c.self.invariant.0.finds;
+        tolds = kept_tolds old new (λ i. old.simplex) (λ i. old.told) none c.self.invariant.0.tolds
+            (known_cases c.args.id c.args.bounded c.self.inside.bounded c.put.new.self (length old.simplex.forms) less c.put.result c.put.ensures.put c.put.ensures.unchanged);
+      },
+      c.self.invariant.1,
+    )
 
 pub returns-clause-kept : goal.returns-clause-kept
 returns-clause-kept c =

@@ -11,4 +11,4 @@ pub invariant_of-result : goal.invariant_of-result
 invariant_of-result c =
     let none : (a : Atom) → get are_same_atom c.new-2.result a ≡ None = λ a. search rules in
     let is : record { simplex = c.new.result; known = c.new-3.result; told = c.new-4.result.items } ≡ empty_theory = search rules in
-    subst (IsStored (get are_same_atom c.new-2.result)) (sym is) (stored_empty (get are_same_atom c.new-2.result) none)
+    (subst (IsStored (get are_same_atom c.new-2.result)) (sym is) (stored_empty (get are_same_atom c.new-2.result) none), λ known. absurd cc)

@@ -1,54 +1,66 @@
-use Rattle.std.proofs.Common.{sym, ◌∙◌, subst}
-use Rattle.std.specs.Prelude.{IfErr}
-use Rattle.nz_spec.specs.simplex.PositionMoves.{AreConsistent}
-use Rattle.nz_simplex.specs.State.{position_over}
-use Rattle.nz_reals.specs.Stands.{IsOver}
+use Rattle.std.proofs.Common.{rules, sym, subst}
+use Rattle.std.specs.HashMap.{get}
+use Rattle.nz_log.specs.Keys.{are_same_atom}
+use Rattle.nz_simplex.specs.State.{IsSound}
 use Rattle.nz_reals.specs.State.{Theory}
+use Rattle.nz_reals.specs.Stored.{IsStored}
 use Rattle.nz_reals.specs.Tells.{IsMoved}
-use Rattle.nz_reals.proofs.WidePlaces.{Wants, noted_joined, place_in, spent_answer, stop_answer}
+use Rattle.nz_reals.proofs.Tolds.{stored_moved}
+use Rattle.nz_reals.proofs.WidePlaces.{place_in, stepped_moved, still_moved, stop_answer}
 use Rattle.nz_reals.proofs.reals.Reals.seek.Goals as goal
-use Rattle.nz_reals.proofs.reals.Reals.seek.Goals.{in-Ok-Feasible, in-Ok-Clash, in-Err-Spent, in-Err-Wide}
-use Rattle.nz_reals.proofs.WidePlaces.{Placed}
-use Rattle.nz_search.specs.Places.{OnWide}
+use Rattle.nz_reals.proofs.reals.Reals.seek.Goals.{After-check}
 
-pub returns-clause-moved : goal.returns-clause-moved
-returns-clause-moved c =
-    let s = c.check.ensures.steps in
-    let old : Theory = record { simplex = c.self.inside.simplex; known = c.self.inside.bounded; told = c.self.inside.told.items } in
-    let new : Theory = record { simplex = c.check.new.self; known = c.self.inside.bounded; told = c.self.inside.told.items } in
-    let moved : IsMoved old new c.args.work.now c.check.new.work = record {
-      known = λ i. old.known;
-      told = λ i. old.told;
-      forms = s.forms;
-      asserted = s.asserted;
-      consistent = λ ns over.
-          subst (λ (t : Theory). AreConsistent (position_over ns t.simplex)) (sym c.self.view_is)
-          (c.stored.ensures.sound.ready ns (subst (λ (t : Theory). IsOver t ns) c.self.view_is over)).consistent;
-      adds = record { pivots = s.pivots; joined = s.noted ∙ noted_joined c.args.work.now s.pivots };
-      lead = s.lead;
-    } in
-    subst (λ (t : Theory). IsMoved t new c.args.work.now c.check.new.work) c.self.view_is moved
+abbrev before : After-check → Theory
+before c = record { simplex = c.self.inside.simplex; known = c.self.inside.bounded; told = c.self.inside.told.items }
 
-pub returns-clause-place : goal.returns-clause-place
-returns-clause-place c = λ ns over.
-    elim c.match-check.branch [
-      | in-Ok-Feasible w ↦ subst (λ r. IfErr r (λ e. OnWide e (Placed ns c.check.new.self))) (sym w.result-is) tt
-      | in-Ok-Clash w ↦ subst (λ r. IfErr r (λ e. OnWide e (Placed ns c.check.new.self))) (sym w.result-is) tt
-      | in-Err-Spent w ↦ subst (λ r. IfErr r (λ e. OnWide e (Placed ns c.check.new.self))) (sym w.result-is) tt
-      | in-Err-Wide w ↦
-          let place = w.in-Err-Wide.place in
-          let is = stop_answer ns c.check.new.self _ w.in-Err-Wide.field-0 place (w.in-Err-Wide.ensures.answer ns over) w.in-Err-Wide.field-0-is in
-          subst (λ r. IfErr r (λ e. OnWide e (Placed ns c.check.new.self))) (sym w.result-is)
-          (place_in ns c.check.new.self w.known_state.ensures.sound over place is)
-    ]
+abbrev after : After-check → Theory
+after c = record (before c) { simplex = c.check.new.self }
 
-pub returns-clause-wanted : goal.returns-clause-wanted
-returns-clause-wanted c = λ ns over.
-    elim c.match-check.branch [
-      | in-Ok-Feasible w ↦ subst (Wants ns c.check.new.self) (sym w.result-is) tt
-      | in-Ok-Clash w ↦ subst (Wants ns c.check.new.self) (sym w.result-is) tt
-      | in-Err-Spent w ↦
-          let may = spent_answer ns c.check.new.self _ w.in-Err-Spent.field-0 (w.in-Err-Spent.ensures.answer ns over) w.in-Err-Spent.field-0-is in
-          subst (Wants ns c.check.new.self) (sym w.result-is) (λ e. may)
-      | in-Err-Wide w ↦ subst (Wants ns c.check.new.self) (sym w.result-is) (λ e. absurd cc)
-    ]
+stored : (c : After-check) → IsStored (get are_same_atom c.self.inside.forms) (after c)
+stored c = stored_moved (get are_same_atom c.self.inside.forms) (before c) c.check.new.self c.check.ensures.steps.forms c.check.ensures.steps.asserted c.self.invariant.0
+
+moved : (c : After-check) → IsMoved c.args.self.now (after c) c.args.work.now c.check.new.work
+moved c =
+    let sound = subst (λ (t : Theory). IsSound t.simplex) (sym c.self.view_is) c.stored.ensures.sound in
+    subst (λ (t : Theory). IsMoved t (after c) c.args.work.now c.check.new.work) c.self.view_is
+    (stepped_moved (before c) c.check.new.self c.args.work.now c.check.new.work sound c.check.ensures.steps)
+
+-- ---- Where it is known to be feasible
+
+pub returns-then-self-clause-moved : goal.returns-then-self-clause-moved
+returns-then-self-clause-moved c = still_moved c.args.self.now c.args.work.now c.stored.ensures.sound
+
+-- ---- Where it is looked for
+
+pub invariant_of-self : goal.invariant_of-self
+invariant_of-self c = (
+  stored (goal.at.invariant_of-self c).After-check,
+  λ known ns over. search (rules, c.in-Ok-Feasible.ensures.answer ns over),
+)
+
+pub invariant_of-self-in-Ok-Clash : goal.invariant_of-self-in-Ok-Clash
+invariant_of-self-in-Ok-Clash c = (stored (goal.at.invariant_of-self-in-Ok-Clash c).After-check, λ known. let unknown = c.if-self.false in absurd cc)
+
+pub invariant_of-self-in-Err-Spent : goal.invariant_of-self-in-Err-Spent
+invariant_of-self-in-Err-Spent c = (stored (goal.at.invariant_of-self-in-Err-Spent c).After-check, λ known. let unknown = c.if-self.false in absurd cc)
+
+pub invariant_of-self-in-Err-Wide : goal.invariant_of-self-in-Err-Wide
+invariant_of-self-in-Err-Wide c = (stored (goal.at.invariant_of-self-in-Err-Wide c).After-check, λ known. let unknown = c.if-self.false in absurd cc)
+
+pub returns-in-Ok-Feasible-clause-moved : goal.returns-in-Ok-Feasible-clause-moved
+returns-in-Ok-Feasible-clause-moved c = moved (goal.at.returns-in-Ok-Feasible-clause-moved c).After-check
+
+pub returns-in-Ok-Clash-clause-moved : goal.returns-in-Ok-Clash-clause-moved
+returns-in-Ok-Clash-clause-moved c = moved (goal.at.returns-in-Ok-Clash-clause-moved c).After-check
+
+pub returns-in-Err-Spent-clause-moved : goal.returns-in-Err-Spent-clause-moved
+returns-in-Err-Spent-clause-moved c = moved (goal.at.returns-in-Err-Spent-clause-moved c).After-check
+
+pub returns-in-Err-Wide-clause-moved : goal.returns-in-Err-Wide-clause-moved
+returns-in-Err-Wide-clause-moved c = moved (goal.at.returns-in-Err-Wide-clause-moved c).After-check
+
+pub returns-in-Err-Wide-clause-place : goal.returns-in-Err-Wide-clause-place
+returns-in-Err-Wide-clause-place c = λ ns over.
+    let place = c.in-Err-Wide.place in
+    let is = stop_answer ns c.check.new.self _ c.in-Err-Wide.field-0 place (c.in-Err-Wide.ensures.answer ns over) c.in-Err-Wide.field-0-is in
+    place_in ns c.check.new.self c.known_state.ensures.sound over place is

@@ -7,6 +7,7 @@ use Rattle.nz_reals.specs.declared.reals.MarkedLiteral.{MarkedLiteral}
 use Rattle.nz_simplex.specs.State.{State}
 use Rattle.nz_reals.specs.Stands.{IsAt, IsOf}
 use Rattle.nz_reals.specs.State.{Theory, told_lits}
+use Rattle.nz_reals.proofs.FewerBounds.{feasible_undone}
 use Rattle.nz_reals.proofs.KnownAtoms.{of_kept, told_then}
 use Rattle.nz_reals.proofs.TheoryPositions.{undone_at}
 use Rattle.nz_reals.proofs.Tolds.{IsUndone, stored_undone}
@@ -27,7 +28,10 @@ undone c =
     record { at = at; known = λ i. (before c).known; told = c.truncate.ensures.items; simplex = c.undo.ensures.front }
 
 pub invariant_of-self : goal.invariant_of-self
-invariant_of-self c = stored_undone (get are_same_atom c.self.inside.forms) (before c) (after c) c.args.mark c.in-Some.first.now c.self.invariant (undone c)
+invariant_of-self c = (
+  stored_undone (get are_same_atom c.self.inside.forms) (before c) (after c) c.args.mark c.in-Some.first.now c.self.invariant.0 (undone c),
+  λ known. feasible_undone c.infinitesimals_are_ordered.ensures.ordered (before c) (after c) c.args.mark c.in-Some.first.now (undone c) (c.self.invariant.1 known),
+)
 
 pub returns-in-Some-clause-told : goal.returns-in-Some-clause-told
 returns-in-Some-clause-told c = λ ls told less.
@@ -41,4 +45,4 @@ returns-in-Some-clause-of c = λ atoms ids of.
 
 pub returns-in-Some-clause-at : goal.returns-in-Some-clause-at
 returns-in-Some-clause-at c = λ ns fs ls x at less.
-    undone_at (before c) (after c) c.args.mark c.in-Some.first.now c.self.invariant.tolds (undone c) ns fs ls x (subst (λ (t : Theory). IsAt t ns fs ls x) (sym c.self.view_is) at)
+    undone_at (before c) (after c) c.args.mark c.in-Some.first.now c.self.invariant.0.tolds (undone c) ns fs ls x (subst (λ (t : Theory). IsAt t ns fs ls x) (sym c.self.view_is) at)
