@@ -109,7 +109,7 @@ none_more s i none some =
 -- ---- Some are taken off
 
 -- a level that is left was there
-below_was : (level : ℕ) (o : Option ℕ) → IsSome (told_below level o) → IsSome o
+pub below_was : (level : ℕ) (o : Option ℕ) → IsSome (told_below level o) → IsSome o
 below_was level None h = h
 below_was level (Some n) h = refl
 

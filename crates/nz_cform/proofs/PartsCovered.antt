@@ -54,10 +54,10 @@ module _ (node : TermOfNode) (ns : List Node) (table : IsTable ns) where
   -- ---- The node of a term
 
   module _ (t : ℕ) (inside : t < length ns) where
-    abbrev the_node : Node
+    abbrev pub the_node : Node
     the_node = get_or ns t (record { head = falsum; kids = [] })
 
-    node_at : slice_get ns t ≡ Some the_node
+    pub node_at : slice_get ns t ≡ Some the_node
     node_at = slice_get-get_or ns t (record { head = falsum; kids = [] }) inside
 
     the_term : term_in ns t ≡ apply the_node.head (terms_at (term_in ns) the_node.kids)

@@ -66,13 +66,13 @@ over_begin f t (choice bool_sort) (c ∷ u ∷ v ∷ []) = (refl, (refl, (refl, 
 over_begin f t h ks = tt
 
 -- and of a node
-node_begins : (ns : List Node) (t : ℕ) (o : Option Node)
+pub node_begins : (ns : List Node) (t : ℕ) (o : Option Node)
     → AllByRecursion (Begins t) (elim o [ None ↦ [] | Some n ↦ clauses_over yes no (is_boolean_at ns) t n.head n.kids ])
 node_begins ns t None = tt
 node_begins ns t (Some n) = over_begin (is_boolean_at ns) t n.head n.kids
 
 -- and in the clause of a place
-begins_at : (t : ℕ) (cs : List (List TermLit)) (j : ℕ) → AllByRecursion (Begins t) cs → j < length cs → Begins t (unwrap_or (slice_get cs j) [])
+pub begins_at : (t : ℕ) (cs : List (List TermLit)) (j : ℕ) → AllByRecursion (Begins t) cs → j < length cs → Begins t (unwrap_or (slice_get cs j) [])
 begins_at t [] j h inside = absurd (omega arith)
 begins_at t (c ∷ cs) zero h inside = h.0
 begins_at t (c ∷ cs) (suc j) h inside = begins_at t cs j h.1 (omega arith)

@@ -2,4 +2,6 @@ pub mod Covering
 pub mod Forms
 pub mod Laws
 pub mod Listings
+pub mod Needs
+pub mod Splices
 pub mod Stops

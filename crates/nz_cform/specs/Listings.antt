@@ -1,7 +1,7 @@
 -- Numbers that are listed, each at a level, and how that changes.
-use Rattle.std.specs.Prelude.{◌≡◌, ◌≢◌, ◌↔◌, ℕ, ◌≤◌, List, [], ◌∷◌, ◌++◌, Option, Some, None, Contains, IsSome, IsSomeAnd, is_some, filter, slice_index_or}
+use Rattle.std.specs.Prelude.{◌≡◌, ◌≢◌, ◌↔◌, ℕ, ◌≤◌, List, [], ◌∷◌, ◌++◌, Option, Some, None, Contains, IsSome, IsSomeAnd, is_some, filter, slice_index_or, if◌then◌else◌}
 use Rattle.std.specs.List.{AllPairs}
-use Rattle.nz_log.specs.Logs.{told_below}
+use Rattle.nz_log.specs.Logs.{lowest, told_below}
 
 -- The numbers, the oldest first, and by number the level at which each is listed.
 pub record ListingState : Type 0 where
@@ -30,6 +30,12 @@ pub record IsListing (s : ListingState) : Type 0 where
 pub record Takes (old : ListingState) (i level : ℕ) (new : ListingState) : Type 0 where
   pub ids : new.ids ≡ old.ids ++ i ∷ []
   pub here : listed_at new i ≡ Some level
+  pub others : (k : ℕ) → k ≢ i → listed_at new k ≡ listed_at old k
+
+-- A number is listed at this level, or at the lower of this and its own where it was listed, in its place.
+pub record Lists (old : ListingState) (i level : ℕ) (new : ListingState) : Type 0 where
+  pub ids : new.ids ≡ (if is_some (listed_at old i) then old.ids else old.ids ++ i ∷ [])
+  pub here : listed_at new i ≡ Some (lowest (listed_at old i) level)
   pub others : (k : ℕ) → k ≢ i → listed_at new k ≡ listed_at old k
 
 -- What was listed stays so at its level, in its place, and what is listed besides is so at this level.

@@ -48,3 +48,7 @@ pub record IsStopIn (ns : List Node) (root : Term) (wide : frac.Wide) (term : �
 abbrev pub IsStopOf : lin.ArithmeticStop → ℕ → FormStop → Type 0
 IsStopOf (stops.Wide wide) term stop = (stop ≡ Wide wide term) × IsNumber wide.a × IsNumber wide.b
 IsStopOf stops.Memory term stop = stop ≡ Memory
+
+-- The operation is the first of a term's rows that leaves the numbers, in one of the two tables.
+abbrev pub IsRowStop : List Node → ℕ → frac.Wide → ℕ → Type 0
+IsRowStop ns t wide term = (table : RowTable) × IsFirstStop table ns t wide term

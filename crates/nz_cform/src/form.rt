@@ -1,5 +1,5 @@
 //! Which terms have their clauses in a log.
-ghost use Rattle.std.specs.Prelude.{◌≡◌, ◌≢◌, ◌↔◌, ℕ, ◌≤◌, ◌<◌, List, length, None, Contains, OnOk, IfErr, IfOk, IsSome, is_some};
+ghost use Rattle.std.specs.Prelude.{◌≡◌, ◌≢◌, ◌↔◌, ℕ, ◌≤◌, ◌<◌, List, length, None, Contains, OnOk, IfErr, IfOk, IsSome, is_some, unwrap_or};
 ghost use Rattle.std.specs.List.{AllPairs};
 ghost use Rattle.nz_spec.specs.terms.Order.{HasCompanions, listing_order};
 ghost use Rattle.nz_spec.specs.terms.Table.{term_in};
@@ -73,6 +73,13 @@ impl ClauseForm {
         ensures covered { result ≡ is_some (covered_at self.now term) }
     {
         self.terms.has(term)
+    }
+
+    /// The level of a covered term, 0 where it isn't covered.
+    pub fn level(&self, term: TermId) -> usize
+        ensures level { result ≡ unwrap_or (covered_at self.now term) 0 }
+    {
+        self.terms.level(term)
     }
 
     /// Whether a bound is listed, by the number of its atom.

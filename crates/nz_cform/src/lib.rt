@@ -7,9 +7,16 @@ mod companions;
 mod form;
 pub mod laws;
 mod listing;
+mod meanings;
+mod needs;
 mod rows;
+mod signed;
+mod splicing;
 mod stop;
+mod wanted;
 
 pub use companions::put_parts;
 pub use form::ClauseForm;
+pub use needs::Needs;
 pub use stop::FormStop;
+pub use wanted::Wanted;

@@ -1,8 +1,8 @@
 //! Numbers that are listed, each at a level.
-ghost use Rattle.std.specs.Prelude.{◌≡◌, ◌≢◌, ◌↔◌, ◌⊎◌, ℕ, ◌<◌, length, filter, None, Some, All, Contains, OnErr, OnOk, IsSome, is_some, slice_index_or};
+ghost use Rattle.std.specs.Prelude.{◌≡◌, ◌≢◌, ◌↔◌, ◌⊎◌, ℕ, ◌<◌, length, filter, None, Some, All, Contains, OnErr, OnOk, IsSome, is_some, slice_index_or, unwrap_or};
 ghost use Rattle.std.specs.List.{AllPairs};
 ghost use Rattle.nz_log.specs.Logs.{told_below};
-ghost use Rattle.nz_cform.specs.Listings.{Cuts, Takes, empty_listing, listed_at};
+ghost use Rattle.nz_cform.specs.Listings.{Cuts, Lists, Takes, empty_listing, listed_at};
 
 use nz_base::Memory;
 use std::alloc::Global;
@@ -64,6 +64,36 @@ impl Listing {
         set_level(&mut self.levels, id, level)?;
         self.ids.push(id)?;
         Ok(())
+    }
+
+    /// The level of a number, 0 where it isn't listed.
+    pub(crate) fn level(&self, id: usize) -> usize
+        ensures level { result ≡ unwrap_or (listed_at self.now id) 0 }
+    {
+        match self.levels.get(id) {
+            Some(Some(level)) => *level,
+            _ => 0,
+        }
+    }
+
+    /// Lists a number at a level, or at the lower one of two, where it is listed already.
+    pub(crate) fn list(&mut self, id: usize, level: usize) -> Result<(), Memory>
+        ensures listed { OnOk result (Lists self.old id level self.new) }
+        ensures unchanged { OnErr result (self.new ≡ self.old) }
+    {
+        if self.has(id) {
+            self.lower(id, level);
+            return Ok(());
+        }
+        self.put(id, level)
+    }
+
+    /// Lowers the level of a number that is listed, unless it is lower.
+    fn lower(&mut self, id: usize, level: usize)
+        requires listed { IsSome (listed_at self.old id) }
+        ensures lowered { Lists self.old id level self.new }
+    {
+        self.levels[id] = self.levels[id].map(|listed| listed.min(level));
     }
 
     /// Leaves just what is listed at or below the level. Takes no memory.

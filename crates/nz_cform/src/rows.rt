@@ -65,7 +65,7 @@ pub enum RowTable {
 }
 
 /// The rows of a term by a table.
-fn rows_by(
+pub(crate) fn rows_by(
     table: RowTable,
     alloc: Global,
     terms: &Terms,
@@ -83,7 +83,7 @@ fn rows_by(
 }
 
 /// Puts the clause of a row, of this number, of a term by a table into the log.
-fn put_row(
+pub(crate) fn put_row(
     log: &mut Log,
     terms: &Terms,
     term: TermId,

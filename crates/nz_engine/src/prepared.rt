@@ -20,10 +20,10 @@ mod values;
 use crate::levels::{Kind, Levels};
 use crate::prepared::listed::forget_unlisted;
 use nz_base::Memory;
-use nz_cform::ClauseForm;
+use nz_cform::{ClauseForm, Needs, Wanted};
 use nz_log::{AtomId, ClauseId, Log, Step};
 use nz_reals::Reals;
-use nz_sat::Sat;
+use nz_sat::{Demand, Sat};
 use std::alloc::Global;
 use std::marker::Model;
 use std::mem;
@@ -35,6 +35,7 @@ pub struct Prepared {
     alloc: Global,
     log: Log,
     form: ClauseForm,
+    needs: Needs,
     sat: Sat<Reals>,
     // How many assertions have their clause, in the order of the levels.
     given: usize,
@@ -63,6 +64,7 @@ impl Prepared {
             alloc,
             log: Log::new(alloc)?,
             form: ClauseForm::new(alloc),
+            needs: Needs::new(alloc),
             sat: Sat::new(alloc, theory),
             given: 0,
             numbered: 0,
@@ -91,15 +93,16 @@ impl Prepared {
         requires prepared { (ns : List Node) × (old : List Level) × (roots : List (List ℕ)) × IsPrepared ns old roots self.old }
         ensures cuts { CutsTo self.old level levels.now self.new }
     {
-        let count = self.form.bounds().len();
+        let count = self.needs.bounds().len();
         self.log.drop_above(level);
         self.form.cut(level);
+        self.needs.cut(level);
         self.sat.cut(level);
         self.given = levels.count_up_to(Kind::Asserted, self.given);
         self.numbered = levels.count_up_to(Kind::Number, self.numbered);
         self.above = false;
-        if self.form.bounds().len() < count {
-            forget_unlisted(&mut self.sat, &self.log, &self.form);
+        if self.needs.bounds().len() < count {
+            forget_unlisted(&mut self.sat, &self.log, &self.needs);
         }
     }
 
@@ -132,7 +135,19 @@ fn hold(sat: &mut Sat<Reals>, log: &Log, clauses: &[ClauseId]) -> Result<(), Mem
     ensures theory { sat.new.theory ≡ sat.old.theory }
 {
     for clause in clauses {
-        sat.add(log, *clause)?;
+        sat.add(log, *clause, Demand::Never)?;
+    }
+    Ok(())
+}
+
+/// Holds these clauses too, each with when it needs a true literal.
+fn hold_wanted(sat: &mut Sat<Reals>, log: &Log, wanted: &[Wanted]) -> Result<(), Memory> {
+    for one in wanted {
+        let need = match one.of {
+            Some(atom) => Demand::Of(atom),
+            None => Demand::Always,
+        };
+        sat.add(log, one.clause, need)?;
     }
     Ok(())
 }

@@ -14,7 +14,7 @@ use Rattle.nz_log.specs.Growth.{Grows}
 use Rattle.nz_search.specs.declared.note.Note.{Note}
 use Rattle.nz_search.specs.Standing.{search_after}
 use Rattle.nz_sat.specs.declared.clauses.Held.{Held}
-use Rattle.nz_sat.specs.declared.clauses.Need.TheVariants.{Never}
+use Rattle.nz_sat.specs.declared.clauses.Demand.TheVariants.{Never}
 use Rattle.nz_sat.specs.declared.trail.Assigned.{Assigned}
 use Rattle.nz_sat.specs.Numbers.{IsAtomAt, atom_literal}
 use Rattle.nz_sat.specs.Sats.{AreHeld, AreOn, HoldsMore, IsAsked}
@@ -109,7 +109,7 @@ grows_far a b c g h =
 
 -- where none were learned
 pub holds_none : (log : LogState) (held : List Held) → AreHeld log held → HoldsMore log held held
-holds_none log held live = record { learned = []; joined = sym (append-nil held); never_needed = All-nil (λ (h : Held). h.need ≡ Never); held = live }
+holds_none log held live = record { learned = []; joined = sym (append-nil held); never_needed = All-nil (λ (h : Held). h.demand ≡ Never); held = live }
 
 -- clauses that are held still are
 pub held_on : (a b : LogState) (held : List Held) → Grows a b → AreHeld a held → AreHeld b held

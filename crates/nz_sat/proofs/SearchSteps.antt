@@ -1,5 +1,5 @@
 -- What the steps of a search keep, one after another.
-use Rattle.std.proofs.Common.{◌≡◌, true, ℕ, ◌≤◌, Bool, List, [], ◌++◌, length, min, take, drop, map, Option, inl, inr, sym, ap, subst, ◌∙◌, arith, append_assoc, All, Contains, filter, Result, Ok, Err}
+use Rattle.std.proofs.Common.{◌≡◌, ℕ, ◌≤◌, Bool, List, [], ◌++◌, length, min, take, drop, map, Option, inl, inr, sym, ap, subst, ◌∙◌, arith, append_assoc, All, Contains, filter, Result, Ok, Err}
 use Rattle.std.proofs.Math.Nat.{min-eq_left, min-eq_right}
 use Rattle.std.proofs.lemmas.Bool.Decides.{leb_tells}
 use Rattle.std.proofs.lemmas.List.{append-nil, length-map, map-append, take-append-drop, take-append-le, take-map, take-take, take_all}
@@ -22,7 +22,7 @@ use Rattle.nz_search.specs.Places.{OnWide}
 use Rattle.nz_search.specs.Standing.{Ends, Standing, Stands, search_after}
 use Rattle.nz_log.specs.Growth.{Grows}
 use Rattle.nz_sat.specs.declared.clauses.Held.{Held}
-use Rattle.nz_sat.specs.declared.clauses.Need.TheVariants.{Never}
+use Rattle.nz_sat.specs.declared.clauses.Demand.TheVariants.{Never}
 use Rattle.nz_sat.specs.declared.consult.Bounds.{Bounds}
 use Rattle.nz_sat.specs.declared.search.Search.{Search}
 use Rattle.nz_sat.specs.declared.trail.Assigned.{Assigned}
@@ -165,7 +165,7 @@ reaches_then {m = m} {m₁ = m₁} {m₂ = m₂} {s = s} {mid = mid} {a = a} {b 
       holds_more = record {
         learned = p.holds_more.learned ++ q.holds_more.learned;
         joined = q.holds_more.joined ∙ ap (λ (xs : List Held). xs ++ q.holds_more.learned) p.holds_more.joined ∙ append_assoc h p.holds_more.learned q.holds_more.learned;
-        never_needed = All-append (λ (x : Held). x.need ≡ Never) p.holds_more.learned q.holds_more.learned p.holds_more.never_needed q.holds_more.never_needed;
+        never_needed = All-append (λ (x : Held). x.demand ≡ Never) p.holds_more.learned q.holds_more.learned p.holds_more.never_needed q.holds_more.never_needed;
         held = q.holds_more.held;
       };
       named = λ on. subst (λ (us : List ℕ). AreOn c us h₂) same (q.named (subst (λ (us : List ℕ). AreOn b us h₁) (sym same) (p.named on)));

@@ -25,8 +25,8 @@ use Rattle.nz_search.specs.Notes.{noted_line, noted_list}
 use Rattle.nz_search.specs.Standing.{Ends, Standing, Stands, search_after}
 use Rattle.nz_search.specs.Theories.{IsBoundIn}
 use Rattle.nz_sat.specs.declared.clauses.Held.{Held}
-use Rattle.nz_sat.specs.declared.clauses.Need.{Need}
-use Rattle.nz_sat.specs.declared.clauses.Need.TheVariants.{Always, Never, Of}
+use Rattle.nz_sat.specs.declared.clauses.Demand.{Demand}
+use Rattle.nz_sat.specs.declared.clauses.Demand.TheVariants.{Always, Never, Of}
 use Rattle.nz_sat.specs.declared.search.Search.{Search}
 use Rattle.nz_sat.specs.declared.trail.Assigned.{Assigned}
 use Rattle.nz_sat.specs.Clauses.{HasTrue}
@@ -122,7 +122,7 @@ ends_later A IsAt ns q work x s = (s.point, s.legal)
 -- ---- At the end
 
 -- what is needed by truths is needed by the same truths
-needed_by : (truth other : ℕ → Option Bool) → ((t : ℕ) → truth t ≡ other t) → (n : Need) → IsNeeded truth n → IsNeeded other n
+needed_by : (truth other : ℕ → Option Bool) → ((t : ℕ) → truth t ≡ other t) → (n : Demand) → IsNeeded truth n → IsNeeded other n
 needed_by truth other same Always h = tt
 needed_by truth other same (Of t) h = subst IsSome (same t) h
 needed_by truth other same Never h = h
@@ -133,11 +133,11 @@ pub satisfied : {T : Type 0} → (log : LogState) (held : List Held) (assumed : 
 satisfied log held assumed atoms s work t same truths h =
     let es = s.trail.entries in
     let is_true : (l : Lit) → IsTrueOn es l → IsTrueLit t l = λ l on. truths l.atom ∙ on in
-    let Truly : Held → Type 0 = λ x. IsNeeded (truth_of t) x.need → IsTrueClause t (literals_at log x.id) in
+    let Truly : Held → Type 0 = λ x. IsNeeded (truth_of t) x.demand → IsTrueClause t (literals_at log x.id) in
     record {
       clauses = All-same Truly t.clauses held same
-          (All-weaker (λ (x : Held). IsNeeded (truth_on es) x.need → HasTrue es (literals_at log x.id)) Truly
-          (λ x has needed. let one = has (needed_by (truth_of t) (truth_on es) truths x.need needed) in (one.literal, one.has, is_true one.literal one.holds)) held h.have_true);
+          (All-weaker (λ (x : Held). IsNeeded (truth_on es) x.demand → HasTrue es (literals_at log x.id)) Truly
+          (λ x has needed. let one = has (needed_by (truth_of t) (truth_on es) truths x.demand needed) in (one.literal, one.has, is_true one.literal one.holds)) held h.have_true);
       assumed_hold = λ k d inside.
           let l = get_or assumed k d in
           is_true l (below_true s.trail.size es h.search.on.order 0 l.atom l.sign (h.hold k d inside));

@@ -70,11 +70,11 @@ pub record AreAssumedOn (assumed : List Lit) (es : List Assigned) : Type 0 where
 
 -- the clause, as it is held
 abbrev pub held_as : WatchedClause → Held
-held_as c = record { id = c.id; level = c.level; need = c.need; glue = c.glue }
+held_as c = record { id = c.id; level = c.level; demand = c.demand; glue = c.glue }
 
 -- a clause that is held, with the two literals that are watched
 abbrev pub watched_as : Held → Lit × Lit → WatchedClause
-watched_as h pair = record { id = h.id; level = h.level; need = h.need; glue = h.glue; first = pair.0; second = pair.1 }
+watched_as h pair = record { id = h.id; level = h.level; demand = h.demand; glue = h.glue; first = pair.0; second = pair.1 }
 
 -- A clause of the log with atoms below a number.
 pub record IsUsable (s : LogState) (size : ℕ) (i : ℕ) : Type 0 where

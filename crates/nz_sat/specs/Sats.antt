@@ -1,5 +1,5 @@
 -- A search over clauses of a log, as its callers see it.
-use Rattle.std.specs.Prelude.{◌≡◌, ◌==◌, ◌&&◌, ℕ, ◌++◌, Bool, true, not, All, Contains, List, [], ◌∷◌, map, filter, nat_le, nat_lt, Option, Some, None, IsSome, ⊤, option_map, slice_get, slice_index_or}
+use Rattle.std.specs.Prelude.{◌≡◌, ◌==◌, ◌&&◌, ℕ, ◌++◌, Bool, true, not, All, Contains, List, [], ◌∷◌, map, filter, nat_le, nat_lt, Option, Some, None, IsSome, ⊤, option_map, slice_index_or}
 use Rattle.nz_spec.specs.terms.Table.{Node, IsTable}
 use Rattle.nz_spec.specs.search.Decide.{asserted_terms}
 use Rattle.nz_spec.specs.search.Search.{Task, Search, literals_by, told_literals}
@@ -7,18 +7,16 @@ use Rattle.nz_spec.specs.clauses.Gates.{holds}
 use Rattle.nz_spec.specs.search.Work.{WorkList}
 use Rattle.nz_spec.specs.clauses.Literal.{Literal, are_same_sign, StandOnce}
 use Rattle.nz_log.specs.declared.lits.Lit.{Lit}
-use Rattle.nz_log.specs.declared.origins.Subject.{Subject}
-use Rattle.nz_log.specs.declared.origins.Subject.TheVariants.{Derived, Itself, Truth}
-use Rattle.nz_log.specs.Atoms.{literal_in, term_place}
+use Rattle.nz_log.specs.Atoms.{literal_in}
 use Rattle.nz_log.specs.Lits.{negated_lit}
-use Rattle.nz_log.specs.Logs.{LogState, IsLive, literals_at, level_at, subject_at}
+use Rattle.nz_log.specs.Logs.{LogState, IsLive, literals_at, level_at}
 use Rattle.nz_log.specs.Sound.{IsLog}
 use Rattle.nz_search.specs.declared.note.Note.{Note}
 use Rattle.nz_search.specs.Standing.{search_after}
 use Rattle.nz_search.specs.Theories.{IsBoundIn}
 use Rattle.nz_sat.specs.declared.clauses.Held.{Held}
-use Rattle.nz_sat.specs.declared.clauses.Need.{Need}
-use Rattle.nz_sat.specs.declared.clauses.Need.TheVariants.{Always, Never, Of}
+use Rattle.nz_sat.specs.declared.clauses.Demand.{Demand}
+use Rattle.nz_sat.specs.declared.clauses.Demand.TheVariants.{Always, Never, Of}
 use Rattle.nz_sat.specs.declared.clauses.Part.{Part}
 use Rattle.nz_sat.specs.declared.clauses.Part.TheVariants.{But, Shed, UpTo}
 use Rattle.nz_sat.specs.Numbers.{IsAtomAt, numbered}
@@ -33,7 +31,7 @@ pub record SatState (T : Type 0) : Type 0 where
 -- ---- Truths
 
 -- a clause needs a true literal by the truths of atoms
-abbrev pub IsNeeded : (ℕ → Option Bool) → Need → Type 0
+abbrev pub IsNeeded : (ℕ → Option Bool) → Demand → Type 0
 IsNeeded truth Always = ⊤
 IsNeeded truth (Of t) = IsSome (truth t)
 IsNeeded truth Never = ⊥
@@ -55,7 +53,7 @@ module _ {T : Type 0} where
 
   -- Each clause that needs one has a true literal, and each assumed literal is true. Other atoms may have no truth.
   pub record IsSatisfied (log : LogState) (s : SatState T) (assumed : List Lit) : Type 0 where
-    pub clauses : All (λ (h : Held). IsNeeded (truth_of s) h.need → IsTrueClause s (literals_at log h.id)) s.clauses
+    pub clauses : All (λ (h : Held). IsNeeded (truth_of s) h.demand → IsTrueClause s (literals_at log h.id)) s.clauses
     pub assumed_hold : All (IsTrueLit s) assumed
 
   -- The theory was told just the literals of the atoms that are bounds and true, and some values meet them.
@@ -91,29 +89,16 @@ AreSameSince None log held = held ≡ []
 AreSameSince (Some seen) log held = All (IsSameIn seen log) held
 
 -- a clause that is added, with its level
-abbrev pub added_as : Need → LogState → ℕ → Held
-added_as need log id = record { id = id; level = level_at log id; need = need; glue = 0 }
-
--- when a clause of a log needs a true literal: where the term that it is about has a truth, if it has an atom
-abbrev pub need_by : LogState → Subject → Need
-need_by log (Truth t) = elim (slice_get log.atoms (term_place log.atoms t)) [ None ↦ Always | Some a ↦ Of (term_place log.atoms t) ]
-need_by log Itself = Always
-need_by log Derived = Never
-
-abbrev pub need_at : LogState → ℕ → Need
-need_at log i = need_by log (subject_at log i)
-
--- one that needs a true literal as it says
-abbrev pub held_of : LogState → ℕ → Held
-held_of log id = added_as (need_at log id) log id
+abbrev pub added_as : Demand → LogState → ℕ → Held
+added_as demand log id = record { id = id; level = level_at log id; demand = demand; glue = 0 }
 
 -- a clause that the search learned, with its level, and its measure
 abbrev pub learned_of : LogState → ℕ → ℕ → Held
-learned_of log id glue = record { id = id; level = level_at log id; need = Never; glue = glue }
+learned_of log id glue = record { id = id; level = level_at log id; demand = Never; glue = glue }
 
 -- no clause ever needs a true literal
 abbrev pub AreNeverNeeded : List Held → Type 0
-AreNeverNeeded held = All (λ (h : Held). h.need ≡ Never) held
+AreNeverNeeded held = All (λ (h : Held). h.demand ≡ Never) held
 
 -- those at or below a level
 abbrev pub held_up_to : ℕ → List Held → List Held

@@ -241,7 +241,7 @@ pub record Runs (log : LogState) (held : List Held) (assumed : List Lit) (start 
 
 -- each clause that needs one has a true literal
 abbrev pub HaveTrue : LogState → List Held → List Assigned → Type 0
-HaveTrue log held es = All (λ (h : Held). IsNeeded (truth_on es) h.need → HasTrue es (literals_at log h.id)) held
+HaveTrue log held es = All (λ (h : Held). IsNeeded (truth_on es) h.demand → HasTrue es (literals_at log h.id)) held
 
 -- An atom is undecided that a clause has a literal of.
 pub record IsUndecidedIn (log : LogState) (held : Held) (es : List Assigned) (t : ℕ) : Type 0 where

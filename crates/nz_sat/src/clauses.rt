@@ -1,17 +1,16 @@
 //! The clauses of a search.
-ghost use Rattle.std.specs.Prelude.{◌≡◌, false};
+ghost use Rattle.std.specs.Prelude.{◌≡◌, ◌↔◌, IsTrue};
 ghost use Rattle.nz_log.specs.Logs.{IsLive};
 ghost use Rattle.nz_sat.specs.Clauses.{held_as, other_in, watched_as, with_watch};
-ghost use Rattle.nz_sat.specs.Sats.{IsNeeded, held_of, is_in, learned_of, need_at};
+ghost use Rattle.nz_sat.specs.Sats.{IsNeeded, added_as, is_in, learned_of};
 ghost use Rattle.nz_sat.specs.Trails.{truth_on};
 
 use crate::trail::Trail;
-use nz_log::laws::atoms_of_terms;
-use nz_log::{AtomId, ClauseId, Lit, Log, Subject};
+use nz_log::{AtomId, ClauseId, Lit, Log};
 
 /// When a clause has to have a true literal where values are found.
 #[derive(Clone, Copy, Debug, PartialEq, Eq)]
-pub enum Need {
+pub enum Demand {
     Always,
     /// Where this atom has a truth, of which the clause says something.
     Of(AtomId),
@@ -19,15 +18,15 @@ pub enum Need {
     Never,
 }
 
-impl Need {
+impl Demand {
     /// Whether it has to, on a trail.
     pub(crate) fn is_now(self, trail: &Trail) -> bool
-        ensures so { result ≡ false → IsNeeded (truth_on trail.now.entries) self → ⊥ }
+        ensures so { IsTrue result ↔ IsNeeded (truth_on trail.now.entries) self }
     {
         match self {
-            Need::Always => true,
-            Need::Of(atom) => trail.assigned(atom).is_some(),
-            Need::Never => false,
+            Demand::Always => true,
+            Demand::Of(atom) => trail.assigned(atom).is_some(),
+            Demand::Never => false,
         }
     }
 }
@@ -37,21 +36,21 @@ impl Need {
 pub struct Held {
     pub id: ClauseId,
     pub level: usize,
-    pub need: Need,
+    pub demand: Demand,
     /// Of a learned one, of how many levels its literals were when it was learned, at least 1, and 0 of one that was added.
     pub glue: usize,
 }
 
 impl Held {
-    /// A clause of the log that is added.
-    pub(crate) fn added(log: &Log, id: ClauseId) -> Held
+    /// A clause of the log that is added, and when it has to have a true literal.
+    pub(crate) fn added(log: &Log, id: ClauseId, demand: Demand) -> Held
         requires live { IsLive log.now id }
-        ensures held { result ≡ held_of log.now id }
+        ensures held { result ≡ added_as demand log.now id }
     {
         Held {
             id,
             level: log.level(id),
-            need: need_of(log, id),
+            demand,
             glue: 0,
         }
     }
@@ -64,25 +63,9 @@ impl Held {
         Held {
             id,
             level: log.level(id),
-            need: Need::Never,
+            demand: Demand::Never,
             glue,
         }
-    }
-}
-
-/// When a clause of a log has to have a true literal. Without an atom of the term that it is about it has to have one always.
-fn need_of(log: &Log, id: ClauseId) -> Need
-    requires live { IsLive log.now id }
-    ensures need { result ≡ need_at log.now id }
-{
-    atoms_of_terms();
-    match log.subject(id) {
-        Subject::Truth(term) => match log.find_term(term) {
-            Some(atom) => Need::Of(atom),
-            None => Need::Always,
-        },
-        Subject::Itself => Need::Always,
-        Subject::Derived => Need::Never,
     }
 }
 
@@ -116,7 +99,7 @@ pub struct WatchedClause {
     /// Its number in the log.
     pub id: ClauseId,
     pub level: usize,
-    pub need: Need,
+    pub demand: Demand,
     /// Of a learned one, of how many levels its literals were when it was learned.
     pub glue: usize,
     pub first: Lit,
@@ -131,7 +114,7 @@ impl WatchedClause {
         WatchedClause {
             id: held.id,
             level: held.level,
-            need: held.need,
+            demand: held.demand,
             glue: held.glue,
             first,
             second,
@@ -145,7 +128,7 @@ impl WatchedClause {
         Held {
             id: self.id,
             level: self.level,
-            need: self.need,
+            demand: self.demand,
             glue: self.glue,
         }
     }

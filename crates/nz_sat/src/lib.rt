@@ -22,5 +22,5 @@ mod trail;
 mod turns;
 mod watches;
 
-pub use clauses::{Held, Need};
+pub use clauses::{Held, Demand};
 pub use sat::Sat;

@@ -34,9 +34,9 @@ fn undecided(trail: &Trail, literals: &[Lit]) -> Option<Lit>
 fn undecided_in(log: &Log, held: Held, trail: &Trail) -> Option<AtomId>
     requires live { IsLive log.now held.id }
     ensures undecided { IfSome result (IsUndecidedIn log.now held trail.now.entries) }
-    ensures none { result ≡ None → IsNeeded (truth_on trail.now.entries) held.need → IsOpen trail.now.entries (literals_at log.now held.id) → HasTrue trail.now.entries (literals_at log.now held.id) }
+    ensures none { result ≡ None → IsNeeded (truth_on trail.now.entries) held.demand → IsOpen trail.now.entries (literals_at log.now held.id) → HasTrue trail.now.entries (literals_at log.now held.id) }
 {
-    if !held.need.is_now(trail) {
+    if !held.demand.is_now(trail) {
         return None;
     }
     let literal = undecided(trail, log.clause(held.id))?;

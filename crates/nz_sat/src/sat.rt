@@ -14,10 +14,10 @@ ghost use Rattle.nz_search.specs.Standing.{Ends, Stands, search_after};
 ghost use Rattle.nz_log.specs.Growth.{Grows};
 ghost use Rattle.nz_sat.specs.Conflicts.{Refutes};
 ghost use Rattle.nz_sat.specs.Numbers.{AreNotedIn, IsAtomAt, noted_atoms};
-ghost use Rattle.nz_sat.specs.Sats.{AreConsistent, AreHeld, AreNamed, AreOn, AreSameSince, HasBegun, HoldsLearned, HoldsMore, IsAsked, IsSameSearch, IsSatisfied, IsTheoryMet, TellsTrue, held_but, held_of, held_part, held_shed, held_up_to, is_in, literal_truth};
+ghost use Rattle.nz_sat.specs.Sats.{AreConsistent, AreHeld, AreNamed, AreOn, AreSameSince, HasBegun, HoldsLearned, HoldsMore, IsAsked, IsSameSearch, IsSatisfied, IsTheoryMet, TellsTrue, added_as, held_but, held_part, held_shed, held_up_to, is_in, literal_truth};
 ghost use Rattle.nz_sat.specs.Trails.{AreTruthsOn};
 
-use crate::clauses::{Held, Part};
+use crate::clauses::{Demand, Held, Part};
 use crate::kept::Kept;
 use crate::search::Search;
 use crate::trail::Trail;
@@ -76,27 +76,27 @@ impl<T: Theory> Sat<T> {
         &self.clauses
     }
 
-    /// Adds a clause of the log. When it needs a true literal comes of what it is about.
+    /// Adds a clause of the log, and when it has to have a true literal.
     ///
     /// # Errors
     ///
     /// `Memory`. Then the search is as before.
-    pub fn add(&mut self, log: &Log, id: ClauseId) -> Result<(), Memory>
+    pub fn add(&mut self, log: &Log, id: ClauseId, demand: Demand) -> Result<(), Memory>
         requires live { IsLive log.now id }
         requires since { AreSameSince self.old.seen log.now self.old.clauses }
-        ensures added { OnOk result (self.new.clauses ≡ self.old.clauses ++ held_of log.now id ∷ []) }
+        ensures added { OnOk result (self.new.clauses ≡ self.old.clauses ++ added_as demand log.now id ∷ []) }
         ensures truths { self.new.truths ≡ self.old.truths }
         ensures theory { self.new.theory ≡ self.old.theory }
         ensures seen { OnOk result (self.new.seen ≡ Some log.now) }
         ensures unchanged { OnErr result (self.new ≡ self.old) }
     {
-        self.clauses.push(Held::added(log, id))?;
+        self.clauses.push(Held::added(log, id, demand))?;
         self.seen = Some(Snapshot::of(log));
         Ok(())
     }
 
-    /// Searches for truths of some of these atoms, which are those that the work list notes, under which each clause has a true literal that needs
-    /// one, each assumed literal is true, and the theory is feasible, which was told nothing yet. Answers `None` where it found them, and otherwise a clause of the
+    /// Searches for truths of some of these atoms, which are those that the work list notes, under which each clause that needs one has a true
+    /// literal, each assumed literal is true, and the theory is feasible, which was told nothing yet. Answers `None` where it found them, and otherwise a clause of the
     /// log whose literals are negations of assumed ones.
     ///
     /// # Errors

@@ -4,7 +4,7 @@ use Rattle.nz_fractions.specs.Fraction.{Fraction}
 use Rattle.nz_spec.specs.clauses.Goals.{Goal}
 use Rattle.nz_spec.specs.laws.LegalWork.{IsOnTerm}
 use Rattle.nz_spec.specs.search.Beginnings.{MaySearchUnder}
-use Rattle.nz_spec.specs.clauses.Gates.{holds, is_boolean_term}
+use Rattle.nz_spec.specs.clauses.Gates.{holds}
 use Rattle.nz_spec.specs.search.Decide.{asserted_numbers, asserted_terms}
 use Rattle.nz_spec.specs.search.Legal.{AreFew, Lead}
 use Rattle.nz_spec.specs.search.Search.{Task, Search, at_first, no_point, IsMember}
@@ -63,9 +63,10 @@ pub record IsWithoutGoals (q : Task) : Type 0 where
   pub earlier : q.earlier_goals ≡ []
   pub assumed : All IsOnTerm q.assumed
 
--- Each Boolean term that what was added is made of is an atom of the search.
-abbrev pub NamesParts : List Node → List Level → Search → Type 0
-NamesParts ns levels s = (i : ℕ) (t : spec.Term) → Contains (asserted_numbers (added_by_level levels)) i → Contains (listing_order (term_in ns i)) t → is_boolean_term t ≡ true → Contains s.atoms (holds t)
+-- Each constant of sort Bool that what was added is made of is an atom of the search.
+abbrev pub NamesConstants : List Node → List Level → Search → Type 0
+NamesConstants ns levels s = (i : ℕ) (c : spec.Constant) → Contains (asserted_numbers (added_by_level levels)) i → let t = spec.apply (spec.constant c) spec.no_terms in
+    Contains (listing_order (term_in ns i)) t → c.sort ≡ spec.bool_sort → Contains s.atoms (holds t)
 
 -- One search or climb more began at most, and what was found is the same.
 pub record IsOneMore (old new : Search) : Type 0 where

@@ -40,7 +40,7 @@ pub trait Decide: Drop {
     ghost use Rattle.nz_search.specs.Places.{OnWide};
     ghost use Rattle.nz_log.specs.Spelling.{steps_of};
     ghost use Rattle.nz_search.specs.declared.note.Note.{Note};
-    ghost use Rattle.nz_search.specs.Asked.{IsOneMore, IsWithoutGoals, MayCheck, NamesParts};
+    ghost use Rattle.nz_search.specs.Asked.{IsOneMore, IsWithoutGoals, MayCheck, NamesConstants};
     ghost use Rattle.nz_search.specs.Levels.{Level, added_by_level, asserted_by_level, empty_level, numbers_by_level, with_added};
     ghost use Rattle.nz_search.specs.Standing.{search_after};
     ghost use Rattle.nz_search.specs.Verdicts.{IfSat, IfUnsat, OnUnsat, OnSpent};
@@ -128,8 +128,8 @@ pub trait Decide: Drop {
         ensures legal { (q : Task) → MayCheck terms.now (levels self.old) assumed.now q work.old → stands self.old terms.now q work.old → AreLegal q (noted_list terms.now work.new).lines }
         ensures stands { OnOk result ((q : Task) → MayCheck terms.now (levels self.old) assumed.now q work.old → stands self.old terms.now q work.old → stands self.new terms.now q work.new) }
         ensures named { AreNotedWithin terms.now work.new.lines }
-        // What was added has its clauses: each Boolean term that it is made of is an atom of the search.
-        ensures parts { OnOk result (NamesParts terms.now (levels self.old) (search_after terms.now work.new)) }
+        // What was added has its clauses: each Boolean constant that it is made of is an atom of the search.
+        ensures constants { OnOk result (NamesConstants terms.now (levels self.old) (search_after terms.now work.new)) }
         ensures more { IsOneMore (search_after terms.now work.old) (search_after terms.now work.new) }
         ensures spent { IfErr result (λ s. OnSpent s ((q : Task) → MayCheck terms.now (levels self.old) assumed.now q work.old → stands self.old terms.now q work.old → IsSpentLegally q (noted_list terms.now work.new))) }
         ensures stopped { IfErr result (λ s. OnWide s (λ p. (q : Task) → MayCheck terms.now (levels self.old) assumed.now q work.old → stands self.old terms.now q work.old

@@ -7,7 +7,7 @@ use Rattle.nz_spec.specs.clauses.Forced.{Truths, GivesBranch, IsForced, AreForce
 use Rattle.nz_spec.specs.simplex.Basis.{Valuation}
 
 -- a choice between what can't both be, by a condition that can't both hold and fail
-one_branch : (C D P Q R S : Type 0) → (C → D → ⊥) → (P → Q → ⊥) → (R → S → ⊥) → GivesBranch C D P R → GivesBranch C D Q S → ⊥
+pub one_branch : (C D P Q R S : Type 0) → (C → D → ⊥) → (P → Q → ⊥) → (R → S → ⊥) → GivesBranch C D P R → GivesBranch C D Q S → ⊥
 one_branch C D P Q R S k l m (inl f) (inl g) = l f.1 g.1
 one_branch C D P Q R S k l m (inl f) (inr (inl g)) = k f.0 g.0
 one_branch C D P Q R S k l m (inl f) (inr (inr g)) = l f.1 g.0
@@ -19,7 +19,7 @@ one_branch C D P Q R S k l m (inr (inr f)) (inr (inl g)) = m f.1 g.1
 one_branch C D P Q R S k l m (inr (inr f)) (inr (inr g)) = l f.0 g.0
 
 -- two that are paired with one sign are not paired with the other
-one_pairing : (F G : Bool → Type 0) → (F true → F false → ⊥) → (G true → G false → ⊥) → (b c : Bool)
+pub one_pairing : (F G : Bool → Type 0) → (F true → F false → ⊥) → (G true → G false → ⊥) → (b c : Bool)
     → F b → G b → F c → G (not c) → ⊥
 one_pairing F G k l true true p q r s = l q s
 one_pairing F G k l false false p q r s = l s q

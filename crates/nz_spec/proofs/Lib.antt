@@ -61,6 +61,7 @@ mod Listings
 pub mod Literals
 pub mod MetBounds
 mod MoreTerms
+pub mod NeededReadings
 pub mod NeededRows
 pub mod NeededTerms
 pub mod NeededTruths
@@ -84,6 +85,11 @@ pub mod SaidClauses
 pub mod Same
 pub mod SameSorts
 pub mod SameSums
+pub mod SettledClauses
+pub mod SettledNeeds
+pub mod SettledTables
+pub mod SettledTerms
+pub mod SettledUnits
 pub mod Sorted
 pub mod SortedArithmetic
 pub mod Starts
@@ -101,5 +107,6 @@ pub mod WorkedClimb
 mod WorkedFamilies
 pub mod WorkedPivot
 mod WorkedPlaces
+mod WorkedSettling
 mod WorkedWishes
 pub mod WorkedWork

@@ -1,5 +1,5 @@
 -- The worked place is where its list ends.
-use Rattle.std.proofs.Common.{◌≡◌, inl, inr, ℕ, zero, suc, Bool, true, false, List, [], ◌∷◌, pos, Some, None, refl, sym, ap, subst, ◌∙◌, arith, true≢false, Option, flat_map}
+use Rattle.std.proofs.Common.{◌≡◌, inl, inr, ℕ, zero, suc, Bool, true, false, List, [], ◌∷◌, pos, negsuc, Some, None, refl, sym, ap, subst, ◌∙◌, arith, true≢false, Option, flat_map}
 use Rattle.std.specs.Prelude.{Contains, IsTrue, if◌then◌else◌}
 use Rattle.std.specs.List.{AllByRecursion}
 use Rattle.std.proofs.lemmas.Option.{same_Some}
@@ -9,6 +9,7 @@ use Rattle.nz_ints.specs.Division.{gcd_within, gcd, lcm}
 use Rattle.nz_fractions.specs.Fraction.{Fraction, whole, largest, denominator, over, ◌=ℚ◌, ◌≤ℚ◌, fraction_eq, fraction_le, fraction_lt, fraction_cmp, neg_ℚ, ◌+ℚ◌, ◌-ℚ◌, ◌*ℚ◌, reduce, IsNumber, is_wide_sum, exact, outcome, is_wide, first_wide}
 use Rattle.nz_fractions.proofs.Laws.{IsLowest, lowest-same, reduce-is, ≤ℚ_refl}
 use Rattle.nz_fractions.proofs.Arithmetic.{+ℚ-same}
+use Rattle.nz_fractions.proofs.Order.{le_is}
 use Rattle.nz_fractions.proofs.Solver.{◌∙ℚ◌, times_left}
 use Rattle.nz_spec.specs.numbers.Infinitesimal.{Infinitesimal, ◌=δ◌, infinitesimal_cmp, Pair, is_limiting, limits, at}
 use Rattle.nz_spec.specs.numbers.Computation.{Computation, at_once, in_turn}
@@ -18,10 +19,11 @@ use Rattle.nz_spec.specs.terms.Model.{IsAssignment, assignment_of}
 use Rattle.nz_spec.specs.terms.Order.{listing_order}
 use Rattle.nz_spec.specs.clauses.Literal.{Clause, is_literal_true}
 use Rattle.nz_spec.specs.clauses.Gates.{fails, holds, gate_clauses}
+use Rattle.nz_spec.specs.clauses.LinearLiteral.{parts_of}
 use Rattle.nz_spec.specs.clauses.Links.{at_most_literal, link_clauses}
 use Rattle.nz_spec.specs.clauses.Met.{IsMet, HasMetLiteral}
 use Rattle.nz_spec.specs.clauses.Units.{unit_clauses}
-use Rattle.nz_spec.specs.simplex.Basis.{IsBasis, Valuation, alone as one_at}
+use Rattle.nz_spec.specs.simplex.Basis.{IsBasis, Valuation, worth, alone as one_at}
 use Rattle.nz_spec.specs.simplex.Bland.{Point, Position, is_nonbasic, standing, Side, lower_side, upper_side, HasValue, IsWithinBounds}
 use Rattle.nz_spec.specs.simplex.Climb.{unit_of}
 use Rattle.nz_spec.specs.simplex.LiteralBounds.{moved_by}
@@ -31,10 +33,12 @@ use Rattle.nz_spec.specs.search.Legal.{after_lines, Lead, AreLegal}
 use Rattle.nz_spec.specs.search.Places.{IsPairOf, IsChosen, IsConstantAt, IsNoForm, IsModelAt, IsToldEnough}
 use Rattle.nz_spec.specs.worked.TermSamples.{x_constant, x_term, numeral_term}
 use Rattle.nz_spec.specs.worked.WorkedArithmetic.{sample_order, x_from_one}
-use Rattle.nz_spec.specs.worked.WorkedPlaces.{from_one_term, great_task, great_work, one_model, HasGreatWorth}
+use Rattle.nz_spec.specs.worked.WorkedPlaces.{from_one_term, great_task, great_work, one_model, HasGreatWorth, WantsTelling}
+use Rattle.nz_spec.proofs.ArgumentTruths.{alone as only}
 use Rattle.nz_spec.proofs.BasisRows.{nonbasic_form_is_itself}
 use Rattle.nz_spec.proofs.BlandPositions.{positions_have_values}
 use Rattle.nz_spec.proofs.LinkTruths.{links_are_true}
+use Rattle.nz_spec.proofs.SaidClauses.{said_from}
 use Rattle.nz_spec.proofs.Sorted.{default_is}
 use Rattle.nz_spec.proofs.Starts.{legal_work_may_begin}
 use Rattle.nz_spec.proofs.Tables.{same_constant}
@@ -260,6 +264,24 @@ told_enough = (
         clauses = record { gates = λ u sign at has. (each u at).0; links = λ u sign at has. (each u at).1; units = λ u at. (each u at).2 };
       },
 )
+
+-- where every unit is worth 0, x isn't at least 1
+not_at_zero : IsMet all_true (λ u. whole (pos 0)) x_from_one → ⊥
+unfolding denominator over fraction_le fraction_lt neg_ℚ ◌+ℚ◌ ◌*ℚ◌
+not_at_zero met = true≢false (sym (le_is (worth (λ u. whole (pos 0)) (parts_of x_from_one)) (whole (negsuc 0)) met))
+
+pub wants_telling : WantsTelling
+unfolding gcd_within gcd denominator over fraction_eq fraction_lt neg_ℚ ◌+ℚ◌ ◌-ℚ◌ ◌*ℚ◌ reduce exact outcome
+wants_telling enough =
+    let truths : Term → Option Bool = enough.0 in
+    let nothing : Valuation = λ u. whole (pos 0) in
+    let met = enough.1 nothing (All-nil (IsMet truths nothing)) in
+    let held : truths from_one_term ≡ Some true = All-contains (IsMet truths nothing) (holds from_one_term ∷ []) (holds from_one_term) met.held (has_first (holds from_one_term) []) in
+    let row = (met.clauses.links from_one_term true (2, omega arith, refl) held).0 in
+    elim (said_from (IsMet truths nothing) (fails from_one_term ∷ x_from_one ∷ []) row.0 row.1 row.2) [
+      | inl other ↦ true≢false (same_Some true false (sym held ∙ other))
+      | inr bound ↦ not_at_zero (only (IsMet all_true nothing x_from_one) bound)
+    ]
 
 pub great_worth : HasGreatWorth
 unfolding gcd_within gcd lcm denominator neg_ℚ is_wide_sum is_wide first_wide legal

@@ -8,4 +8,5 @@ pub mod LegalWork
 pub mod MoreTerms
 pub mod Numerals
 pub mod Renumbering
+pub mod Settling
 pub mod ToldBounds

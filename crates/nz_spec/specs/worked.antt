@@ -6,6 +6,7 @@ pub mod WorkedBooleans
 pub mod WorkedFamilies
 pub mod WorkedNeeds
 pub mod WorkedPlaces
+pub mod WorkedSettling
 pub mod WorkedSteps
 pub mod WorkedWishes
 pub mod WorkedWork

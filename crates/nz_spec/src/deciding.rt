@@ -1,9 +1,11 @@
 //! Laws of the terms that checks take, and of what decides them.
 ghost use Rattle.nz_spec.specs.laws.Deciding.{TablesDecide};
 ghost use Rattle.nz_spec.specs.laws.Forcing.{AssertedTermsAreTrue, ForcedTermsHaveValues, NeededClausesAreTrue, NeededClausesForce};
+ghost use Rattle.nz_spec.specs.laws.Settling.{NeededClausesSettle};
 ghost use Rattle.nz_spec.specs.terms.Taken.{NormalTermsAreTaken, TakenTermsAreInOrder};
 ghost use Rattle.nz_spec.specs.simplex.LiteralBounds.{TellingSetsBounds};
 ghost use Rattle.nz_spec.specs.worked.WorkedNeeds.{HasForcedTerms, HasNeeds};
+ghost use Rattle.nz_spec.specs.worked.WorkedSettling.{HasSettling};
 ghost use Rattle.nz_spec.specs.laws.ToldBounds.{ChosenFractionsKeepBounds, ToldBoundsAreMet};
 
 /// Which normal terms are taken.
@@ -36,15 +38,21 @@ pub fn asserted_terms_are_true()
     ensures hold { AssertedTermsAreTrue }
 {}
 
+/// Where clauses of the signs with which terms are needed have true literals, truths of terms meet the tables, whatever the units are worth within true bounds.
+pub fn needed_clauses_settle()
+    ensures settle { NeededClausesSettle }
+{}
+
 /// The clauses of needed terms, and those that state asserted ones, exclude no model.
 pub fn needed_clauses_are_true()
     ensures are_true { NeededClausesAreTrue }
 {}
 
-/// Needs of assertions, and what is forced while atoms are open, by the definitions alone.
+/// Needs of assertions, and what is forced and settled while atoms are open, by the definitions alone.
 pub fn worked_needs()
     ensures needs { HasNeeds }
     ensures forced { HasForcedTerms }
+    ensures settled { HasSettling }
 {}
 
 /// What a literal does to a position when it is told, and when it is taken back.

@@ -4,7 +4,7 @@ ghost use Rattle.nz_spec.specs.laws.BooleanWork.{BooleanListingsAreGated, Boolea
 ghost use Rattle.nz_spec.specs.laws.LegalWork.{LegalBranchesAreFew, LegalWorkDoesNotRepeat, LegalWorkGoesOn, LegalWorkMayBegin, MoreTermsMayBegin, NegationsHaveNoRows, PivotsAreLegal, PlainAtomsAreOne, PlainWorkIsLegal, RenumberedWorkIsLegal};
 ghost use Rattle.nz_spec.specs.laws.MoreTerms.{MoreTermsEndLegally};
 ghost use Rattle.nz_spec.specs.worked.WorkedBooleans.{HasFourClauses};
-ghost use Rattle.nz_spec.specs.worked.WorkedPlaces.{HasGreatWorth, HasScaling};
+ghost use Rattle.nz_spec.specs.worked.WorkedPlaces.{HasGreatWorth, HasScaling, WantsTelling};
 ghost use Rattle.nz_spec.specs.worked.WorkedWishes.{HasWishes};
 ghost use Rattle.nz_spec.specs.worked.WorkedWork.{HasBranch, HasClimb, HasEitherOrder, HasLaterCheck, HasPivot, HasRefusals, HasSearches, HasSpentUnits};
 
@@ -102,9 +102,10 @@ pub fn worked_booleans()
     ensures clauses { HasFourClauses }
 {}
 
-/// A list that ends where the value of a term leaves the numbers, and columns that are scaled to integers.
+/// A list that ends where the value of a term leaves the numbers, one that told too little for that, and columns that are scaled to integers.
 pub fn worked_places()
     ensures worth { HasGreatWorth }
+    ensures telling { WantsTelling }
     ensures scaling { HasScaling }
 {}
 

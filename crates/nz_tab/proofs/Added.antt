@@ -65,7 +65,7 @@ module _ {forms : List (List Part)} {f : List Part} {us : List (Vec Part Global)
         sum_joined law forms f old marks ns table units joined.0 new wide summed
         (ap (λ (l : List (ℕ × Fraction)). first_wide (sum_over joined.0 l).operations) (sym p.listed) ∙ joined.3)
 
-    pub kept : (unit_at unit_then : ℕ → Option ℕ) (columns written solved spare a x b c : ℕ) → IsStored forms old unit_at columns written solved spare → JoinsKeepBasis → TermHasItsNumber → is_unit_form f ≡ false
+    pub kept : (unit_at unit_then : ℕ → Option ℕ) (columns written solved : ℕ) (spare : List ℕ) (a x b : ℕ) (c : List ℕ) → IsStored forms old unit_at columns written solved spare → JoinsKeepBasis → TermHasItsNumber → is_unit_form f ≡ false
         → HasRoomForSum old count a x b c → AreNumbers unit_then (with_units forms f) → IsStored (with_units forms f ++ f ∷ []) new unit_then a x b c
     kept unit_at unit_then columns written solved spare a x b c s law numbers none room units =
         stored_sum forms old unit_at columns written solved spare s unit_then a x b c law numbers joined.0 f none wide

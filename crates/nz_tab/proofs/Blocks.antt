@@ -1,50 +1,36 @@
--- Rows in a block, coefficients where they stand, and marks.
-use Rattle.std.proofs.Common.{◌≡◌, ℕ, zero, suc, ◌+◌, ◌*◌, ◌<◌, ◌≤◌, Bool, true, false, ◌⊎◌, inl, inr, List, [], ◌∷◌, ◌++◌, length, map, flat_map, take, drop, pos, refl, sym, ap, ◌∙◌, true≢false, arith}
+-- Coefficients where they stand, and marks.
+use Rattle.std.proofs.Common.{◌≡◌, ℕ, ◌<◌, ◌≤◌, Bool, true, false, ◌⊎◌, inl, inr, List, [], length, pos, refl, sym, ap, ◌∙◌, true≢false, arith}
 use Rattle.std.specs.Prelude.{if◌then◌else◌, slice_index_or, ◌≢◌, set, ◌==◌}
-use Rattle.std.proofs.Math.Seq.{take-append_seam, drop-append-add}
-use Rattle.std.proofs.lemmas.List.{get_or_past, length-map, length-append, get_or-set_same, get_or-set_other, length-set}
+use Rattle.std.proofs.lemmas.List.{get_or_past, get_or-set_same, get_or-set_other, length-set}
 use Rattle.nz_lists.proofs.Numbers.{below_or_past, equal-number, same-number}
 use Rattle.nz_fractions.specs.Fraction.{whole}
-use Rattle.nz_spec.specs.simplex.Basis.{Coefficients}
 use Rattle.nz_spec.specs.simplex.BasisMoves.{numbers, exchanged}
-use Rattle.nz_tab.specs.Rows.{DenseRow, Grid, coefficient, is_marked, is_nonbasic, place_in, row_in, rows_of}
+use Rattle.nz_tab.specs.Entries.{IsSparse, coefficient_in}
+use Rattle.nz_tab.specs.Rows.{Grid, SparseRow, coefficient, is_marked, is_nonbasic, row_of, rows_of}
+use Rattle.nz_tab.proofs.Sparse.{sparse_none}
 use Rattle.nz_tab.proofs.Numbers.{count_both}
 
--- ---- Rows in a block
-
-module _ (h : ℕ → Coefficients) (ks : List ℕ) where
-  row_long : (r : ℕ) → length (map (h r) ks) ≡ length ks
-  row_long r = length-map ks (h r)
-
-  -- the row of a place, in a block of rows that are as long as each other
-  pub row_in_block : (rs : List ℕ) (p : ℕ) → p < length rs → row_in (flat_map (λ r. map (h r) ks) rs) (length ks) p ≡ map (h (slice_index_or rs p 0)) ks
-  row_in_block [] p e = absurd (omega (arith, e))
-  row_in_block (r ∷ rs) zero e =
-      let rest = flat_map (λ m. map (h m) ks) rs in
-      let none : zero * length ks ≡ zero = omega arith in
-      ap (λ (n : ℕ). take (length ks) (drop n (map (h r) ks ++ rest))) none
-      ∙ ap (λ (n : ℕ). take n (map (h r) ks ++ rest)) (sym (row_long r))
-      ∙ take-append_seam (map (h r) ks) rest
-  row_in_block (r ∷ rs) (suc p) e =
-      let rest = flat_map (λ m. map (h m) ks) rs in
-      let far : suc p * length ks ≡ length (map (h r) ks) + p * length ks = omega (arith, row_long r) in
-      ap (λ (n : ℕ). take (length ks) (drop n (map (h r) ks ++ rest))) far
-      ∙ ap (take (length ks)) (drop-append-add (map (h r) ks) rest (p * length ks))
-      ∙ row_in_block rs p (omega (arith, e))
-
-  pub block_long : (rs : List ℕ) → length (flat_map (λ r. map (h r) ks) rs) ≡ length rs * length ks
-  block_long [] = omega arith
-  block_long (r ∷ rs) = length-append (map (h r) ks) (flat_map (λ m. map (h m) ks) rs) ∙ omega (arith, row_long r, block_long rs)
-
 -- at a basic form there is none
-pub no_coefficient : (row : DenseRow) (k : ℕ) → is_marked row.marks k ≡ false → coefficient row k ≡ whole (pos 0)
-no_coefficient row k e = ap (λ (b : Bool). if b then slice_index_or row.coefficients (place_in row.places k) (whole (pos 0)) else whole (pos 0)) e
+pub no_coefficient : (row : SparseRow) (k : ℕ) → is_marked row.marks k ≡ false → coefficient row k ≡ whole (pos 0)
+no_coefficient row k e = ap (λ (b : Bool). if b then coefficient_in row.entries k else whole (pos 0)) e
 
--- that of a basic form at a nonbasic one stands in its row, in the column of the other
-pub coefficient_there : (g : Grid) (r k : ℕ) → is_nonbasic g r ≡ false → is_nonbasic g k ≡ true → rows_of g r k ≡ slice_index_or (slice_index_or g.rows (place_in g.places r) []) (place_in g.places k) (whole (pos 0))
+-- that of a basic form at a nonbasic one stands in its row
+pub coefficient_there : (g : Grid) (r k : ℕ) → is_nonbasic g r ≡ false → is_nonbasic g k ≡ true → rows_of g r k ≡ coefficient_in (slice_index_or g.rows r []) k
 coefficient_there g r k is_basic marked =
-    ap (λ (b : Bool). if b then slice_index_or (if is_nonbasic g r then [] else slice_index_or g.rows (place_in g.places r) []) (place_in g.places k) (whole (pos 0)) else whole (pos 0)) marked
-    ∙ ap (λ (b : Bool). slice_index_or (if b then [] else slice_index_or g.rows (place_in g.places r) []) (place_in g.places k) (whole (pos 0))) is_basic
+    ap (λ (b : Bool). if b then coefficient_in (if is_nonbasic g r then [] else slice_index_or g.rows r []) k else whole (pos 0)) marked
+    ∙ ap (λ (b : Bool). coefficient_in (if b then [] else slice_index_or g.rows r []) k) is_basic
+
+-- the entries of a basic form are those of its list
+pub row_entries : (g : Grid) (r : ℕ) → is_nonbasic g r ≡ false → (row_of g r).entries ≡ slice_index_or g.rows r []
+row_entries g r is_basic = ap (λ (b : Bool). if b then [] else slice_index_or g.rows r []) is_basic
+
+-- a row has that of its list, also where it has none
+pub coefficient_same : (g : Grid) (r k : ℕ) → is_nonbasic g r ≡ false → IsSparse (length g.marks) (is_nonbasic g) (slice_index_or g.rows r []) → rows_of g r k ≡ coefficient_in (slice_index_or g.rows r []) k
+coefficient_same g r k is_basic sparse = by_test (is_nonbasic g k) refl
+  where
+    by_test : (b : Bool) → is_nonbasic g k ≡ b → rows_of g r k ≡ coefficient_in (slice_index_or g.rows r []) k
+    by_test true e = coefficient_there g r k is_basic e
+    by_test false e = no_coefficient (row_of g r) k e ∙ sym (sparse_none (is_nonbasic g) (length g.marks) (slice_index_or g.rows r []) sparse k e)
 
 -- ---- Marks
 

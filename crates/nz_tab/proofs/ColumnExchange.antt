@@ -1,9 +1,7 @@
 -- An exchange that goes over the columns one by one is the exchange of the definitions.
-use Rattle.std.proofs.Common.{◌≡◌, ℕ, Bool, true, false, List, [], ◌∷◌, ◌++◌, map, flat_map, pos, refl, sym, ap, ◌∙◌, true≢false}
+use Rattle.std.proofs.Common.{◌≡◌, ℕ, Bool, true, false, List, [], ◌∷◌, map, flat_map, pos, refl, sym, ap, ◌∙◌, true≢false}
 use Rattle.std.specs.Prelude.{◌==◌, not, ◌&&◌, if◌then◌else◌, ◌≢◌}
 use Rattle.std.specs.List.{AllByRecursion}
-use Rattle.std.proofs.lemmas.Grind.{flat_map-append}
-use Rattle.std.proofs.lemmas.List.{append-nil}
 use Rattle.std.proofs.lemmas.List.Concat.{flat_map_single}
 use Rattle.nz_lists.proofs.Elements.{AllByRecursion-weaker}
 use Rattle.nz_lists.proofs.Numbers.{equal-number, other-number, same-number}
@@ -12,8 +10,9 @@ use Rattle.nz_spec.specs.numbers.Computation.{Computation, operated, at_once, tu
 use Rattle.nz_spec.specs.terms.Term.{is_zero}
 use Rattle.nz_spec.specs.simplex.Basis.{Coefficients}
 use Rattle.nz_spec.specs.simplex.BasisMoves.{numbers, Rows, plus_multiple, exchanged, solved, replaced}
-use Rattle.nz_tab.specs.Each.{alone, with_multiple}
-use Rattle.nz_tab.specs.Exchanges.{changed_rows, changes, solved_part, solved_row, sum_row}
+use Rattle.nz_tab.specs.Each.{if_kept, with_multiple}
+use Rattle.nz_tab.specs.Entries.{kept, nonzeros}
+use Rattle.nz_tab.specs.Exchanges.{changes, solved_part, solved_row, sum_row}
 use Rattle.nz_tab.proofs.Numbers.{all_pass, counted, flat_numbers, flat-same, flat_all, where_passes}
 
 -- ---- Tests of numbers
@@ -52,11 +51,11 @@ module _ (f : ℕ → Bool) (i j : ℕ) (a : Coefficients) (leaves : f i ≡ fal
   one_quotient k false false true h = refl
   one_quotient k false false false h = refl
 
-  pub quotients_same : (n : ℕ) → flat_map (λ k. (alone (solved_part i (a j) inverse a k)).operations) (numbers n (exchanged f i j)) ≡ map quotient_of (numbers n (λ k. f k && not (k == j)))
+  pub quotients_same : (n : ℕ) → flat_map (λ k. (if_kept k (solved_part i (a j) inverse a k)).operations) (numbers n (exchanged f i j)) ≡ map quotient_of (numbers n (λ k. f k && not (k == j)))
   quotients_same n =
-      flat_numbers (λ k. (alone (solved_part i (a j) inverse a k)).operations) (exchanged f i j) n
+      flat_numbers (λ k. (if_kept k (solved_part i (a j) inverse a k)).operations) (exchanged f i j) n
       ∙ flat_all
-      (where_passes (λ k. (alone (solved_part i (a j) inverse a k)).operations) (exchanged f i j))
+      (where_passes (λ k. (if_kept k (solved_part i (a j) inverse a k)).operations) (exchanged f i j))
       (where_passes (λ k. quotient_of k ∷ []) (λ k. f k && not (k == j)))
       (λ k. one_quotient k (k == i) (k == j) (f k) (λ e. ap f (same-number k i e) ∙ leaves))
       (counted n)
@@ -64,29 +63,28 @@ module _ (f : ℕ → Bool) (i j : ℕ) (a : Coefficients) (leaves : f i ≡ fal
       ∙ flat_map_single quotient_of (numbers n (λ k. f k && not (k == j)))
 
   one_solved : (x : Fraction) (b c d : Bool) → (if b then true else if c then false else d) ≡ true
-      → (if b then at_once inverse else at_once (neg_ℚ x)).result ∷ [] ≡ (if b then inverse else if c then whole (pos 0) else neg_ℚ x) ∷ []
+      → (if b then at_once inverse else at_once (neg_ℚ x)).result ≡ (if b then inverse else if c then whole (pos 0) else neg_ℚ x)
   one_solved x true c d e = refl
   one_solved x false true d e = absurd (true≢false (sym e))
   one_solved x false false d e = refl
 
   result_of : (x : Fraction) (b : Bool) (k : ℕ) → x ≡ outcome Quotient (a k) (a j)
-      → (if b then at_once inverse else turned_into neg_ℚ (operated Quotient (a k) (a j))).result ∷ [] ≡ (if b then at_once inverse else at_once (neg_ℚ x)).result ∷ []
+      → (if b then at_once inverse else turned_into neg_ℚ (operated Quotient (a k) (a j))).result ≡ (if b then at_once inverse else at_once (neg_ℚ x)).result
   result_of x true k e = refl
-  result_of x false k e = ap (λ (y : Fraction). neg_ℚ y ∷ []) (sym e)
+  result_of x false k e = ap neg_ℚ (sym e)
 
   -- the definition's coefficients of the form that enters
   abbrev pub entering : ℕ → Coefficients
   entering n = (solved (numbers n (λ k. f k && not (k == j))) i j a).result
 
-  pub solved_same : (n : ℕ) → (solved_row (numbers n (exchanged f i j)) i j a).result ≡ map (entering n) (numbers n (exchanged f i j))
+  pub solved_same : (n : ℕ) → (solved_row (numbers n (exchanged f i j)) i j a).result ≡ nonzeros (numbers n (exchanged f i j)) (entering n)
   solved_same n =
       flat-same
-      (λ k. (alone (solved_part i (a j) inverse a k)).result)
-      (λ k. entering n k ∷ [])
+      (λ k. (if_kept k (solved_part i (a j) inverse a k)).result)
+      (λ k. kept k (entering n k))
       (λ k. exchanged f i j k ≡ true)
-      (λ k e. result_of (outcome Quotient (a k) (a j)) (k == i) k refl ∙ one_solved (outcome Quotient (a k) (a j)) (k == i) (k == j) (f k) e)
+      (λ k e. ap (kept k) (result_of (outcome Quotient (a k) (a j)) (k == i) k refl ∙ one_solved (outcome Quotient (a k) (a j)) (k == i) (k == j) (f k) e))
       (numbers n (exchanged f i j)) (all_pass (exchanged f i j) n)
-      ∙ flat_map_single (entering n) (numbers n (exchanged f i j))
 
   pub solved_operations : (n : ℕ) → (solved_row (numbers n (exchanged f i j)) i j a).operations ≡ (solved (numbers n (λ k. f k && not (k == j))) i j a).operations
   solved_operations n = ap (λ (l : List Operation). record { operator = Quotient; left = whole (pos 1); right = a j } ∷ l) (quotients_same n)
@@ -107,16 +105,15 @@ module _ (j : ℕ) (q c : Coefficients) (ks : List ℕ) (without : AllByRecursio
   left_there : (k : ℕ) → k ≢ j → c k ≡ left k
   left_there k e = ap (λ (b : Bool). if b then whole (pos 0) else c k) (sym (other-number k j e))
 
-  pub sums_same : (s : Fraction) → (sum_row ks s q c).result ≡ map (plus_multiple ks left s q).result ks
+  pub sums_same : (s : Fraction) → (sum_row ks s q c).result ≡ nonzeros ks (plus_multiple ks left s q).result
   sums_same s =
-      flat-same (λ k. (alone (with_multiple s q c k)).result) (λ k. outcome Sum (left k) (outcome Product s (q k)) ∷ []) (λ k. k ≢ j)
-      (λ k e. ap (λ (x : Fraction). outcome Sum x (outcome Product s (q k)) ∷ []) (left_there k e))
+      flat-same (λ k. (if_kept k (with_multiple s q c k)).result) (λ k. kept k (outcome Sum (left k) (outcome Product s (q k)))) (λ k. k ≢ j)
+      (λ k e. ap (λ (x : Fraction). kept k (outcome Sum x (outcome Product s (q k)))) (left_there k e))
       ks without
-      ∙ flat_map_single (plus_multiple ks left s q).result ks
 
   pub sum_operations : (s : Fraction) → (sum_row ks s q c).operations ≡ (plus_multiple ks left s q).operations
   sum_operations s =
-      flat-same (λ k. (alone (with_multiple s q c k)).operations)
+      flat-same (λ k. (if_kept k (with_multiple s q c k)).operations)
       (λ k. record { operator = Product; left = s; right = q k } ∷ record { operator = Sum; left = left k; right = outcome Product s (q k) } ∷ [])
       (λ k. k ≢ j)
       (λ k e. ap (λ (x : Fraction). (let first : Operation = record { operator = Product; left = s; right = q k } in first) ∷ (let second : Operation = record { operator = Sum; left = x; right = outcome Product s (q k) } in second) ∷ []) (left_there k e))
@@ -146,28 +143,13 @@ module _ (f : ℕ → Bool) (rows : Rows) (ks : List ℕ) (i j : ℕ) (q : Coeff
   abbrev pub changing : ℕ → Bool
   changing = changes f rows i j
 
-  one_result : (r : ℕ) → changing r ≡ true → (sum_row ks (rows r j) q (rows r)).result ≡ map (row_then r) ks
+  pub one_result : (r : ℕ) → changing r ≡ true → (sum_row ks (rows r j) q (rows r)).result ≡ nonzeros ks (row_then r)
   one_result r e =
       let parts = three_parts (f r) (r == i) (is_zero (rows r j)) e in
       let other : r ≢ j = λ same. true≢false (sym enters ∙ ap f (sym same) ∙ parts.0) in
       sums_same j q (rows r) ks without (rows r j)
-      ∙ ap (λ (x : Computation Coefficients). map x.result ks) (sym (row_moves ks j q (rows r) parts.1.1))
-      ∙ ap (λ (b : Bool). map (if b then q else (replaced ks j q (rows r)).result) ks) (sym (other-number r j other))
-
-  changed_same : (n : ℕ) → (changed_rows rows (numbers n changing) ks j q).result ≡ flat_map (λ r. map (row_then r) ks) (numbers n changing)
-  changed_same n =
-      flat-same (λ r. (sum_row ks (rows r j) q (rows r)).result) (λ r. map (row_then r) ks) (λ r. changing r ≡ true) one_result (numbers n changing) (all_pass changing n)
-
-  -- the rows that are written: those that change, and that of the form that enters
-  pub written_rows : (n : ℕ) (block row : List Fraction) → block ≡ (changed_rows rows (numbers n changing) ks j q).result → row ≡ map q ks
-      → block ++ row ≡ flat_map (λ r. map (row_then r) ks) (numbers n changing ++ j ∷ [])
-  written_rows n block row b s =
-      ap (λ (l : List Fraction). l ++ row) (b ∙ changed_same n)
-      ∙ ap (λ (l : List Fraction). flat_map (λ r. map (row_then r) ks) (numbers n changing) ++ l)
-      (s
-      ∙ ap (λ (x : Bool). map (if x then q else (replaced ks j q (rows j)).result) ks) (sym (equal-number j j refl))
-      ∙ sym (append-nil (map (row_then j) ks)))
-      ∙ sym (flat_map-append (λ r. map (row_then r) ks) (numbers n changing) (j ∷ []))
+      ∙ ap (λ (x : Computation Coefficients). nonzeros ks x.result) (sym (row_moves ks j q (rows r) parts.1.1))
+      ∙ ap (λ (b : Bool). nonzeros ks (if b then q else (replaced ks j q (rows r)).result)) (sym (other-number r j other))
 
   one_operations : (r : ℕ) (a b z : Bool)
       → (if (not a && not b) && not z then (sum_row ks (rows r j) q (rows r)).operations else [])
@@ -178,8 +160,8 @@ module _ (f : ℕ → Bool) (rows : Rows) (ks : List ℕ) (i j : ℕ) (q : Coeff
   one_operations r false false false = sum_operations j q (rows r) ks without (rows r j)
 
   -- a row that stays takes no operation
-  pub changed_operations : (n : ℕ) → (changed_rows rows (numbers n changing) ks j q).operations ≡ flat_map (λ r. (replaced ks j q (rows r)).operations) (numbers n (λ r. not (f r) && not (r == i)))
-  changed_operations n =
+  pub changing_operations : (n : ℕ) → flat_map (λ r. (sum_row ks (rows r j) q (rows r)).operations) (numbers n changing) ≡ flat_map (λ r. (replaced ks j q (rows r)).operations) (numbers n (λ r. not (f r) && not (r == i)))
+  changing_operations n =
       flat_numbers (λ r. (sum_row ks (rows r j) q (rows r)).operations) changing n
       ∙ flat_all
       (where_passes (λ r. (sum_row ks (rows r j) q (rows r)).operations) changing)

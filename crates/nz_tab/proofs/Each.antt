@@ -6,25 +6,27 @@ use Rattle.nz_fractions.specs.Fraction.{Fraction, Operation, first_wide}
 use Rattle.nz_spec.specs.numbers.Computation.{Computation}
 use Rattle.nz_fractions.proofs.FirstOperations.{first_wide-none, first_wide-some, no_operation}
 use Rattle.nz_tab.specs.Comes.{IsDone}
-use Rattle.nz_tab.specs.Each.{alone, behind, each}
+use Rattle.nz_tab.specs.Each.{behind, each, if_kept}
+use Rattle.nz_tab.specs.Entries.{kept}
+use Rattle.nz_tab.specs.declared.entries.Entry.{Entry}
 
 -- nothing yet
-pub each_none : (f : ℕ → Computation (List Fraction)) (old : List Fraction) → IsDone (behind old (each f [])) old
+pub each_none : {A : Type 0} (f : ℕ → Computation (List A)) (old : List A) → IsDone (behind old (each f [])) old
 each_none f old = record { result = sym (append-nil old); fits = no_operation }
 
-module _ (f : ℕ → Computation (List Fraction)) (old : List Fraction) (ks : List ℕ) (now : List Fraction) (done : IsDone (behind old (each f ks)) now) (k : ℕ) where
+module _ {A : Type 0} (f : ℕ → Computation (List A)) (old : List A) (ks : List ℕ) (now : List A) (done : IsDone (behind old (each f ks)) now) (k : ℕ) where
   operations_more : (rest : List ℕ) → (each f (ks ++ k ∷ rest)).operations ≡ (each f ks).operations ++ ((f k).operations ++ flat_map (λ m. (f m).operations) rest)
   operations_more rest = flat_map-append (λ m. (f m).operations) ks (k ∷ rest)
 
   -- one more
-  pub each_more : (later : List Fraction) → IsDone (behind now (f k)) later → IsDone (behind old (each f (ks ++ k ∷ []))) later
+  pub each_more : (later : List A) → IsDone (behind now (f k)) later → IsDone (behind old (each f (ks ++ k ∷ []))) later
   each_more later more = record {
     result =
         more.result
-        ∙ ap (λ (l : List Fraction). l ++ (f k).result) done.result
+        ∙ ap (λ (l : List A). l ++ (f k).result) done.result
         ∙ append_assoc old (each f ks).result (f k).result
-        ∙ ap (λ (l : List Fraction). old ++ ((each f ks).result ++ l)) (sym (append-nil (f k).result))
-        ∙ ap (λ (l : List Fraction). old ++ l) (sym (flat_map-append (λ m. (f m).result) ks (k ∷ [])));
+        ∙ ap (λ (l : List A). old ++ ((each f ks).result ++ l)) (sym (append-nil (f k).result))
+        ∙ ap (λ (l : List A). old ++ l) (sym (flat_map-append (λ m. (f m).result) ks (k ∷ [])));
     fits =
         ap first_wide (operations_more [])
         ∙ first_wide-none (each f ks).operations ((f k).operations ++ []) done.fits
@@ -39,17 +41,17 @@ module _ (f : ℕ → Computation (List Fraction)) (old : List Fraction) (ks : L
       ∙ first_wide-none (each f ks).operations ((f k).operations ++ flat_map (λ m. (f m).operations) rest) done.fits
       ∙ first_wide-some (f k).operations (flat_map (λ m. (f m).operations) rest) w stop
 
--- one number more
-pub one_done : (c : Computation Fraction) (now : List Fraction) (x : Fraction) → IsDone c x → IsDone (behind now (alone c)) (now ++ x ∷ [])
-one_done c now x h = record { result = ap (λ (y : Fraction). now ++ y ∷ []) h.result; fits = h.fits }
+-- one coefficient more
+pub one_kept : (k : ℕ) (c : Computation Fraction) (now : List Entry) (x : Fraction) → IsDone c x → IsDone (behind now (if_kept k c)) (now ++ kept k x)
+one_kept k c now x h = record { result = ap (λ (y : Fraction). now ++ kept k y) h.result; fits = h.fits }
 
 -- ---- A loop over the numbers of a list
 
 split_at : (ks : List ℕ) (i : ℕ) → i < length ks → ks ≡ take i ks ++ get_or ks i 0 ∷ drop (i + 1) ks
 split_at ks i inside = sym (take-append-drop i ks) ∙ ap (λ (l : List ℕ). take i ks ++ l) (drop_more ks i 0 inside)
 
-module _ (f : ℕ → Computation (List Fraction)) (old : List Fraction) (ks : List ℕ) (i : ℕ) (now : List Fraction) (done : IsDone (behind old (each f (take i ks))) now) where
-  pub turn : i < length ks → (later : List Fraction) → IsDone (behind now (f (get_or ks i 0))) later → IsDone (behind old (each f (take (i + 1) ks))) later
+module _ {A : Type 0} (f : ℕ → Computation (List A)) (old : List A) (ks : List ℕ) (i : ℕ) (now : List A) (done : IsDone (behind old (each f (take i ks))) now) where
+  pub turn : i < length ks → (later : List A) → IsDone (behind now (f (get_or ks i 0))) later → IsDone (behind old (each f (take (i + 1) ks))) later
   turn inside later more =
       subst (λ (l : List ℕ). IsDone (behind old (each f l)) later) (sym (take_more ks i 0 inside))
       (each_more f old (take i ks) now done (get_or ks i 0) later more)

@@ -3,11 +3,13 @@ use Rattle.std.proofs.Common.{◌≡◌, ℕ, zero, suc, ◌+◌, ◌<◌, ◌�
 use Rattle.std.specs.Prelude.{if◌then◌else◌, not, ◌≢◌, slice_index_or}
 use Rattle.std.proofs.Math.Seq.{get_or-append_seam}
 use Rattle.std.proofs.lemmas.Grind.{flat_map-append}
-use Rattle.std.proofs.lemmas.List.{append-nil, append_assoc, length_push, length-append}
+use Rattle.std.proofs.lemmas.List.{append-nil, append_assoc, get_or_append_left, length_push, length-append}
+use Rattle.std.proofs.lemmas.List.Elements.{All-from_recursion}
 use Rattle.std.specs.List.{AllByRecursion}
 use Rattle.nz_lists.proofs.Elements.{AllByRecursion-append}
 use Rattle.nz_lists.proofs.Numbers.{same_or_below}
 use Rattle.nz_spec.specs.simplex.BasisMoves.{numbers}
+use Rattle.nz_tab.specs.Exchanges.{AreDistinct}
 use Rattle.nz_tab.specs.Rows.{basic}
 
 -- ---- One number more
@@ -139,3 +141,81 @@ count_fewer f g weaker (suc n) = by_test (f n) (g n) (weaker n) (count_fewer f g
     by_test true false h e = absurd (true≢false (sym (h refl)))
     by_test false true h e = omega (arith, e, length_push (numbers n g) n)
     by_test false false h e = e
+
+-- ---- Lists without repetition
+
+-- one number more, which is another
+pub distinct_push : (ks : List ℕ) (k : ℕ) → AreDistinct ks → ((p : ℕ) → p < length ks → slice_index_or ks p 0 ≢ k) → AreDistinct (ks ++ k ∷ [])
+distinct_push ks k distinct other p q inside within same =
+    by_places
+    (same_or_below p (length ks) (omega (arith, inside, length_push ks k)))
+    (same_or_below q (length ks) (omega (arith, within, length_push ks k)))
+  where
+    before : (m : ℕ) → m < length ks → slice_index_or (ks ++ k ∷ []) m 0 ≡ slice_index_or ks m 0
+    before m e = get_or_append_left ks (k ∷ []) 0 m e
+
+    at_end : (m : ℕ) → m ≡ length ks → slice_index_or (ks ++ k ∷ []) m 0 ≡ k
+    at_end m e = ap (λ (x : ℕ). slice_index_or (ks ++ k ∷ []) x 0) e ∙ get_or-append_seam ks k [] 0
+
+    by_places : (p ≡ length ks) ⊎ (p < length ks) → (q ≡ length ks) ⊎ (q < length ks) → p ≡ q
+    by_places (inl e) (inl h) = e ∙ sym h
+    by_places (inl e) (inr h) = absurd (other q h (sym (before q h) ∙ sym same ∙ at_end p e))
+    by_places (inr e) (inl h) = absurd (other p e (sym (before p e) ∙ same ∙ at_end q h))
+    by_places (inr e) (inr h) = distinct p q e h (sym (before p e) ∙ same ∙ before q h)
+
+pub all_below : (f : ℕ → Bool) (n m : ℕ) → n ≤ m → AllByRecursion (λ k. k < m) (numbers n f)
+all_below f zero m h = _
+all_below f (suc n) m h = by_test (f n) (all_below f n m (omega (arith, h)))
+  where
+    by_test : (b : Bool) → AllByRecursion (λ k. k < m) (numbers n f) → AllByRecursion (λ k. k < m) (if b then numbers n f ++ n ∷ [] else numbers n f)
+    by_test true rest = AllByRecursion-append (λ k. k < m) (numbers n f) (n ∷ []) rest (omega (arith, h), _)
+    by_test false rest = rest
+
+pub below_at : (f : ℕ → Bool) (n p : ℕ) → p < length (numbers n f) → slice_index_or (numbers n f) p 0 < n
+below_at f n p inside = All-from_recursion (λ k. k < n) (numbers n f) (all_below f n n (omega arith)) p 0 inside
+
+pub passes_at : (f : ℕ → Bool) (n p : ℕ) → p < length (numbers n f) → f (slice_index_or (numbers n f) p 0) ≡ true
+passes_at f n p inside = All-from_recursion (λ k. f k ≡ true) (numbers n f) (all_pass f n) p 0 inside
+
+pub numbers_distinct : (f : ℕ → Bool) (n : ℕ) → AreDistinct (numbers n f)
+numbers_distinct f zero = λ p q inside within same. absurd (omega (arith, inside))
+numbers_distinct f (suc n) = by_test (f n) (numbers_distinct f n)
+  where
+    by_test : (b : Bool) → AreDistinct (numbers n f) → AreDistinct (if b then numbers n f ++ n ∷ [] else numbers n f)
+    by_test true rest = distinct_push (numbers n f) n rest (λ p e same. omega (arith, below_at f n p e, same))
+    by_test false rest = rest
+
+-- ---- Numbers below a bound
+
+same_below : (f h : ℕ → Bool) (n : ℕ) → ((k : ℕ) → k < suc n → f k ≡ h k) → (k : ℕ) → k < n → f k ≡ h k
+same_below f h n same k e = same k (omega (arith, e))
+
+pub numbers_below : (f h : ℕ → Bool) (n : ℕ) → ((k : ℕ) → k < n → f k ≡ h k) → numbers n f ≡ numbers n h
+numbers_below f h zero same = refl
+numbers_below f h (suc n) same =
+    ap (λ (b : Bool). if b then numbers n f ++ n ∷ [] else numbers n f) (same n (omega arith))
+    ∙ ap (λ (l : List ℕ). if h n then l ++ n ∷ [] else l) (numbers_below f h n (same_below f h n same))
+
+less_far : (f : ℕ → Bool) (n m : ℕ) → ((k : ℕ) → n ≤ k → k < n + suc m → f k ≡ false) → (k : ℕ) → n ≤ k → k < n + m → f k ≡ false
+less_far f n m none k e h = none k e (omega (arith, h))
+
+-- what doesn't pass adds nothing
+pub numbers_none : (f : ℕ → Bool) (n m : ℕ) → ((k : ℕ) → n ≤ k → k < n + m → f k ≡ false) → numbers (n + m) f ≡ numbers n f
+numbers_none f n zero none = ap (λ (x : ℕ). numbers x f) (omega arith)
+numbers_none f n (suc m) none =
+    let far : n + suc m ≡ suc (n + m) = omega arith in
+    ap (λ (x : ℕ). numbers x f) far
+    ∙ ap (λ (b : Bool). if b then numbers (n + m) f ++ (n + m) ∷ [] else numbers (n + m) f) (none (n + m) (omega arith) (omega arith))
+    ∙ numbers_none f n m (less_far f n m none)
+
+-- what passes adds one each
+pub numbers_all : (f : ℕ → Bool) (n m : ℕ) → ((k : ℕ) → n ≤ k → k < n + m → f k ≡ true) → length (numbers (n + m) f) ≡ length (numbers n f) + m
+numbers_all f n zero all =
+    let none : n + zero ≡ n = omega arith in
+    ap (λ (x : ℕ). length (numbers x f)) none ∙ omega arith
+numbers_all f n (suc m) all =
+    let far : n + suc m ≡ suc (n + m) = omega arith in
+    ap (λ (x : ℕ). length (numbers x f)) far
+    ∙ ap length (one_passes f (n + m) (all (n + m) (omega arith) (omega arith)))
+    ∙ length_push (numbers (n + m) f) (n + m)
+    ∙ omega (arith, numbers_all f n m (λ k e h. all k e (omega (arith, h))))

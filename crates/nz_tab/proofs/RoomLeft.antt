@@ -1,15 +1,13 @@
 -- The room that was made for a sum is enough behind its units, and behind the sum.
-use Rattle.std.proofs.Common.{◌≡◌, ℕ, suc, add-one, ◌+◌, ◌*◌, ◌≤◌, Bool, false, List, length, ap, ◌∙◌, arith}
+use Rattle.std.proofs.Common.{◌≡◌, ℕ, suc, add-one, ◌+◌, Bool, false, List, length, ap, ◌∙◌, arith}
 use Rattle.std.specs.Prelude.{not}
 use Rattle.std.proofs.Math.Path.{fun_ext}
 use Rattle.std.proofs.lemmas.List.{get_or_past, length_push}
-use Rattle.std.proofs.lemmas.Nat.{mul-le}
 use Rattle.nz_fractions.specs.Fraction.{Fraction}
 use Rattle.nz_spec.specs.simplex.BasisMoves.{numbers}
 use Rattle.nz_tab.specs.Rows.{Grid, HasRoom, basic, is_nonbasic}
 use Rattle.nz_tab.specs.Sums.{HasRoomForSum, IsSummed, IsWidened}
-use Rattle.nz_tab.proofs.Numbers.{one_fails, one_passes}
-use Rattle.nz_tab.proofs.AddedColumns.{numbers_all, numbers_below, numbers_none}
+use Rattle.nz_tab.proofs.Numbers.{numbers_all, numbers_below, numbers_none, one_fails, one_passes}
 
 module _ (old mid : Grid) (units : ℕ) (w : IsWidened old mid units) where
   abbrev n : ℕ
@@ -30,20 +28,15 @@ module _ (old mid : Grid) (units : ℕ) (w : IsWidened old mid units) where
       ∙ numbers_none (basic (is_nonbasic mid)) n units (λ k e h. ap not (w.behind k e h))
       ∙ numbers_below (basic (is_nonbasic mid)) (basic (is_nonbasic old)) n (λ k e. ap not (w.before k e))
 
-  module _ (columns written solved spare : ℕ) (room : HasRoomForSum old units columns written solved spare) where
+  module _ (columns written solved : ℕ) (spare : List ℕ) (room : HasRoomForSum old units columns written solved spare) where
     pub room_for_units : HasRoom mid columns written solved spare
-    room_for_units =
-        let fits : length (numbers n (basic (is_nonbasic old))) * wide ≤ (length (numbers n (basic (is_nonbasic old))) + 1) * wide =
-        mul-le (length (numbers n (basic (is_nonbasic old)))) wide (length (numbers n (basic (is_nonbasic old))) + 1) wide (omega arith) (omega arith) in
-        let size : length (numbers (length mid.marks) (basic (is_nonbasic mid))) * length (numbers (length mid.marks) (is_nonbasic mid)) ≡ length (numbers n (basic (is_nonbasic old))) * wide =
-        ap (λ (l : List ℕ). length l * length (numbers (length mid.marks) (is_nonbasic mid))) same_basics
-        ∙ ap (λ (m : ℕ). length (numbers n (basic (is_nonbasic old))) * m) wide_columns in
-        record {
-          for_columns = omega (arith, w.count, room.for_columns);
-          for_written = omega (arith, w.count, room.for_written);
-          for_solved = omega (arith, w.count, room.for_solved);
-          for_block = omega (arith, size, fits, room.for_block);
-        }
+    room_for_units = record {
+      for_columns = omega (arith, w.count, room.for_columns);
+      for_written = omega (arith, w.count, room.for_written);
+      for_solved = omega (arith, wide_columns, room.for_solved);
+      for_rows = omega (arith, ap length same_basics, room.for_rows);
+      for_entries = λ p d e. omega (arith, wide_columns, room.for_entries p d e);
+    }
 
     module _ (new : Grid) (qs : List (ℕ × Fraction)) (s : IsSummed mid new qs) where
       marks_are : is_nonbasic new ≡ is_nonbasic mid
@@ -68,13 +61,10 @@ module _ (old mid : Grid) (units : ℕ) (w : IsWidened old mid units) where
           ∙ ap (λ (l : List ℕ). length l + 1) same_basics
 
       pub room_for_sum : HasRoom new columns written solved spare
-      room_for_sum =
-          let size : length (numbers (length new.marks) (basic (is_nonbasic new))) * length (numbers (length new.marks) (is_nonbasic new)) ≡ (length (numbers n (basic (is_nonbasic old))) + 1) * wide =
-          ap (λ (m : ℕ). m * length (numbers (length new.marks) (is_nonbasic new))) summed_basics
-          ∙ ap (λ (m : ℕ). (length (numbers n (basic (is_nonbasic old))) + 1) * m) summed_columns in
-          record {
-            for_columns = omega (arith, w.count, s.count, room.for_columns);
-            for_written = omega (arith, w.count, s.count, room.for_written);
-            for_solved = omega (arith, w.count, s.count, room.for_solved);
-            for_block = omega (arith, size, room.for_block);
-          }
+      room_for_sum = record {
+        for_columns = omega (arith, w.count, s.count, room.for_columns);
+        for_written = omega (arith, w.count, s.count, room.for_written);
+        for_solved = omega (arith, summed_columns, room.for_solved);
+        for_rows = omega (arith, summed_basics, room.for_rows);
+        for_entries = λ p d e. omega (arith, summed_columns, room.for_entries p d e);
+      }

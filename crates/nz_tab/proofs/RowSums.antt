@@ -1,22 +1,25 @@
 -- A row to which forms are added one by one, qs a list of its coefficients.
 use Rattle.std.proofs.Common.{◌≡◌, ℕ, zero, suc, ◌+◌, ◌<◌, ◌≤◌, Bool, true, false, ◌⊎◌, inl, inr, List, [], ◌∷◌, ◌++◌, length, map, get_or, take, drop, set, Some, None, Result, Ok, Err, pos, refl, sym, ap, ◌∙◌, subst, arith, replicate}
-use Rattle.std.specs.Prelude.{if◌then◌else◌, ◌==◌, ◌≢◌}
+use Rattle.std.specs.Prelude.{All, if◌then◌else◌, ◌==◌, ◌≢◌}
+use Rattle.std.proofs.lemmas.List.Elements.{All-from_recursion}
+use Rattle.nz_spec.specs.terms.Term.{is_zero}
 use Rattle.std.proofs.lemmas.Grind.{flat_map-append}
 use Rattle.std.proofs.lemmas.List.{append-nil, append_assoc, drop_all, drop_more, get_or-map, get_or_at, length-map, length-take-le, map_push, set-append_left, set_at, take-append-drop, take_all, take_more}
 use Rattle.nz_lists.proofs.Numbers.{equal-number, other-number, same_or_below}
-use Rattle.nz_fractions.specs.Fraction.{Fraction, Operation, Product, Sum, first_wide, outcome, whole}
+use Rattle.nz_fractions.specs.Fraction.{Fraction, Operation, Product, Sum, ZerosAreNeverWide, first_wide, outcome, whole}
 use Rattle.nz_spec.specs.numbers.Computation.{Computation, and_then, operated, turned_into}
 use Rattle.nz_spec.specs.simplex.Basis.{Coefficients}
 use Rattle.nz_spec.specs.simplex.BasisMoves.{Rows, numbers, plus_multiple}
 use Rattle.nz_frac.specs.declared.frac.Wide.{Wide}
 use Rattle.nz_tab.specs.Comes.{Comes, IsDone}
 use Rattle.nz_tab.specs.Each.{with_multiple}
-use Rattle.nz_tab.specs.Rows.{AreSlotted, coefficients_at, place_in, slot_at}
+use Rattle.nz_tab.specs.Entries.{AreReduced}
+use Rattle.nz_tab.specs.Rows.{coefficients_at}
 use Rattle.nz_tab.specs.Sums.{all_added, one_added}
 use Rattle.nz_fractions.proofs.FirstOperations.{first_wide-none, first_wide-some, no_operation}
-use Rattle.nz_tab.proofs.AddedColumns.{zeros_there}
-use Rattle.nz_tab.proofs.Numbers.{number_at, one_passes, place_within}
-use Rattle.nz_tab.proofs.Slots.{read_slot, set_slot}
+use Rattle.nz_tab.proofs.Columns.{read_place, set_place}
+use Rattle.nz_tab.proofs.Numbers.{all_below, number_at, numbers_distinct, one_passes, place_within}
+use Rattle.nz_tab.proofs.Reduced.{lowest_whole, outcome_lowest}
 
 -- ---- One form after another
 
@@ -240,16 +243,16 @@ module _ (n : ℕ) (f : ℕ → Bool) (rows : Rows) (c : Coefficients) (k : ℕ)
   pub same_row : f k ≡ false → (d : Coefficients) → d ≡ rows k → turned_into (λ (x : Coefficients). map x columns) (plus_multiple columns c q d) ≡ turned_into (λ (x : Coefficients). map x columns) (one_added columns f rows c (k, q))
   same_row fails d e = ap (λ (x : Coefficients). turned_into (λ (y : Coefficients). map y columns) (plus_multiple columns c q x)) e ∙ ap wanted (sym fails)
 
--- ---- Through slots
+-- ---- At the number of a form
 
 -- what is read of what came
 comes_read : {X : Type 0} (h : List Fraction → List Fraction) (c d : Computation (List Fraction)) (now : List Fraction) → h c.result ≡ d.result → c.operations ≡ d.operations → (r : Result X Wide) → Comes c now r → Comes d (h now) r
 comes_read h c d now e o (Ok x) k = record { result = ap h k.result ∙ e; fits = ap first_wide (sym o) ∙ k.fits }
 comes_read h c d now e o (Err w) k = ap first_wide (sym o) ∙ k
 
--- a nonbasic form is added in its column
-module _ (n : ℕ) (f : ℕ → Bool) (rows : Rows) (c : Coefficients) (k : ℕ) (q : Fraction) (inside : k < n) (passes : f k ≡ true) (places : List ℕ) (old : List Fraction) (slots : AreSlotted places (numbers n f) (length old))
-    (e : coefficients_at places (numbers n f) old ≡ map c (numbers n f)) where
+-- a nonbasic form is added at its number
+module _ (n : ℕ) (f : ℕ → Bool) (rows : Rows) (c : Coefficients) (k : ℕ) (q : Fraction) (inside : k < n) (passes : f k ≡ true) (old : List Fraction) (long : length old ≡ n)
+    (e : coefficients_at (numbers n f) old ≡ map c (numbers n f)) where
   abbrev ks : List ℕ
   ks = numbers n f
 
@@ -257,7 +260,7 @@ module _ (n : ℕ) (f : ℕ → Bool) (rows : Rows) (c : Coefficients) (k : ℕ)
   p = length (numbers k f)
 
   abbrev seen : List Fraction
-  seen = coefficients_at places ks old
+  seen = coefficients_at ks old
 
   abbrev sum_at : List Fraction → ℕ → Computation (List Fraction)
   sum_at l m = turned_into (λ (x : Fraction). set l m x) (operated Sum (get_or l m (whole (pos 0))) q)
@@ -265,34 +268,71 @@ module _ (n : ℕ) (f : ℕ → Bool) (rows : Rows) (c : Coefficients) (k : ℕ)
   within : p < length ks
   within = place_within f k n passes inside
 
-  slot : place_in places k ≡ slot_at places ks p
-  slot = ap (place_in places) (sym (number_at f k n 0 passes inside))
+  number : k ≡ get_or ks p 0
+  number = sym (number_at f k n 0 passes inside)
 
   in_list : sum_at seen p ≡ turned_into (λ (d : Coefficients). map d ks) (one_added ks f rows c (k, q))
   in_list = same_place n f rows c k q inside passes seen e p refl
 
-  read_there : get_or seen p (whole (pos 0)) ≡ get_or old (slot_at places ks p) (whole (pos 0))
-  read_there = read_slot places old ks p (whole (pos 0)) within
+  read_there : get_or seen p (whole (pos 0)) ≡ get_or old (get_or ks p 0) (whole (pos 0))
+  read_there = read_place old ks p (whole (pos 0)) within
 
-  result_there : coefficients_at places ks (sum_at old (place_in places k)).result ≡ (sum_at seen p).result
+  listed_within : All (λ m. m < length old) ks
+  listed_within = λ m d less. omega (arith, long, All-from_recursion (λ x. x < n) ks (all_below f n n (omega arith)) m d less)
+
+  result_there : coefficients_at ks (sum_at old k).result ≡ (sum_at seen p).result
   result_there =
-      ap (λ (m : ℕ). coefficients_at places ks (sum_at old m).result) slot
-      ∙ set_slot places ks old p (outcome Sum (get_or old (slot_at places ks p) (whole (pos 0))) q) slots within
+      ap (λ (m : ℕ). coefficients_at ks (sum_at old m).result) number
+      ∙ set_place ks old p (outcome Sum (get_or old (get_or ks p 0) (whole (pos 0))) q) (numbers_distinct f n) listed_within within
       ∙ ap (λ (z : Fraction). set seen p (outcome Sum z q)) (sym read_there)
 
-  operations_there : (sum_at old (place_in places k)).operations ≡ (sum_at seen p).operations
+  operations_there : (sum_at old k).operations ≡ (sum_at seen p).operations
   operations_there =
-      ap (λ (m : ℕ). (sum_at old m).operations) slot
+      ap (λ (m : ℕ). (sum_at old m).operations) number
       ∙ ap (λ (z : Fraction). (let o : Operation = record { operator = Sum; left = z; right = q } in o) ∷ []) (sym read_there)
 
-  pub slot_added : {X : Type 0} (now : List Fraction) (r : Result X Wide) → Comes (sum_at old (place_in places k)) now r → Comes (turned_into (λ (d : Coefficients). map d ks) (one_added ks f rows c (k, q))) (coefficients_at places ks now) r
-  slot_added now r h =
-      subst (λ (x : Computation (List Fraction)). Comes x (coefficients_at places ks now) r) in_list
-      (comes_read (coefficients_at places ks) (sum_at old (place_in places k)) (sum_at seen p) now result_there operations_there r h)
+  pub place_added : {X : Type 0} (now : List Fraction) (r : Result X Wide) → Comes (sum_at old k) now r → Comes (turned_into (λ (d : Coefficients). map d ks) (one_added ks f rows c (k, q))) (coefficients_at ks now) r
+  place_added now r h =
+      subst (λ (x : Computation (List Fraction)). Comes x (coefficients_at ks now) r) in_list
+      (comes_read (coefficients_at ks) (sum_at old k) (sum_at seen p) now result_there operations_there r h)
 
 -- zeros are read
-pub zeros_read : (places ks : List ℕ) (n : ℕ) → coefficients_at places ks (replicate n (whole (pos 0))) ≡ map (λ (k : ℕ). whole (pos 0)) ks
-zeros_read places [] n = refl
-zeros_read places (k ∷ ks) n =
-    ap (λ (x : Fraction). x ∷ coefficients_at places ks (replicate n (whole (pos 0)))) (zeros_there n (place_in places k))
-    ∙ ap (λ (l : List Fraction). whole (pos 0) ∷ l) (zeros_read places ks n)
+zeros_there : (units m : ℕ) → get_or (replicate units (whole (pos 0))) m (whole (pos 0)) ≡ whole (pos 0)
+zeros_there zero m = refl
+zeros_there (suc n) zero = refl
+zeros_there (suc n) (suc m) = zeros_there n m
+
+pub zeros_read : (ks : List ℕ) (n : ℕ) → coefficients_at ks (replicate n (whole (pos 0))) ≡ map (λ (k : ℕ). whole (pos 0)) ks
+zeros_read [] n = refl
+zeros_read (k ∷ ks) n =
+    ap (λ (x : Fraction). x ∷ coefficients_at ks (replicate n (whole (pos 0)))) (zeros_there n k)
+    ∙ ap (λ (l : List Fraction). whole (pos 0) ∷ l) (zeros_read ks n)
+
+-- ---- Sums are reduced
+
+module _ (law : ZerosAreNeverWide) where
+  multiple_reduced : (ks : List ℕ) (c d : Coefficients) (s : Fraction) → AreReduced (plus_multiple ks c s d).result
+  multiple_reduced _ c d s k e = lowest_whole law (outcome Sum (c k) (outcome Product s (d k))) (outcome_lowest Sum (c k) (outcome Product s (d k))) e
+
+  one_reduced : (ks : List ℕ) (f : ℕ → Bool) (rows : Rows) (c : Coefficients) (a : ℕ × Fraction) → AreReduced c → AreReduced (one_added ks f rows c a).result
+  one_reduced ks f rows c a h k = by_test (f a.0)
+    where
+      by_number : (b : Bool) → is_zero (if b then outcome Sum (c k) a.1 else c k) ≡ true → (if b then outcome Sum (c k) a.1 else c k) ≡ whole (pos 0)
+      by_number true e = lowest_whole law (outcome Sum (c k) a.1) (outcome_lowest Sum (c k) a.1) e
+      by_number false e = h k e
+
+      added_at : Bool → Computation Coefficients
+      added_at b =
+          if b then record {
+            result = λ m. if m == a.0 then outcome Sum (c m) a.1 else c m;
+            operations = record { operator = Sum; left = c a.0; right = a.1 } ∷ [];
+          }
+          else plus_multiple ks c a.1 (rows a.0)
+
+      by_test : (b : Bool) → is_zero ((added_at b).result k) ≡ true → (added_at b).result k ≡ whole (pos 0)
+      by_test true e = by_number (k == a.0) e
+      by_test false e = multiple_reduced ks c (rows a.0) a.1 k e
+
+  pub sums_reduced : (ks : List ℕ) (f : ℕ → Bool) (rows : Rows) (c : Coefficients) (qs : List (ℕ × Fraction)) → AreReduced c → AreReduced (all_added ks f rows c qs).result
+  sums_reduced _ f rows c [] h = h
+  sums_reduced ks f rows c (a ∷ qs) h = sums_reduced ks f rows (one_added ks f rows c a).result qs (one_reduced ks f rows c a h)

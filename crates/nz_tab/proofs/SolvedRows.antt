@@ -1,12 +1,12 @@
 -- Rows that are put one behind another come to those of the definitions.
-use Rattle.std.proofs.Common.{◌≡◌, ℕ, ◌<◌, List, [], length, get_or, map, Some, Result, Ok, Err, pos, sym, ap, ◌∙◌, subst}
-use Rattle.std.proofs.lemmas.List.{get_or-map}
-use Rattle.nz_fractions.specs.Fraction.{Fraction, Operation, Product, Quotient, Sum, first_wide, whole}
+use Rattle.std.proofs.Common.{◌≡◌, ℕ, List, [], Some, Result, Ok, Err, pos, sym, ap, ◌∙◌, subst}
+use Rattle.nz_fractions.specs.Fraction.{Fraction, Operation, Quotient, first_wide, whole}
 use Rattle.nz_spec.specs.numbers.Computation.{Computation, and_then, operated}
 use Rattle.nz_spec.specs.simplex.Basis.{Coefficients}
 use Rattle.nz_frac.specs.declared.frac.Wide.{Wide}
 use Rattle.nz_tab.specs.Comes.{Comes, IsDone}
-use Rattle.nz_tab.specs.Each.{behind, with_multiple}
+use Rattle.nz_tab.specs.Each.{behind}
+use Rattle.nz_tab.specs.declared.entries.Entry.{Entry}
 use Rattle.nz_tab.specs.Exchanges.{solved_parts, solved_row}
 use Rattle.nz_fractions.proofs.FirstOperations.{first_wide-none, first_wide-some}
 
@@ -16,7 +16,7 @@ module _ (ks : List ℕ) (i j : ℕ) (a : Coefficients) (divisor : Fraction) (d 
   abbrev pub reciprocal_of : Computation Fraction
   reciprocal_of = operated Quotient (whole (pos 1)) divisor
 
-  abbrev rest : Fraction → Computation (List Fraction)
+  abbrev rest : Fraction → Computation (List Entry)
   rest x = solved_parts ks i divisor x a
 
   whole_row : and_then reciprocal_of rest ≡ solved_row ks i j a
@@ -25,11 +25,11 @@ module _ (ks : List ℕ) (i j : ℕ) (a : Coefficients) (divisor : Fraction) (d 
   -- it stops at the first quotient
   pub solved_stops : (w : Operation) → first_wide reciprocal_of.operations ≡ Some w → first_wide (solved_row ks i j a).operations ≡ Some w
   solved_stops w e =
-      subst (λ (c : Computation (List Fraction)). first_wide c.operations ≡ Some w) whole_row
+      subst (λ (c : Computation (List Entry)). first_wide c.operations ≡ Some w) whole_row
       (first_wide-some reciprocal_of.operations (rest reciprocal_of.result).operations w e)
 
   -- else it comes to the coefficients one by one
-  module _ (inverse : Fraction) (v : IsDone reciprocal_of inverse) (now : List Fraction) where
+  module _ (inverse : Fraction) (v : IsDone reciprocal_of inverse) (now : List Entry) where
     later : first_wide (and_then reciprocal_of rest).operations ≡ first_wide (rest inverse).operations
     later =
         first_wide-none reciprocal_of.operations (rest reciprocal_of.result).operations v.fits
@@ -40,14 +40,4 @@ module _ (ks : List ℕ) (i j : ℕ) (a : Coefficients) (divisor : Fraction) (d 
     joined (Err w) h = later ∙ h
 
     pub solved_comes : {X : Type 0} (r : Result X Wide) → Comes (behind [] (rest inverse)) now r → Comes (solved_row ks i j a) now r
-    solved_comes r h = subst (λ (c : Computation (List Fraction)). Comes c now r) whole_row (joined r h)
-
--- ---- The other rows
-
--- a number and a multiple of another one that were read from lists
-pub multiple_read : (s x y : Fraction) (d c : Coefficients) (other : List Fraction) (ks : List ℕ) (i : ℕ) → other ≡ map d ks → i < length ks → x ≡ get_or other i x → y ≡ c (get_or ks i 0)
-    → and_then (operated Product s x) (λ p. operated Sum y p) ≡ with_multiple s d c (get_or ks i 0)
-multiple_read s x y d c other ks i e inside read stands =
-    let there : x ≡ d (get_or ks i 0) = read ∙ ap (λ (l : List Fraction). get_or l i x) e ∙ get_or-map d ks i 0 x inside in
-    ap (λ (z : Fraction). and_then (operated Product s z) (λ p. operated Sum y p)) there
-    ∙ ap (λ (z : Fraction). and_then (operated Product s (d (get_or ks i 0))) (λ p. operated Sum z p)) stands
+    solved_comes r h = subst (λ (c : Computation (List Entry)). Comes c now r) whole_row (joined r h)

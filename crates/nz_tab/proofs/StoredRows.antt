@@ -1,15 +1,19 @@
 -- Rows as they are stored, and the grid that they make.
 use Rattle.std.proofs.Common.{Vec, Global, ◌≡◌, ℕ, Bool, List, subst}
-use Rattle.nz_fractions.specs.Fraction.{Fraction}
-use Rattle.nz_tab.specs.Rows.{Grid, IsGrid}
+use Rattle.std.specs.Prelude.{vec_capacity}
+use Rattle.nz_tab.specs.Rows.{Grid, IsRoomy}
 use Rattle.nz_tab.specs.Sums.{IsStoredGrid}
+use Rattle.nz_tab.specs.declared.entries.Entry.{Entry}
 
-abbrev pub items : Vec Fraction Global → List Fraction
+abbrev pub items : Vec Entry Global → List Entry
 items x = x.items
 
--- the grid as its fields have it
-abbrev pub made : List Bool → List ℕ → List (List Fraction) → Grid
-made marks places rows = record { marks = marks; places = places; rows = rows }
+abbrev pub room_of : Vec Entry Global → ℕ
+room_of x = vec_capacity x
 
-pub stored_in : {marks : List Bool} {places : List ℕ} {width : ℕ} {rows : List (List Fraction)} {g : Grid} → made marks places rows ≡ g → IsGrid marks places width rows → IsStoredGrid g
-stored_in {marks} {places} {width} {rows} same stored = subst IsStoredGrid same (subst (λ (w : ℕ). IsGrid marks places w rows) stored.wide stored)
+-- the grid as its fields have it
+abbrev pub made : List Bool → List (List Entry) → Grid
+made marks rows = record { marks = marks; rows = rows }
+
+pub stored_in : {marks : List Bool} {width : ℕ} {rows : List (List Entry)} {capacities : List ℕ} {g : Grid} → made marks rows ≡ g → IsRoomy marks width rows capacities → IsStoredGrid g
+stored_in same stored = subst IsStoredGrid same stored.grid

@@ -35,7 +35,7 @@ same_number_behind fs f u e = by_number (unit_number fs u) refl
     by_number (Some k) h = number_stays fs (f ∷ []) u k h ∙ sym h
     by_number None h = number_behind fs f u h ∙ ap (λ (b : Bool). if b then Some (length fs) else None) (no_unit f u e) ∙ sym h
 
-module _ (forms : List (List Part)) (old : Grid) (unit_at : ℕ → Option ℕ) (columns written solved spare : ℕ) (s : IsStored forms old unit_at columns written solved spare) (unit_then : ℕ → Option ℕ) (c x d e : ℕ) where
+module _ (forms : List (List Part)) (old : Grid) (unit_at : ℕ → Option ℕ) (columns written solved : ℕ) (spare : List ℕ) (s : IsStored forms old unit_at columns written solved spare) (unit_then : ℕ → Option ℕ) (c x d : ℕ) (e : List ℕ) where
   module _ (law : JoinsKeepBasis) (numbers : TermHasItsNumber) (mid : Grid) where
     pub stored_unit : (p : Part) → unit_number forms p.unit ≡ None → IsWidened old mid 1 → HasRoomForSum old 1 c x d e
         → AreNumbers unit_then (forms ++ unit_of p ∷ []) → IsStored (forms ++ unit_of p ∷ []) mid unit_then c x d e

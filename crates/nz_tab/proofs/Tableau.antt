@@ -79,7 +79,7 @@ module _ (law : ExchangeKeepsBasis) (forms : List (List Part)) (old new : Grid) 
   exchanged_tableau is ns table units = has_rows ns (is ns table units)
 
 -- an exchange leaves what is stored in order, also where it stops
-pub stored_after : {X : Type 0} → ExchangeKeepsBasis → (forms : List (List Part)) (old new : Grid) (unit_at : ℕ → Option ℕ) (columns written solved spare c x d e i j : ℕ) → IsStored forms old unit_at columns written solved spare
+pub stored_after : {X : Type 0} → ExchangeKeepsBasis → (forms : List (List Part)) (old new : Grid) (unit_at : ℕ → Option ℕ) (columns written solved : ℕ) (spare : List ℕ) (c x d : ℕ) (e : List ℕ) (i j : ℕ) → IsStored forms old unit_at columns written solved spare
     → i < length old.marks → is_nonbasic old i ≡ false → is_nonbasic old j ≡ true → is_zero (rows_of old i j) ≡ false
     → (r : Result X Wide) → OnOk r (IsExchanged old new i j) → OnErr r (new ≡ old) → HasRoom new c x d e → IsStored forms new unit_at c x d e
 stored_after law forms old new unit_at columns written solved spare c x d e i j s inside leaves enters nonzero (Ok y) done same room = record {

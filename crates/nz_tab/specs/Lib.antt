@@ -1,5 +1,6 @@
 pub mod Comes
 pub mod Each
+pub mod Entries
 pub mod Exchanges
 pub mod Joins
 pub mod Laws

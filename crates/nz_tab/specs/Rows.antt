@@ -1,8 +1,10 @@
--- Rows as lists of coefficients. Each form has a slot: a nonbasic one a column, a basic one a row.
-use Rattle.std.specs.Prelude.{◌≡◌, ℕ, ◌*◌, ◌<◌, ◌≤◌, Bool, true, false, not, All, List, [], map, length, take, drop, slice_index_or, pos, if◌then◌else◌}
+-- The rows of basic forms.
+use Rattle.std.specs.Prelude.{◌≡◌, ℕ, ◌<◌, ◌≤◌, Bool, false, not, All, List, [], map, length, slice_index_or, pos, if◌then◌else◌}
 use Rattle.nz_fractions.specs.Fraction.{Fraction, whole}
 use Rattle.nz_spec.specs.simplex.Basis.{Coefficients}
 use Rattle.nz_spec.specs.simplex.BasisMoves.{Rows, numbers}
+use Rattle.nz_tab.specs.Entries.{IsSparse, coefficient_in}
+use Rattle.nz_tab.specs.declared.entries.Entry.{Entry}
 
 -- ---- Numbers of forms
 
@@ -14,61 +16,30 @@ is_marked marks k = slice_index_or marks k false
 abbrev pub basic : (ℕ → Bool) → ℕ → Bool
 basic nonbasic k = not (nonbasic k)
 
--- how many coefficients there are
-abbrev pub size_of : ℕ → (ℕ → Bool) → ℕ
-size_of n nonbasic = length (numbers n (basic nonbasic)) * length (numbers n nonbasic)
-
--- ---- Slots
-
--- the slot of a form
-abbrev pub place_in : List ℕ → ℕ → ℕ
-place_in places k = slice_index_or places k 0
-
--- the slot of a form of a list
-abbrev pub slot_at : List ℕ → List ℕ → ℕ → ℕ
-slot_at places ks p = place_in places (slice_index_or ks p 0)
-
--- Each form below n that passes a test has a slot of its own, below a bound.
-pub record HaveSlots (places : List ℕ) (n : ℕ) (test : ℕ → Bool) (bound : ℕ) : Type 0 where
-  pub within : (k : ℕ) → k < n → test k ≡ true → place_in places k < bound
-  pub apart : (k m : ℕ) → k < n → m < n → test k ≡ true → test m ≡ true → place_in places k ≡ place_in places m → k ≡ m
-
--- Each form of a list has a slot of its own, below a bound.
-pub record AreSlotted (places ks : List ℕ) (bound : ℕ) : Type 0 where
-  pub listed : (p : ℕ) → p < length ks → slice_index_or ks p 0 < length places
-  pub within : (p : ℕ) → p < length ks → slot_at places ks p < bound
-  pub apart : (p q : ℕ) → p < length ks → q < length ks → slot_at places ks p ≡ slot_at places ks q → p ≡ q
-
 -- ---- Rows
 
--- a row: the nonbasic forms are marked, and each has its coefficient in its column
-pub record DenseRow : Type 0 where
+-- a row: the nonbasic forms are marked, and its entries are the coefficients that aren't 0
+pub record SparseRow : Type 0 where
   pub marks : List Bool
-  pub places : List ℕ
-  pub coefficients : List Fraction
+  pub entries : List Entry
 
 -- the coefficient at a form; 0 where it is basic
-abbrev pub coefficient : DenseRow → Coefficients
-coefficient row k = if is_marked row.marks k then slice_index_or row.coefficients (place_in row.places k) (whole (pos 0)) else whole (pos 0)
+abbrev pub coefficient : SparseRow → Coefficients
+coefficient row k = if is_marked row.marks k then coefficient_in row.entries k else whole (pos 0)
 
--- the coefficients in the columns of these forms
-abbrev pub coefficients_at : List ℕ → List ℕ → List Fraction → List Fraction
-coefficients_at places ks row = map (λ k. slice_index_or row (place_in places k) (whole (pos 0))) ks
-
--- the row of a place, in a block of rows of this width
-abbrev pub row_in : List Fraction → ℕ → ℕ → List Fraction
-row_in block width place = take width (drop (place * width) block)
+-- the numbers that stand at these forms
+abbrev pub coefficients_at : List ℕ → List Fraction → List Fraction
+coefficients_at ks row = map (λ k. slice_index_or row k (whole (pos 0))) ks
 
 -- ---- All rows
 
--- forms by their numbers: which of them are nonbasic, the slot of each, and the rows by their slots
+-- forms by their numbers: which of them are nonbasic, and the rows of the others
 pub record Grid : Type 0 where
   pub marks : List Bool
-  pub places : List ℕ
-  pub rows : List (List Fraction)
+  pub rows : List (List Entry)
 
 abbrev pub empty_grid : Grid
-empty_grid = record { marks = []; places = []; rows = [] }
+empty_grid = record { marks = []; rows = [] }
 
 abbrev pub is_nonbasic : Grid → ℕ → Bool
 is_nonbasic g = is_marked g.marks
@@ -78,12 +49,8 @@ abbrev pub columns_of : Grid → List ℕ
 columns_of g = numbers (length g.marks) (is_nonbasic g)
 
 -- the row of a form; a nonbasic one has none
-abbrev pub row_of : Grid → ℕ → DenseRow
-row_of g r = record {
-  marks = g.marks;
-  places = g.places;
-  coefficients = if is_marked g.marks r then [] else slice_index_or g.rows (place_in g.places r) [];
-}
+abbrev pub row_of : Grid → ℕ → SparseRow
+row_of g r = record { marks = g.marks; entries = if is_marked g.marks r then [] else slice_index_or g.rows r [] }
 
 -- the coefficient of a form at another
 abbrev pub rows_of : Grid → Rows
@@ -91,17 +58,21 @@ rows_of g r = coefficient (row_of g r)
 
 -- ---- What is stored
 
--- Each nonbasic form has a column, each basic one a row, and each row a coefficient for each column.
-pub record IsGrid (marks : List Bool) (places : List ℕ) (width : ℕ) (rows : List (List Fraction)) : Type 0 where
-  pub placed : length places ≡ length marks
-  pub wide : width ≡ length (numbers (length marks) (is_marked marks))
-  pub columns : HaveSlots places (length marks) (is_marked marks) width
-  pub basics : HaveSlots places (length marks) (basic (is_marked marks)) (length rows)
-  pub full : All (λ row. length row ≡ width) rows
+-- Each form has a list, and that of a basic one is its row.
+pub record IsGrid (marks : List Bool) (rows : List (List Entry)) : Type 0 where
+  pub count : length rows ≡ length marks
+  pub sparse : (r : ℕ) → r < length marks → is_marked marks r ≡ false → IsSparse (length marks) (is_marked marks) (slice_index_or rows r [])
 
--- room for the columns of an exchange, the forms whose rows it writes, the row that is solved and the coefficients that are written
-pub record HasRoom (g : Grid) (columns written solved spare : ℕ) : Type 0 where
+-- and has room for a coefficient at each nonbasic form
+pub record IsRoomy (marks : List Bool) (width : ℕ) (rows : List (List Entry)) (capacities : List ℕ) : Type 0 where
+  pub grid : IsGrid marks rows
+  pub wide : width ≡ length (numbers (length marks) (is_marked marks))
+  pub room : (r : ℕ) → r < length marks → is_marked marks r ≡ false → width ≤ slice_index_or capacities r 0
+
+-- room for the columns of an exchange, the forms whose rows it writes, the row that is solved, and the rows that are written
+pub record HasRoom (g : Grid) (columns written solved : ℕ) (spare : List ℕ) : Type 0 where
   pub for_columns : length g.marks ≤ columns
   pub for_written : length g.marks ≤ written
-  pub for_solved : length g.marks ≤ solved
-  pub for_block : size_of (length g.marks) (is_marked g.marks) ≤ spare
+  pub for_solved : length (columns_of g) ≤ solved
+  pub for_rows : length (numbers (length g.marks) (basic (is_nonbasic g))) ≤ length spare
+  pub for_entries : All (λ m. length (columns_of g) ≤ m) spare

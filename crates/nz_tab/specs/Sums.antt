@@ -1,5 +1,5 @@
 -- Rows that grow: by units, and by a sum of forms.
-use Rattle.std.specs.Prelude.{◌≡◌, ℕ, zero, suc, ◌<◌, ◌≤◌, ◌+◌, ◌*◌, ◌==◌, ◌++◌, Bool, true, false, List, [], ◌∷◌, Result, Ok, Err, Some, None, ⊤, length, map, replicate, pos, if◌then◌else◌}
+use Rattle.std.specs.Prelude.{◌≡◌, ℕ, ◌<◌, ◌≤◌, ◌+◌, ◌==◌, ◌++◌, Bool, true, false, All, List, [], ◌∷◌, Result, Ok, Err, Some, None, ⊤, length, replicate, pos, if◌then◌else◌}
 use Rattle.nz_fractions.specs.Fraction.{Fraction, Sum, first_wide, outcome, whole}
 use Rattle.nz_spec.specs.numbers.Computation.{Computation, and_then, at_once}
 use Rattle.nz_spec.specs.simplex.Basis.{Coefficients}
@@ -8,6 +8,7 @@ use Rattle.nz_frac.specs.Operations.{operation_of}
 use Rattle.nz_term.specs.declared.stops.ArithmeticStop.{ArithmeticStop}
 use Rattle.nz_term.specs.declared.stops.ArithmeticStop.TheVariants.{Wide, Memory}
 use Rattle.nz_tab.specs.Rows.{Grid, IsGrid, basic, columns_of, is_nonbasic, rows_of}
+use Rattle.nz_tab.specs.declared.entries.Entry.{Entry}
 
 -- A form is added with its coefficient: a nonbasic one at its number, a basic one by its row.
 abbrev pub one_added : List ℕ → (ℕ → Bool) → Rows → Coefficients → ℕ × Fraction → Computation Coefficients
@@ -23,30 +24,17 @@ abbrev pub all_added : List ℕ → (ℕ → Bool) → Rows → Coefficients →
 all_added ks nonbasic rows c [] = at_once c
 all_added ks nonbasic rows c (a ∷ rest) = and_then (one_added ks nonbasic rows c a) (λ d. all_added ks nonbasic rows d rest)
 
--- as many columns more, the next ones
-abbrev pub next_columns : ℕ → ℕ → List ℕ
-next_columns width zero = []
-next_columns width (suc n) = next_columns width n ++ (width + n) ∷ []
-
--- a row with as many zeros behind it
-abbrev pub lengthened : ℕ → List Fraction → List Fraction
-lengthened units row = row ++ replicate units (whole (pos 0))
-
--- rows with as many units more, which get the next columns
+-- rows with as many units more, which have none
 abbrev pub widened : Grid → ℕ → Grid
-widened g units = record {
-  marks = g.marks ++ replicate units true;
-  places = g.places ++ next_columns (length (columns_of g)) units;
-  rows = map (lengthened units) g.rows;
-}
+widened g units = record { marks = g.marks ++ replicate units true; rows = g.rows ++ replicate units [] }
 
 -- rows with a row more, of a basic form
-abbrev pub with_row : Grid → List Fraction → Grid
-with_row g row = record { marks = g.marks ++ false ∷ []; places = g.places ++ length g.rows ∷ []; rows = g.rows ++ row ∷ [] }
+abbrev pub with_row : Grid → List Entry → Grid
+with_row g row = record { marks = g.marks ++ false ∷ []; rows = g.rows ++ row ∷ [] }
 
 -- a grid as it is stored
 abbrev pub IsStoredGrid : Grid → Type 0
-IsStoredGrid g = IsGrid g.marks g.places (length (columns_of g)) g.rows
+IsStoredGrid g = IsGrid g.marks g.rows
 
 -- As many units more, which are nonbasic; the rows that were there stay.
 pub record IsWidened (old new : Grid) (units : ℕ) : Type 0 where
@@ -56,11 +44,12 @@ pub record IsWidened (old new : Grid) (units : ℕ) : Type 0 where
   pub rows : (r : ℕ) → r < length old.marks → rows_of new r ≡ rows_of old r
 
 -- room for an exchange when some units and one sum more have joined
-pub record HasRoomForSum (g : Grid) (units columns written solved spare : ℕ) : Type 0 where
+pub record HasRoomForSum (g : Grid) (units columns written solved : ℕ) (spare : List ℕ) : Type 0 where
   pub for_columns : length g.marks + units + 1 ≤ columns
   pub for_written : length g.marks + units + 1 ≤ written
-  pub for_solved : length g.marks + units + 1 ≤ solved
-  pub for_block : (length (numbers (length g.marks) (basic (is_nonbasic g))) + 1) * (length (numbers (length g.marks) (is_nonbasic g)) + units) ≤ spare
+  pub for_solved : length (columns_of g) + units ≤ solved
+  pub for_rows : length (numbers (length g.marks) (basic (is_nonbasic g))) + 1 ≤ length spare
+  pub for_entries : All (λ m. length (columns_of g) + units ≤ m) spare
 
 -- the row of a sum of forms, at the nonbasic ones
 abbrev pub sum_over : Grid → List (ℕ × Fraction) → Computation Coefficients

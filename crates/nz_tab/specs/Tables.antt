@@ -33,7 +33,7 @@ abbrev pub IsTableau : Table → Type 0
 IsTableau t = (ns : List Node) → IsTable ns → AllByRecursion (AreUnits ns) t.forms → HasRows ns t
 
 -- These are the rows of the forms, each unit has its number, and there is room for an exchange.
-pub record IsStored (forms : List (List Part)) (g : Grid) (unit_at : ℕ → Option ℕ) (columns written solved spare : ℕ) : Type 0 where
+pub record IsStored (forms : List (List Part)) (g : Grid) (unit_at : ℕ → Option ℕ) (columns written solved : ℕ) (spare : List ℕ) : Type 0 where
   pub count : length g.marks ≡ length forms
   pub tableau : IsTableau (record { forms = forms; grid = g })
   pub units : AreNumbers unit_at forms

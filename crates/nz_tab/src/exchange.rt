@@ -1,23 +1,25 @@
 //! What an exchange makes of rows, coefficient by coefficient by rising numbers of the nonbasic forms.
-ghost use Rattle.std.specs.Prelude.{◌≡◌, ◌<◌, ◌≤◌, ◌+◌, ◌≢◌, OnOk, pos, false, length, map, vec_len, vec_capacity};
+ghost use Rattle.std.specs.Prelude.{◌≡◌, ◌≤◌, ◌+◌, ◌≢◌, List, OnOk, ℕ, pos, false, length, vec_len, vec_capacity};
 ghost use Rattle.nz_spec.specs.simplex.Basis.{Coefficients};
 ghost use Rattle.nz_spec.specs.numbers.Computation.{and_then, operated};
 ghost use Rattle.nz_fractions.specs.Fraction.{Product, Quotient, Sum, whole};
 ghost use Rattle.nz_spec.specs.terms.Term.{is_zero};
 ghost use Rattle.nz_tab.specs.Comes.{Comes, IsOperated};
 ghost use Rattle.nz_tab.specs.Each.{behind};
-ghost use Rattle.nz_tab.specs.Exchanges.{solved_part, solved_parts, solved_row, sum_row};
+ghost use Rattle.nz_tab.specs.Entries.{HaveNumbers, IsRising, others};
+ghost use Rattle.nz_tab.specs.Exchanges.{AreSummands, MaySum, solved_part, solved_parts, solved_row, sum_row};
 ghost use Rattle.nz_tab.specs.Rows.{coefficient};
 
+use crate::entries::{Entry, behind_first, count_before, first_at, put_kept, put_others};
 use crate::row::{Row, Var, is_none};
 use nz_frac::{Frac, Wide};
 use nz_fractions::zeros_are_never_wide;
 use std::alloc::Global;
 
-/// A row solved for the form that enters, at which its coefficient isn't 0: the coefficients at these forms, of which
-/// one is the form that leaves.
+/// A row solved for the form that enters, at which its coefficient isn't 0: the coefficients other than 0 at these forms, of
+/// which one is the form that leaves.
 pub(crate) fn solve(
-    solved: &mut Vec<Frac>,
+    solved: &mut Vec<Entry>,
     row: &Row<'_>,
     columns: &[Var],
     leaves: Var,
@@ -25,6 +27,7 @@ pub(crate) fn solve(
 ) -> Result<(), Wide>
     requires room { length columns.now ≤ vec_capacity solved.old }
     requires nonzero { is_zero (coefficient row.now enters) ≡ false }
+    ensures numbers { OnOk result (HaveNumbers solved.new.items) }
     ensures solved { Comes (solved_row columns.now leaves enters (coefficient row.now)) solved.new.items result }
     ensures capacity { vec_capacity solved.new ≡ vec_capacity solved.old }
 {
@@ -44,9 +47,9 @@ fn reciprocal(number: Frac) -> Result<Frac, Wide>
     Frac::whole(1).div(number)
 }
 
-/// Puts the coefficients of the form that enters behind others.
+/// Puts the coefficients of the form that enters behind others, where they aren't 0.
 fn put_solved(
-    solved: &mut Vec<Frac>,
+    solved: &mut Vec<Entry>,
     row: &Row<'_>,
     columns: &[Var],
     leaves: Var,
@@ -56,10 +59,12 @@ fn put_solved(
     requires room { vec_len solved.old + length columns.now ≤ vec_capacity solved.old }
     requires nonzero { divisor.numerator ≢ pos 0 }
     ensures put { Comes (behind solved.old.items (solved_parts columns.now leaves divisor inverse (coefficient row.now))) solved.new.items result }
+    ensures numbers { OnOk result (HaveNumbers solved.old.items → HaveNumbers solved.new.items) }
     ensures capacity { vec_capacity solved.new ≡ vec_capacity solved.old }
 {
     for column in columns {
-        solved.push_reserved(solved_part(row, leaves, divisor, inverse, *column)?);
+        let coefficient = solved_part(row, leaves, divisor, inverse, *column)?;
+        put_kept(solved, *column, coefficient);
     }
     Ok(())
 }
@@ -82,23 +87,37 @@ fn solved_part(
     Ok(row.at(column).div(divisor)?.neg())
 }
 
-/// Puts the sum of a row and a multiple of another one behind others.
+/// Makes the sum of a row, without its coefficient at the form that enters, and a multiple of that form's row. It reads and
+/// writes what isn't 0 alone.
 pub(crate) fn put_sum(
-    rows: &mut Vec<Frac>,
-    row: &Row<'_>,
-    columns: &[Var],
+    sum: &mut Vec<Entry>,
+    row: &[Entry],
+    enters: Var,
     factor: Frac,
-    other: &[Frac],
+    solved: &[Entry],
 ) -> Result<(), Wide>
-    requires width { length other.now ≡ length columns.now }
-    requires room { vec_len rows.old + length columns.now ≤ vec_capacity rows.old }
-    ensures put { (d : Coefficients) → other.now ≡ map d columns.now → Comes (behind rows.old.items (sum_row columns.now factor d (coefficient row.now))) rows.new.items result }
-    ensures long { OnOk result (vec_len rows.new ≡ vec_len rows.old + length columns.now) }
-    ensures capacity { vec_capacity rows.new ≡ vec_capacity rows.old }
+    requires room { MaySum (vec_capacity sum.old) (others enters row.now) enters solved.now }
+    requires rising { IsRising row.now }
+    requires numbers { HaveNumbers row.now }
+    ensures put { (ks : List ℕ) (c d : Coefficients) → AreSummands ks enters c d (others enters row.now) solved.now → Comes (sum_row ks factor d c) sum.new.items result }
+    ensures numbers { OnOk result (HaveNumbers sum.new.items) }
+    ensures capacity { vec_capacity sum.new ≡ vec_capacity sum.old }
 {
-    for place in 0..columns.len() {
-        rows.push_reserved(with_multiple(row.at(columns[place]), factor, other[place])?);
+    zeros_are_never_wide();
+    sum.clear();
+    let mut rest = row;
+    for entry in solved {
+        let (before, from) = rest.split_at(count_before(rest, entry.form));
+        put_others(sum, before, enters);
+        let number = first_at(from, entry.form);
+        put_kept(
+            sum,
+            entry.form,
+            with_multiple(number, factor, entry.coefficient)?,
+        );
+        rest = behind_first(from, entry.form);
     }
+    put_others(sum, rest, enters);
     Ok(())
 }
 

@@ -4,6 +4,7 @@
 //! the others, which are basic, has a [`Row`]: the sum of nonbasic forms that it is.
 #![tactic(auto)]
 
+mod entries;
 mod exchange;
 mod joining;
 pub mod laws;
@@ -11,5 +12,6 @@ mod row;
 mod rows;
 mod tab;
 
+pub use entries::Entry;
 pub use row::{Row, Var};
 pub use tab::{Tab, known_tableau};

@@ -1,9 +1,11 @@
 //! The row of a basic form.
-ghost use Rattle.std.specs.Prelude.{◌≡◌, length, pos, slice_index_or, true};
+ghost use Rattle.std.specs.Prelude.{◌≡◌, pos, true};
 ghost use Rattle.nz_spec.specs.terms.Term.{is_zero};
-ghost use Rattle.nz_fractions.specs.Fraction.{whole};
+ghost use Rattle.nz_fractions.specs.Fraction.{IsNumber, whole};
+ghost use Rattle.nz_tab.specs.Entries.{IsRising};
 ghost use Rattle.nz_tab.specs.Rows.{coefficient, is_marked};
 
+use crate::entries::{Entry, coefficient_at};
 use nz_frac::Frac;
 use std::marker::Model;
 
@@ -11,41 +13,39 @@ use std::marker::Model;
 pub type Var = usize;
 
 /// The row of a basic form: the coefficients with which it is the sum of nonbasic ones. A contract sees which forms are
-/// nonbasic, and the coefficient in the column of each of these.
+/// nonbasic, and the coefficients that aren't 0.
 #[derive(Debug, Drop)]
 pub struct Row<'a> {
-    // For each form whether it is nonbasic, and the column of its coefficient then.
     nonbasic: &'a [bool],
-    places: &'a [usize],
-    coefficients: &'a [Frac],
+    entries: &'a [Entry],
 }
 
 impl<'a> Model for Row<'a> {
-    ghost use Rattle.std.specs.Prelude.{◌≡◌, length};
-    ghost use Rattle.nz_tab.specs.Rows.{DenseRow};
+    ghost use Rattle.nz_tab.specs.Entries.{IsRising};
+    ghost use Rattle.nz_tab.specs.Rows.{SparseRow};
 
-    ghost Value = { DenseRow };
+    ghost Value = { SparseRow };
 
-    ghost view = { λ r. record { marks = r.nonbasic.now; places = r.places.now; coefficients = r.coefficients.now } };
+    ghost view = { λ r. record { marks = r.nonbasic.now; entries = r.entries.now } };
 
-    ghost invariant = { λ r. length r.places.now ≡ length r.nonbasic.now };
+    ghost invariant = { λ r. IsRising r.entries.now };
 }
 
 impl<'a> Row<'a> {
-    /// A row by the places of its coefficients.
-    pub(crate) fn over(
-        nonbasic: &'a [bool],
-        places: &'a [usize],
-        coefficients: &'a [Frac],
-    ) -> Row<'a>
-        requires places { length places.now ≡ length nonbasic.now }
-        ensures row { result ≡ record { marks = nonbasic.now; places = places.now; coefficients = coefficients.now } }
+    /// A row by its entries.
+    pub(crate) fn over(nonbasic: &'a [bool], entries: &'a [Entry]) -> Row<'a>
+        requires rising { IsRising entries.now }
+        ensures row { result ≡ record { marks = nonbasic.now; entries = entries.now } }
     {
-        Row {
-            nonbasic,
-            places,
-            coefficients,
-        }
+        Row { nonbasic, entries }
+    }
+
+    /// The coefficients that aren't 0, by rising numbers of their forms.
+    pub fn entries(&self) -> &[Entry]
+        ensures entries { result.now ≡ self.now.entries }
+        ensures rising { IsRising result.now }
+    {
+        self.entries
     }
 
     /// The coefficient at a form: 0 where it is basic.
@@ -55,15 +55,8 @@ impl<'a> Row<'a> {
         if !is_marked(self.nonbasic, j) {
             return Frac::whole(0);
         }
-        coefficient_at(self.coefficients, self.places[j])
+        coefficient_at(self.entries, j)
     }
-}
-
-/// The coefficient of a place.
-fn coefficient_at(coefficients: &[Frac], place: usize) -> Frac
-    ensures coefficient { result ≡ slice_index_or coefficients.now place (whole (pos 0)) }
-{
-    coefficients.get(place).copied().unwrap_or(Frac::whole(0))
 }
 
 /// Whether a number is marked.
@@ -77,6 +70,7 @@ pub(crate) fn is_marked(marks: &[bool], number: usize) -> bool
 pub(crate) fn is_none(number: Frac) -> bool
     ensures zero { result ≡ is_zero number }
     ensures none { result ≡ true → number ≡ whole (pos 0) }
+    ensures number { IsNumber number }
 {
     let none = Frac::whole(0);
     // The numerators are read, so that both are known to be in lowest terms.

@@ -1,50 +1,55 @@
-//! The rows of all basic forms. Each form has a slot: a nonbasic one a column, a basic one a row.
-ghost use Rattle.std.specs.Prelude.{◌≡◌, ◌<◌, ◌≤◌, ◌+◌, ◌*◌, ◌++◌, ◌≢◌, All, OnOk, OnErr, ℕ, false, pos, true, length, map, vec_len, vec_capacity};
+//! The rows of all basic forms. An exchange reads and writes what isn't 0 in the rows that change, besides one look into each row for
+//! its coefficient at the form that enters.
+ghost use Rattle.std.specs.Prelude.{◌≡◌, ◌<◌, ◌≤◌, ◌≢◌, All, OnOk, OnErr, ℕ, [], false, pos, true, length, map, slice_index_or, vec_len, vec_capacity};
 ghost use Rattle.nz_spec.specs.simplex.Basis.{Coefficients};
 ghost use Rattle.nz_spec.specs.simplex.BasisMoves.{exchange, exchanged, numbers};
 ghost use Rattle.nz_fractions.specs.Fraction.{whole};
 ghost use Rattle.nz_spec.specs.terms.Term.{is_zero};
-ghost use Rattle.nz_tab.specs.Comes.{Comes, Stops};
-ghost use Rattle.nz_tab.specs.Exchanges.{IsExchanged, IsReplaced, IsRewritten, changed_rows, changes, places_exchanged, written_forms};
-ghost use Rattle.nz_tab.specs.Rows.{AreSlotted, HasRoom, coefficients_at, empty_grid, is_nonbasic, row_in, row_of, rows_of};
+ghost use Rattle.nz_tab.specs.Comes.{Stops};
+ghost use Rattle.nz_tab.specs.Entries.{AreReduced, HaveNumbers, IsSparse, nonzeros};
+ghost use Rattle.nz_tab.specs.Exchanges.{AreDistinct, AreExchanged, Changes, IsExchanged, IsReady, IsReplaced, changed_forms, changes, columns_after};
+ghost use Rattle.nz_tab.specs.Rows.{HasRoom, columns_of, empty_grid, is_nonbasic, row_of, rows_of};
 
+use crate::entries::Entry;
 use crate::exchange::{put_sum, solve};
 use crate::row::{Row, Var, is_marked, is_none};
 use nz_frac::{Frac, Wide};
-use std::alloc::{AllocError, Global};
+use nz_fractions::zeros_are_never_wide;
+use std::alloc::Global;
 use std::marker::Model;
+use std::mem::swap;
 
-/// Which forms are nonbasic, and the rows of the others. A contract sees which forms are nonbasic, the slots, and the rows by
-/// their slots.
+/// Which forms are nonbasic, and the rows of the others.
 #[derive(Debug, Drop)]
 pub(crate) struct Rows {
-    // For each form whether it is nonbasic, and its slot: a column where it is, else a row. A form that joins gets the next one.
     pub(crate) nonbasic: Vec<bool>,
-    pub(crate) places: Vec<usize>,
-    // How many columns there are, and the rows, each with a coefficient for each column.
+    // How many forms are nonbasic.
     pub(crate) width: usize,
-    pub(crate) rows: Vec<Vec<Frac>>,
+    // The row of each form, which is empty where the form is nonbasic. That of a basic one has room for a coefficient at each
+    // nonbasic form, since an exchange takes no memory; room that isn't written to costs addresses alone.
+    pub(crate) rows: Vec<Vec<Entry>>,
 }
 
 impl Model for Rows {
-    ghost use Rattle.std.specs.Prelude.{map};
-    ghost use Rattle.nz_tab.specs.Rows.{Grid, IsGrid};
+    ghost use Rattle.std.specs.Prelude.{map, vec_capacity};
+    ghost use Rattle.nz_tab.specs.Rows.{Grid, IsRoomy};
 
     ghost Value = { Grid };
 
-    ghost view = { λ g. record { marks = g.nonbasic.items; places = g.places.items; rows = map (λ x. x.items) g.rows.items } };
+    ghost view = { λ g. record { marks = g.nonbasic.items; rows = map (λ x. x.items) g.rows.items } };
 
-    ghost invariant = { λ g. IsGrid g.nonbasic.items g.places.items g.width (map (λ x. x.items) g.rows.items) };
+    ghost invariant = { λ g. IsRoomy g.nonbasic.items g.width (map (λ x. x.items) g.rows.items) (map (λ x. vec_capacity x) g.rows.items) };
 }
 
-/// Room for an exchange: the numbers of the forms that are nonbasic after it, those of the forms whose rows it writes, the row of
-/// the form that enters, and the rows that are written.
+/// Room for an exchange, and for a sum that joins: the numbers of the nonbasic forms, those of the forms whose rows change, the row
+/// of the form that enters, the rows that change, and the coefficients of a sum at all forms.
 #[derive(Debug, Drop)]
 pub(crate) struct Room {
     pub columns: Vec<Var>,
     pub written: Vec<Var>,
-    pub solved: Vec<Frac>,
-    pub spare: Vec<Frac>,
+    pub solved: Vec<Entry>,
+    pub spare: Vec<Vec<Entry>>,
+    pub sums: Vec<Frac>,
 }
 
 impl Room {
@@ -55,6 +60,7 @@ impl Room {
             written: Vec::new(alloc),
             solved: Vec::new(alloc),
             spare: Vec::new(alloc),
+            sums: Vec::new(alloc),
         }
     }
 }
@@ -66,7 +72,6 @@ impl Rows {
     {
         Rows {
             nonbasic: Vec::new(alloc),
-            places: Vec::new(alloc),
             width: 0,
             rows: Vec::new(alloc),
         }
@@ -92,12 +97,7 @@ impl Rows {
         requires basic { is_nonbasic self.now var ≡ false }
         ensures row { result ≡ row_of self.now var }
     {
-        let places = self.places.as_slice();
-        Row::over(
-            self.nonbasic.as_slice(),
-            places,
-            self.rows[places[var]].as_slice(),
-        )
+        Row::over(self.nonbasic.as_slice(), self.rows[var].as_slice())
     }
 
     /// Exchanges a basic form with a nonbasic one at which its coefficient isn't 0. Takes no memory.
@@ -106,35 +106,22 @@ impl Rows {
         requires basic { is_nonbasic self.old leaves ≡ false }
         requires nonbasic { is_nonbasic self.old enters ≡ true }
         requires nonzero { is_zero (rows_of self.old leaves enters) ≡ false }
-        requires room { HasRoom self.old (vec_capacity room.old.columns) (vec_capacity room.old.written) (vec_capacity room.old.solved) (vec_capacity room.old.spare) }
+        requires room { HasRoom self.old (vec_capacity room.old.columns) (vec_capacity room.old.written) (vec_capacity room.old.solved) (map (λ x. vec_capacity x) room.old.spare.items) }
         ensures exchanged { OnOk result (IsExchanged self.old self.new leaves enters) }
         ensures stops { Stops (exchange (length self.old.marks) (is_nonbasic self.old) (rows_of self.old) leaves enters) result }
         ensures unchanged { OnErr result (self.new ≡ self.old) }
-        ensures room { HasRoom self.new (vec_capacity room.new.columns) (vec_capacity room.new.written) (vec_capacity room.new.solved) (vec_capacity room.new.spare) }
+        ensures room { HasRoom self.new (vec_capacity room.new.columns) (vec_capacity room.new.written) (vec_capacity room.new.solved) (map (λ x. vec_capacity x) room.new.spare.items) }
     {
-        // Known to be in order, so that two slots can be exchanged.
+        // Known to be in order, so that two forms can change places.
         let _ = &self.nonbasic;
+        zeros_are_never_wide();
         self.list_columns(&mut room.columns, leaves, enters);
         let columns = room.columns.as_slice();
         solve(&mut room.solved, &self.row(leaves), columns, leaves, enters)?;
-        let solved = room.solved.as_slice();
         self.list_changed(&mut room.written, leaves, enters);
-        self.put_changed(
-            &mut room.spare,
-            room.written.as_slice(),
-            columns,
-            solved,
-            enters,
-        )?;
-        room.written.push_reserved(enters);
-        put_all(&mut room.spare, solved);
-        self.replace(
-            columns,
-            room.written.as_slice(),
-            room.spare.as_slice(),
-            leaves,
-            enters,
-        );
+        let changed = room.written.as_slice();
+        self.put_changed(&mut room.spare, changed, room.solved.as_slice(), enters)?;
+        self.replace(room, leaves, enters);
         Ok(())
     }
 
@@ -192,120 +179,65 @@ impl Rows {
         !is_none(self.row(var).at(enters))
     }
 
-    /// What rows change into in an exchange, one behind another.
+    /// What rows change into in an exchange, one beside another.
     fn put_changed(
         &self,
-        block: &mut Vec<Frac>,
+        rows: &mut Vec<Vec<Entry>>,
         changed: &[Var],
-        columns: &[Var],
-        solved: &[Frac],
+        solved: &[Entry],
         enters: Var,
     ) -> Result<(), Wide>
-        requires listed { All (λ r. r < length self.now.marks) changed.now }
-        requires basic { All (λ r. is_nonbasic self.now r ≡ false) changed.now }
-        requires width { length solved.now ≡ length columns.now }
-        requires room { length changed.now * length columns.now ≤ vec_capacity block.old }
-        ensures put { (q : Coefficients) → solved.now ≡ map q columns.now → Comes (changed_rows (rows_of self.now) changed.now columns.now enters q) block.new.items result }
-        ensures long { OnOk result (vec_len block.new ≡ length changed.now * length columns.now) }
-        ensures capacity { vec_capacity block.new ≡ vec_capacity block.old }
+        requires ready { (i : ℕ) × IsReady self.now i enters × (changed.now ≡ changed_forms self.now i enters) × (q : Coefficients) × AreReduced q × (solved.now ≡ nonzeros (columns_after self.now i enters) q) }
+        requires numbers { HaveNumbers solved.now }
+        requires rows { length changed.now ≤ vec_len rows.old }
+        requires room { All (λ x. length (columns_of self.now) ≤ vec_capacity x) rows.old.items }
+        ensures put { (i : ℕ) (q : Coefficients) → IsReady self.now i enters → changed.now ≡ changed_forms self.now i enters → AreReduced q → solved.now ≡ nonzeros (columns_after self.now i enters) q
+            → Changes self.now changed.now (columns_after self.now i enters) enters q (map (λ x. x.items) rows.new.items) result }
+        ensures capacities { map (λ x. vec_capacity x) rows.new.items ≡ map (λ x. vec_capacity x) rows.old.items }
     {
-        block.clear();
-        for var in changed {
-            let row = self.row(*var);
-            put_sum(block, &row, columns, row.at(enters), solved)?;
+        // Known to be in order, so that the rows are sums of numbers.
+        let _ = &self.rows;
+        zeros_are_never_wide();
+        for place in 0..changed.len() {
+            let row = self.row(changed[place]);
+            put_sum(
+                &mut rows[place],
+                row.entries(),
+                enters,
+                row.at(enters),
+                solved,
+            )?;
         }
         Ok(())
     }
 
-    /// Two forms exchange their slots, and the rows of some forms are written.
-    fn replace(
-        &mut self,
-        columns: &[Var],
-        written: &[Var],
-        block: &[Frac],
-        leaves: Var,
-        enters: Var,
-    )
-        requires listed { leaves < length self.old.marks }
-        requires basic { is_nonbasic self.old leaves ≡ false }
-        requires nonbasic { is_nonbasic self.old enters ≡ true }
-        requires columns { columns.now ≡ numbers (length self.old.marks) (exchanged (is_nonbasic self.old) leaves enters) }
-        requires written { written.now ≡ written_forms self.old leaves enters }
-        requires block { length block.now ≡ length written.now * length columns.now }
-        ensures replaced { IsReplaced self.old self.new leaves enters columns.now written.now block.now }
+    /// Two forms change places, and rows that were computed those that stood there.
+    fn replace(&mut self, room: &mut Room, leaves: Var, enters: Var)
+        requires ready { IsReady self.old leaves enters }
+        requires written { room.old.written.items ≡ changed_forms self.old leaves enters }
+        requires stay { (r : ℕ) → r < length self.old.marks → is_nonbasic self.old r ≡ false → r ≢ leaves → changes (is_nonbasic self.old) (rows_of self.old) leaves enters r ≡ false → rows_of self.old r enters ≡ whole (pos 0) }
+        requires solved { IsSparse (length self.old.marks) (exchanged (is_nonbasic self.old) leaves enters) room.old.solved.items }
+        requires rows { (p : ℕ) → p < length room.old.written.items → IsSparse (length self.old.marks) (exchanged (is_nonbasic self.old) leaves enters) (slice_index_or (map (λ x. x.items) room.old.spare.items) p []) }
+        requires room { HasRoom self.old (vec_capacity room.old.columns) (vec_capacity room.old.written) (vec_capacity room.old.solved) (map (λ x. vec_capacity x) room.old.spare.items) }
+        ensures replaced { IsReplaced self.old self.new leaves enters room.old.solved.items room.old.written.items (map (λ x. x.items) room.old.spare.items) }
+        ensures room { HasRoom self.new (vec_capacity room.new.columns) (vec_capacity room.new.written) (vec_capacity room.new.solved) (map (λ x. vec_capacity x) room.new.spare.items) }
     {
         self.nonbasic[leaves] = true;
         self.nonbasic[enters] = false;
-        exchange_places(&mut self.places, leaves, enters);
-        write_rows(
-            &mut self.rows,
-            self.places.as_slice(),
-            columns,
-            written,
-            block,
-        );
+        self.rows.swap(leaves, enters);
+        swap(&mut self.rows[enters], &mut room.solved);
+        exchange_rows(&mut self.rows, room.written.as_slice(), &mut room.spare);
     }
 }
 
-/// Exchanges the places of two forms.
-fn exchange_places(places: &mut Vec<usize>, leaves: Var, enters: Var)
-    requires leaves { leaves < vec_len places.old }
-    requires enters { enters < vec_len places.old }
-    ensures exchanged { places.new.items ≡ places_exchanged places.old.items leaves enters }
+/// Exchanges the rows of some forms with the first of a list of rows.
+fn exchange_rows(rows: &mut Vec<Vec<Entry>>, forms: &[Var], spare: &mut Vec<Vec<Entry>>)
+    requires forms { All (λ k. k < vec_len rows.old) forms.now }
+    requires distinct { AreDistinct forms.now }
+    requires spare { length forms.now ≤ vec_len spare.old }
+    ensures exchanged { AreExchanged forms.now (length forms.now) rows.old.items rows.new.items spare.old.items spare.new.items }
 {
-    let row = places[leaves];
-    places[leaves] = places[enters];
-    places[enters] = row;
-}
-
-/// Writes coefficients, those of one row behind those of another, into the rows of some forms, each at its column.
-fn write_rows(
-    rows: &mut Vec<Vec<Frac>>,
-    places: &[usize],
-    columns: &[Var],
-    written: &[Var],
-    block: &[Frac],
-)
-    requires columns { AreSlotted places.now columns.now (length columns.now) }
-    requires rows { AreSlotted places.now written.now (vec_len rows.old) }
-    requires full { All (λ row. length row ≡ length columns.now) (map (λ x. x.items) rows.old.items) }
-    requires block { length block.now ≡ length written.now * length columns.now }
-    ensures rows { IsRewritten places.now columns.now written.now block.now (length written.now) (map (λ x. x.items) rows.old.items) (map (λ x. x.items) rows.new.items) }
-{
-    for index in 0..written.len() {
-        let row = row_at(block, columns.len(), index);
-        write_row(&mut rows[places[written[index]]], places, columns, row);
+    for place in 0..forms.len() {
+        swap(&mut rows[forms[place]], &mut spare[place]);
     }
-}
-
-/// Writes coefficients into a row, each at its column.
-fn write_row(row: &mut Vec<Frac>, places: &[usize], columns: &[Var], coefficients: &[Frac])
-    requires columns { AreSlotted places.now columns.now (vec_len row.old) }
-    requires width { length coefficients.now ≡ length columns.now }
-    ensures written { coefficients_at places.now columns.now row.new.items ≡ coefficients.now }
-    ensures width { vec_len row.new ≡ vec_len row.old }
-{
-    for index in 0..columns.len() {
-        row[places[columns[index]]] = coefficients[index];
-    }
-}
-
-/// The row of this place, in a block of rows of this width.
-fn row_at(block: &[Frac], width: usize, place: usize) -> &[Frac]
-    requires within { (place + 1) * width ≤ length block.now }
-    ensures row { result.now ≡ row_in block.now width place }
-{
-    let start = place * width;
-    &block[start..start + width]
-}
-
-/// Puts coefficients behind others.
-fn put_all(rows: &mut Vec<Frac>, row: &[Frac])
-    requires room { vec_len rows.old + length row.now ≤ vec_capacity rows.old }
-    ensures put { rows.new.items ≡ rows.old.items ++ row.now }
-    ensures long { vec_len rows.new ≡ vec_len rows.old + length row.now }
-    ensures capacity { vec_capacity rows.old ≤ vec_capacity rows.new }
-{
-    let extended: Result<(), AllocError> = rows.extend_from_slice(row);
-    extended.unwrap();
 }

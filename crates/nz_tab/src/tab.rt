@@ -45,7 +45,7 @@ impl Model for Tab {
 
     ghost view = { λ t. record { forms = map (λ v. v.items) t.forms.items; grid = t.rows } };
 
-    ghost invariant = { λ t. IsStored (map (λ v. v.items) t.forms.items) t.rows (get nat_eq t.units) (vec_capacity t.room.columns) (vec_capacity t.room.written) (vec_capacity t.room.solved) (vec_capacity t.room.spare) };
+    ghost invariant = { λ t. IsStored (map (λ v. v.items) t.forms.items) t.rows (get nat_eq t.units) (vec_capacity t.room.columns) (vec_capacity t.room.written) (vec_capacity t.room.solved) (map (λ x. vec_capacity x) t.room.spare.items) };
 }
 
 impl Tab {
@@ -96,7 +96,7 @@ impl Tab {
 
     /// Exchanges a basic form with a nonbasic one at which it has a coefficient other than 0. Takes no memory.
     ///
-    /// It touches each coefficient of a row once; a row that has none at `j` stays as it is.
+    /// It reads and writes the coefficients of a row that aren't 0; a row that has none at `j` stays as it is.
     ///
     /// # Errors
     ///
@@ -117,7 +117,7 @@ impl Tab {
     /// Adds a form, without the number that is added in it, and answers its number. Its units that aren't here join first, as
     /// nonbasic forms, and then the form itself as a basic one. A unit alone is its own form.
     ///
-    /// A unit that is new costs a coefficient more in each row, at its end.
+    /// A unit that is new costs room for a coefficient more in each row.
     ///
     /// # Errors
     ///

@@ -14,7 +14,10 @@ ghost use Rattle.nz_engine.specs.Checking.{AreTakenAt, IsRootStop, IsTermStop};
 ghost use Rattle.nz_engine.specs.Keeping.{KeepsClauses};
 ghost use Rattle.nz_engine.specs.Preparing.{CoversAlso, IsAllAdded, IsNext, IsPrepared, IsSeen};
 
-use super::{Prepared, hold};
+use super::{Prepared, hold_wanted};
+use nz_cform::Wanted;
+use nz_log::ClauseId;
+use nz_term::TermLit;
 use crate::levels::{Kind, Levels, Placed};
 use nz_cform::FormStop;
 use nz_cform::laws::{covers_stay, rows_name_covered};
@@ -46,7 +49,35 @@ impl Prepared {
             Ok(clauses) => clauses,
             Err(stop) => return Err(stop_of(stop)),
         };
-        hold(&mut self.sat, &self.log, &clauses)?;
+        let _ = clauses;
+        Ok(())
+    }
+
+    /// Holds the clauses that state an assertion.
+    fn state(&mut self, terms: &Terms, term: TermId, given: ClauseId) -> Result<(), Stop> {
+        let made = self.needs.state(self.alloc, &mut self.log, terms, &self.form, term, given);
+        self.hold_made(made)
+    }
+
+    /// Holds those of a number.
+    fn need_number(&mut self, terms: &Terms, term: TermId) -> Result<(), Stop> {
+        let made = self.needs.need_number(self.alloc, &mut self.log, terms, &self.form, term);
+        self.hold_made(made)
+    }
+
+    /// Holds those of an assumed literal's own atom.
+    pub(super) fn name(&mut self, terms: &Terms, literal: TermLit) -> Result<(), Stop> {
+        let made = self.needs.name(self.alloc, &mut self.log, terms, &self.form, literal);
+        self.hold_made(made)
+    }
+
+    /// Holds what was made.
+    fn hold_made(&mut self, made: Result<Vec<Wanted>, FormStop>) -> Result<(), Stop> {
+        let wanted = match made {
+            Ok(wanted) => wanted,
+            Err(stop) => return Err(stop_of(stop)),
+        };
+        hold_wanted(&mut self.sat, &self.log, &wanted)?;
         Ok(())
     }
 
@@ -78,7 +109,7 @@ impl Prepared {
         };
         self.cover(terms, term, level)?;
         let clause = self.log.given(self.given, term, level)?;
-        self.sat.add(&self.log, clause)?;
+        self.state(terms, term, clause)?;
         self.given = given;
         Ok(())
     }
@@ -108,6 +139,7 @@ impl Prepared {
             return Err(Stop::Memory);
         };
         self.cover(terms, term, level)?;
+        self.need_number(terms, term)?;
         self.numbered = numbered;
         Ok(())
     }

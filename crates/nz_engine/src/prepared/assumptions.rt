@@ -44,11 +44,11 @@ impl Prepared {
         forms_are_sums();
         operands_are_sorted();
         atoms_of_terms();
-        if self.form.is_covered(term) {
-            return Ok(());
+        if !self.form.is_covered(term) {
+            self.above = true;
+            self.cover(terms, term, level)?;
         }
-        self.above = true;
-        self.cover(terms, term, level)
+        Ok(())
     }
 
     /// Covers the terms of assumed literals, of which those that aren't covered yet are so above all levels.
@@ -78,6 +78,7 @@ impl Prepared {
         let level = levels.len();
         for literal in assumed {
             self.assume_term(terms, literal.term, level)?;
+            self.name(terms, *literal)?;
         }
         Ok(())
     }

@@ -5,32 +5,32 @@ ghost use Rattle.nz_log.specs.Logs.{IsLive, literals_at};
 ghost use Rattle.nz_cform.specs.Listings.{ListingState};
 ghost use Rattle.nz_engine.specs.Preparing.{Forgets, HasListedBounds, IsListedIn};
 
-use nz_cform::ClauseForm;
+use nz_cform::Needs;
 use nz_log::{Atom, ClauseId, Lit, Log};
 use nz_reals::Reals;
 use nz_sat::Sat;
 
 /// Whether a literal is on no bound, or on one that is listed.
-fn is_listed(log: &Log, form: &ClauseForm, literal: Lit) -> bool
+fn is_listed(log: &Log, needs: &Needs, literal: Lit) -> bool
     requires there { literal.atom < length log.now.atoms }
     ensures listed { result ≡ true → IsListedIn log.now form.now.bounds literal }
     ensures unlisted { result ≡ false → IsListedIn log.now form.now.bounds literal → ⊥ }
 {
     match log.atom(literal.atom()) {
         Atom::Term(_) => true,
-        Atom::AtMost(_) => form.is_listed(literal.atom()),
+        Atom::AtMost(_) => needs.is_listed(literal.atom()),
     }
 }
 
 /// Whether each bound that a clause has is listed.
-fn has_listed_bounds(log: &Log, form: &ClauseForm, id: ClauseId) -> bool
+fn has_listed_bounds(log: &Log, needs: &Needs, id: ClauseId) -> bool
     requires live { IsLive log.now id }
     requires there { All (λ l. l.atom < length log.now.atoms) (literals_at log.now id) }
     ensures listed { result ≡ true → HasListedBounds log.now form.now.bounds id }
     ensures unlisted { result ≡ false → HasListedBounds log.now form.now.bounds id → ⊥ }
 {
     for literal in log.clause(id) {
-        if !is_listed(log, form, *literal) {
+        if !is_listed(log, needs, *literal) {
             return false;
         }
     }
@@ -38,7 +38,7 @@ fn has_listed_bounds(log: &Log, form: &ClauseForm, id: ClauseId) -> bool
 }
 
 /// The clause at a place of those that are held, where it has a bound that isn't listed.
-fn unlisted_at(sat: &Sat<Reals>, log: &Log, form: &ClauseForm, place: usize) -> Option<ClauseId>
+fn unlisted_at(sat: &Sat<Reals>, log: &Log, needs: &Needs, place: usize) -> Option<ClauseId>
     requires live { All (λ h. IsLive log.now h.id) sat.now.clauses }
     requires there { All (λ h. All (λ l. l.atom < length log.now.atoms) (literals_at log.now h.id)) sat.now.clauses }
     ensures unlisted { IfSome result (λ id. HasListedBounds log.now form.now.bounds id → ⊥) }
@@ -46,14 +46,14 @@ fn unlisted_at(sat: &Sat<Reals>, log: &Log, form: &ClauseForm, place: usize) -> 
     ensures listed { result ≡ None → (d : Held) → place < length sat.now.clauses → HasListedBounds log.now form.now.bounds (slice_index_or sat.now.clauses place d).id }
 {
     let held = sat.clauses().get(place)?;
-    if has_listed_bounds(log, form, held.id) {
+    if has_listed_bounds(log, needs, held.id) {
         return None;
     }
     Some(held.id)
 }
 
 /// Forgets the clauses that have a bound which isn't listed. Takes no memory.
-pub(super) fn forget_unlisted(sat: &mut Sat<Reals>, log: &Log, form: &ClauseForm)
+pub(super) fn forget_unlisted(sat: &mut Sat<Reals>, log: &Log, needs: &Needs)
     requires live { All (λ h. IsLive log.now h.id) sat.old.clauses }
     requires there { All (λ h. All (λ l. l.atom < length log.now.atoms) (literals_at log.now h.id)) sat.old.clauses }
     ensures forgets { (before : ListingState) → Forgets log.now before form.now.bounds sat.old.clauses sat.new.clauses }
@@ -63,7 +63,7 @@ pub(super) fn forget_unlisted(sat: &mut Sat<Reals>, log: &Log, form: &ClauseForm
     let mut place = sat.clauses().len();
     while place > 0 {
         place -= 1;
-        if let Some(id) = unlisted_at(sat, log, form, place) {
+        if let Some(id) = unlisted_at(sat, log, needs, place) {
             sat.forget(id);
         }
     }

@@ -18,7 +18,7 @@ ghost use Rattle.nz_engine.specs.SearchLaws.{SearchLaws};
 ghost use Rattle.nz_engine.specs.Preparing.{BeganExcluded};
 
 use super::Prepared;
-use super::atoms::{booleans_of, name_atoms};
+use super::atoms::name_atoms;
 use super::exclusions::exclude;
 use super::theory::{begin_anew, learn_on, untell};
 use nz_base::{Memory, Work};
@@ -192,8 +192,8 @@ impl Prepared {
         atoms_of_terms();
         self.log.atom_count();
         self.noted.truncate(first);
-        let booleans = booleans_of(self.alloc, terms, self.form.terms())?;
-        let atoms = self.log.term_atoms(&booleans)?;
+        let named = self.needs.terms(self.alloc, terms)?;
+        let atoms = self.log.term_atoms(&named)?;
         let literals = self.log.lits_of(assumed)?;
         let count = self.log.atom_count();
         name_atoms(
@@ -201,7 +201,7 @@ impl Prepared {
             &mut self.noted,
             count,
             &atoms,
-            self.form.bounds(),
+            self.needs.bounds(),
         )?;
         Ok(literals)
     }

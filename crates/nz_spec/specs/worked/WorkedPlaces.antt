@@ -8,8 +8,8 @@ use Rattle.nz_spec.specs.terms.Order.{listing_order}
 use Rattle.nz_spec.specs.simplex.Families.{scaled_to_integers}
 use Rattle.nz_spec.specs.search.Work.{WorkList}
 use Rattle.nz_spec.specs.search.Notes.{Note, worth_site, Place}
-use Rattle.nz_spec.specs.search.Search.{Task}
-use Rattle.nz_spec.specs.search.Places.{IsStoppedLegally}
+use Rattle.nz_spec.specs.search.Search.{Task, at_first}
+use Rattle.nz_spec.specs.search.Places.{IsToldEnough, IsStoppedLegally}
 use Rattle.nz_spec.specs.worked.TermSamples.{x_constant, x_term, numeral_term}
 use Rattle.nz_spec.specs.worked.WorkedArithmetic.{x_from_one}
 use Rattle.nz_spec.specs.worked.WorkedWork.{task_of, opening}
@@ -40,6 +40,10 @@ great_place = record { operation = record { operator = Sum; left = whole (pos 1)
 -- At the model where x is 1 the sum leaves the numbers.
 abbrev pub HasGreatWorth : Type 0
 HasGreatWorth = IsStoppedLegally great_task great_work great_place
+
+-- Before anything is told it isn't enough, where a bound is asserted: worths that break the bound meet all of nothing.
+abbrev pub WantsTelling : Type 0
+WantsTelling = IsToldEnough great_task at_first → ⊥
 
 -- ---- Scaling
 

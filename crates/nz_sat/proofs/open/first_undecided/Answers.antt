@@ -1,10 +1,10 @@
 -- One clause more was looked at.
-use Rattle.std.proofs.Common.{◌≡◌, ℕ, ◌<◌, List, length, Option, None, get_or, take, sym, ◌∙◌, subst, arith, Contains, IfSome}
+use Rattle.std.proofs.Common.{ℕ, ◌<◌, List, length, Option, get_or, take, sym, ◌∙◌, subst, arith, Contains, IfSome}
 use Rattle.std.proofs.lemmas.List.{take_all, take_more}
 use Rattle.std.proofs.lemmas.List.Elements.{All-contains, All-push, Contains-get_or}
 use Rattle.nz_log.specs.Logs.{literals_at}
 use Rattle.nz_sat.specs.declared.clauses.Held.{Held}
-use Rattle.nz_sat.specs.declared.clauses.Need.TheVariants.{Always}
+use Rattle.nz_sat.specs.declared.clauses.Demand.TheVariants.{Always}
 use Rattle.nz_sat.specs.Clauses.{HasTrue, IsOpen}
 use Rattle.nz_sat.specs.Sats.{IsNeeded, ids}
 use Rattle.nz_sat.specs.Searching.{HaveTrue, IsUndecidedIn}
@@ -14,7 +14,7 @@ use Rattle.nz_sat.proofs.TrailGrowth.{held_has}
 use Rattle.nz_sat.proofs.open.first_undecided.Goals as goal
 
 blank : Held
-blank = record { id = 0; level = 0; need = Always; glue = 0 }
+blank = record { id = 0; level = 0; demand = Always; glue = 0 }
 
 pub loop-one-preserved : goal.loop-one-preserved
 unfolding blank
@@ -27,7 +27,7 @@ loop-one-preserved c =
     let inside : i < length held = omega arith in
     let first = c.loop-one.first in
     let found = c.undecided_in-found.result in
-    let P : Held → Type 0 = λ h. IsNeeded (truth_on es) h.need → HasTrue es (literals_at log h.id) in
+    let P : Held → Type 0 = λ h. IsNeeded (truth_on es) h.demand → HasTrue es (literals_at log h.id) in
     let Q : ℕ → Type 0 = λ t. (h : Held) × Contains held h × IsUndecidedIn log h es t in
     let some : IfSome found Q = some_weaker (IsUndecidedIn log one es) Q (λ t h. (one, Contains-get_or held i blank inside, h)) found c.undecided_in-found.ensures.undecided in
     let opens = All-contains (λ (u : ℕ). IsOpen es (literals_at log u)) (ids held) one.id c.requires.open (held_has held i blank inside) in

@@ -1,5 +1,5 @@
 -- An undecided atom was found, or each clause so far that needs a true literal has one.
-use Rattle.std.proofs.Common.{◌≡◌, ℕ, None, take, Contains, IfSome}
+use Rattle.std.proofs.Common.{◌≡◌, None, take, Contains, IfSome}
 use Rattle.nz_sat.specs.declared.clauses.Held.{Held}
 use Rattle.nz_sat.specs.Searching.{HaveTrue, IsUndecidedIn}
 use Rattle.nz_sat.proofs.open.first_undecided.Given as goal

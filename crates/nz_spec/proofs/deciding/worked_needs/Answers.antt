@@ -2,6 +2,7 @@
 use Rattle.std.proofs.Common.{refl, inl, inr}
 use Rattle.nz_ints.specs.Division.{gcd_within, gcd}
 use Rattle.nz_fractions.specs.Fraction.{denominator, over, fraction_eq, fraction_lt, neg_ℚ, ◌+ℚ◌, ◌-ℚ◌, ◌*ℚ◌, reduce, exact, outcome}
+use Rattle.nz_spec.proofs.WorkedSettling.{has_settling}
 use Rattle.nz_spec.proofs.deciding.worked_needs.Goals as goal
 
 pub returns : goal.returns
@@ -29,4 +30,5 @@ returns c =
         comparisons = (tt, (tt, tt), refl);
         tautology = λ f. elim f [ inl e ↦ cc | inr g ↦ elim g [ inl e ↦ cc | inr e ↦ absurd e ] ];
       };
+      settled = has_settling;
     }

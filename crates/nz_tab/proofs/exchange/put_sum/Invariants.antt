@@ -1,16 +1,17 @@
-use Rattle.std.proofs.Common.{◌≡◌, ◌+◌, map, take}
-use Rattle.std.specs.Prelude.{vec_len, vec_capacity}
-use Rattle.nz_spec.specs.simplex.Basis.{Coefficients}
-use Rattle.nz_tab.specs.Comes.{IsDone}
+use Rattle.std.proofs.Common.{◌≡◌, drop}
+use Rattle.std.specs.Prelude.{vec_capacity}
+use Rattle.nz_spec.specs.numbers.Computation.{IsSame}
 use Rattle.nz_tab.specs.Each.{behind}
-use Rattle.nz_tab.specs.Exchanges.{sum_row}
-use Rattle.nz_tab.specs.Rows.{coefficient}
+use Rattle.nz_tab.specs.Entries.{HaveNumbers, IsRising, others}
+use Rattle.nz_tab.proofs.Merged.{merged}
 use Rattle.nz_tab.proofs.exchange.put_sum.Given as goal
 
--- the columns so far
-abbrev pub invariant-loop-place : goal.invariant-loop-place
-invariant-loop-place l = record {
-  done : (d : Coefficients) → l.other ≡ map d l.columns → IsDone (behind l.fn.rows.items (sum_row (take l.place l.columns) l.factor d (coefficient l.row))) l.rows.items;
-  len : vec_len l.rows ≡ vec_len l.fn.rows + l.place;
-  capacity : vec_capacity l.rows ≡ vec_capacity l.fn.rows;
+-- what is made so far, and then what comes of the rest, is the whole
+abbrev pub invariant-loop-entry : goal.invariant-loop-entry
+invariant-loop-entry l = record {
+  same : IsSame (merged l.factor l.solved (others l.enters l.row)) (behind l.sum.items (merged l.factor (drop l.entry-index l.solved) (others l.enters l.rest)));
+  rising : IsRising l.rest;
+  numbers : HaveNumbers l.rest;
+  made : HaveNumbers l.sum.items;
+  capacity : vec_capacity l.sum ≡ vec_capacity l.fn.sum;
 }

@@ -10,8 +10,8 @@ use Rattle.nz_tab.proofs.joining.add_multiple.Given as goal
 -- the columns so far
 abbrev pub invariant-loop-index : goal.invariant-loop-index
 invariant-loop-index l = record {
-  items : (c : Coefficients) → coefficients_at l.places l.columns l.fn.row.items ≡ map c l.columns → coefficients_at l.places l.columns l.row.items ≡ halfway l.columns c (coefficient l.other) l.factor l.index;
-  fits : (c : Coefficients) → coefficients_at l.places l.columns l.fn.row.items ≡ map c l.columns → first_wide (plus_multiple (take l.index l.columns) c l.factor (coefficient l.other)).operations ≡ None;
+  items : (c : Coefficients) → coefficients_at l.columns l.fn.row.items ≡ map c l.columns → coefficients_at l.columns l.row.items ≡ halfway l.columns c (coefficient l.other) l.factor l.index;
+  fits : (c : Coefficients) → coefficients_at l.columns l.fn.row.items ≡ map c l.columns → first_wide (plus_multiple (take l.index l.columns) c l.factor (coefficient l.other)).operations ≡ None;
   width : vec_len l.row ≡ vec_len l.fn.row;
   capacity : vec_capacity l.row ≡ vec_capacity l.fn.row;
 }

@@ -1,9 +1,9 @@
 -- One clause after the other.
-use Rattle.std.proofs.Common.{◌≡◌, ℕ, ◌<◌, true, false, List, length, map, get_or, sym, ap, subst, ◌∙◌, arith, below_more, rules, All, Contains}
+use Rattle.std.proofs.Common.{◌≡◌, ℕ, ◌<◌, true, List, length, map, get_or, sym, ap, subst, ◌∙◌, arith, below_more, rules, All, Contains}
 use Rattle.std.proofs.lemmas.List.{get_or-map, get_or_default, length-map}
 use Rattle.nz_log.specs.Logs.{literals_at}
 use Rattle.nz_sat.specs.declared.clauses.Held.{Held}
-use Rattle.nz_sat.specs.declared.clauses.Need.TheVariants.{Always}
+use Rattle.nz_sat.specs.declared.clauses.Demand.TheVariants.{Always}
 use Rattle.nz_sat.specs.Clauses.{HasTrue, IsLoneIn}
 use Rattle.nz_sat.specs.Watched.{lone_ids}
 use Rattle.nz_sat.proofs.VisitedClauses.{visits_more}
@@ -11,7 +11,7 @@ use Rattle.nz_sat.proofs.WatchedTrails.{true_on}
 use Rattle.nz_sat.proofs.propagation.Propagation.assert_lone.Goals as goal
 
 abbrev blank : Held
-blank = record { id = 0; level = 0; need = Always; glue = 0 }
+blank = record { id = 0; level = 0; demand = Always; glue = 0 }
 
 -- the number of the clause that is next
 number : (held items : List Held) (i : ℕ) → items ≡ held → i < length held → get_or (map (λ (h : Held). h.id) held) i 0 ≡ (get_or items i blank).id

@@ -7,7 +7,7 @@ use Rattle.nz_search.specs.declared.stop.Stop.TheVariants as stop
 use Rattle.nz_log.specs.Logs.{LogState, literals_at}
 use Rattle.nz_search.specs.Standing.{Ends, Stands}
 use Rattle.nz_sat.specs.declared.clauses.Held.{Held}
-use Rattle.nz_sat.specs.declared.clauses.Need.TheVariants.{Never}
+use Rattle.nz_sat.specs.declared.clauses.Demand.TheVariants.{Never}
 use Rattle.nz_sat.specs.Sats.{AreHeld, AreOn, AreSameSince, HasBegun, HoldsLearned, IsAsked, SatState}
 use Rattle.nz_sat.specs.Searching.{Satisfies}
 use Rattle.nz_sat.specs.Theories.{state_of}
@@ -41,7 +41,7 @@ invariant_of-self g c =
 pub returns-in_err-search-clause-held : goal.returns-in_err-search-clause-held
 returns-in_err-search-clause-held g c =
     let same = ap (λ (s : SatState g.row.T.Denot). s.clauses) c.self.view_is in
-    record { learned = []; joined = same ∙ sym (append-nil c.args.self.now.clauses); never_needed = All-nil (λ (h : Held). h.need ≡ Never); held = subst (AreHeld c.args.log.now) (sym same) c.requires.held }
+    record { learned = []; joined = same ∙ sym (append-nil c.args.self.now.clauses); never_needed = All-nil (λ (h : Held). h.demand ≡ Never); held = subst (AreHeld c.args.log.now) (sym same) c.requires.held }
 
 pub returns-in_err-search-clause-named : goal.returns-in_err-search-clause-named
 returns-in_err-search-clause-named g c =

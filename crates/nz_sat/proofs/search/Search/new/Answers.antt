@@ -6,7 +6,7 @@ use Rattle.nz_log.specs.declared.lits.Lit.{Lit}
 use Rattle.nz_log.specs.Leveled.{AreToldAtoms}
 use Rattle.nz_log.specs.Logs.{LogState, literals_at}
 use Rattle.nz_sat.specs.declared.clauses.Held.{Held}
-use Rattle.nz_sat.specs.declared.clauses.Need.TheVariants.{Always}
+use Rattle.nz_sat.specs.declared.clauses.Demand.TheVariants.{Always}
 use Rattle.nz_sat.specs.declared.trail.Assigned.{Assigned}
 use Rattle.nz_sat.specs.Clauses.{HasReasonOf, IsImplied, IsUsable}
 use Rattle.nz_sat.specs.Conflicts.{AreUnmarked, is_marked}
@@ -21,7 +21,7 @@ use Rattle.nz_sat.specs.Sats.{AreHeld, ids}
 use Rattle.nz_sat.proofs.search.Search.new.Goals as goal
 
 abbrev blank : Held
-blank = record { id = 0; level = 0; need = Always; glue = 0 }
+blank = record { id = 0; level = 0; demand = Always; glue = 0 }
 
 -- a clause is over the atoms
 usable : (log : LogState) (held : List Held) (atoms us : List ℕ) (size : ℕ) → AreHeld log held → All (λ (h : Held). All (λ (l : Lit). Contains atoms l.atom) (literals_at log h.id)) held

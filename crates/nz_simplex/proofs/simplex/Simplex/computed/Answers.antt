@@ -4,7 +4,7 @@ use Rattle.std.specs.Prelude.{All, IsSome, slice_index_or}
 use Rattle.nz_spec.specs.simplex.Bland.{value_onto, zero_infinitesimal, HasValue}
 use Rattle.nz_fractions.specs.Fraction.{first_wide}
 use Rattle.nz_spec.specs.terms.Table.{Node}
-use Rattle.nz_tab.specs.Rows.{DenseRow}
+use Rattle.nz_tab.specs.Rows.{SparseRow}
 use Rattle.nz_place.specs.declared.place.Place.{Place}
 use Rattle.nz_place.specs.declared.place.Site.TheVariants as sites
 use Rattle.nz_simplex.specs.Checks.{IsPlace}
@@ -46,7 +46,7 @@ returns-in-Ok g c =
     let listing = c.as_slice.ensures.value ∙ c.self.invariant.nonbasic_listed in
     let value : stands c.in-Ok.value ≡ (value_onto (rows_in x.tab c.args.var) (numbers_in stands x.values.items) zero_infinitesimal (nonbasic_numbers here)).result =
     c.in-Ok.ensures.value
-    ∙ ap (λ (r : DenseRow). (value_onto (coefficients_in r) (numbers_in stands c.as_slice-2.result.now) zero_infinitesimal c.as_slice.result.now).result) c.row.ensures.row
+    ∙ ap (λ (r : SparseRow). (value_onto (coefficients_in r) (numbers_in stands c.as_slice-2.result.now) zero_infinitesimal c.as_slice.result.now).result) c.row.ensures.row
     ∙ ap (λ (vs : List (Option S)). (value_onto (rows_in x.tab c.args.var) (numbers_in stands vs) zero_infinitesimal c.as_slice.result.now).result) c.as_slice-2.ensures.value
     ∙ ap (λ (ks : List ℕ). (value_onto (rows_in x.tab c.args.var) (numbers_in stands x.values.items) zero_infinitesimal ks).result) listing in
     record {
@@ -69,7 +69,7 @@ returns-in-Err g c =
     let stop =
     sym
     (c.in-Err.ensures.stops
-    ∙ ap (λ (r : DenseRow). first_wide (value_onto (coefficients_in r) (numbers_in stands c.as_slice-2.result.now) zero_infinitesimal c.as_slice.result.now).operations) c.row.ensures.row
+    ∙ ap (λ (r : SparseRow). first_wide (value_onto (coefficients_in r) (numbers_in stands c.as_slice-2.result.now) zero_infinitesimal c.as_slice.result.now).operations) c.row.ensures.row
     ∙ ap (λ (vs : List (Option S)). first_wide (value_onto (rows_in x.tab c.args.var) (numbers_in stands vs) zero_infinitesimal c.as_slice.result.now).operations) c.as_slice-2.ensures.value
     ∙ ap (λ (ks : List ℕ). first_wide (value_onto (rows_in x.tab c.args.var) (numbers_in stands x.values.items) zero_infinitesimal ks).operations) listing) in
     record {

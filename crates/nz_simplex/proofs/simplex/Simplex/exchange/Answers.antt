@@ -8,7 +8,7 @@ use Rattle.nz_spec.specs.terms.Table.{Node}
 use Rattle.nz_spec.specs.terms.Term.{is_zero}
 use Rattle.nz_frac.specs.Operations.{operation_of}
 use Rattle.nz_frac.specs.declared.frac.Wide.{Wide}
-use Rattle.nz_tab.specs.Rows.{DenseRow, coefficient}
+use Rattle.nz_tab.specs.Rows.{SparseRow, coefficient}
 use Rattle.nz_simplex.specs.State.{IsOver, position_over}
 use Rattle.nz_simplex.specs.Tabled.{rows_in}
 use Rattle.nz_simplex.proofs.StartBases.{exchange_stops, exchanged_shown, no_coefficient}
@@ -19,7 +19,7 @@ pub returns-then-is_zero-clause-none : goal.returns-then-is_zero-clause-none
 returns-then-is_zero-clause-none g c =
     let x = c.self.inside in
     let none : is_zero (rows_in x.tab c.args.leaves c.args.enters) ≡ true =
-    ap is_zero (sym (c.at.ensures.coefficient ∙ ap (λ (r : DenseRow). coefficient r c.args.enters) c.row.ensures.row))
+    ap is_zero (sym (c.at.ensures.coefficient ∙ ap (λ (r : SparseRow). coefficient r c.args.enters) c.row.ensures.row))
     ∙ sym c.is_zero.ensures.zero ∙ c.if-is_zero.true in
     λ e.
     no_coefficient g.S.Coordinate.stands_for x.tab x.trail x.values.items x.why.items c.args.self.now c.self.view_is c.self.invariant.sound c.args.leaves c.args.enters c.requires.listed c.requires.basic

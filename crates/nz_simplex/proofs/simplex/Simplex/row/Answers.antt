@@ -3,7 +3,7 @@ use Rattle.std.proofs.Common.{◌≡◌, ◌<◌, false, List, length, sym, ap, 
 use Rattle.nz_spec.specs.simplex.Basis.{IsRow}
 use Rattle.nz_spec.specs.simplex.Bland.{is_nonbasic}
 use Rattle.nz_spec.specs.terms.Table.{Node}
-use Rattle.nz_tab.specs.Rows.{DenseRow}
+use Rattle.nz_tab.specs.Rows.{SparseRow}
 use Rattle.nz_simplex.specs.State.{State, IsOver, nonbasic_in, position_over}
 use Rattle.nz_simplex.specs.Stored.{state_of}
 use Rattle.nz_simplex.specs.Tabled.{coefficients_in}
@@ -23,7 +23,7 @@ returns g c =
           (λ (s : State). (ns : List Node) → IsOver ns s → IsRow (position_over ns s).forms (is_nonbasic (position_over ns s).point) c.args.i (coefficients_in c.row.result))
           c.self.view_is
           (subst
-          (λ (r : DenseRow). (ns : List Node) → IsOver ns here → IsRow (position_over ns here).forms (is_nonbasic (position_over ns here).point) c.args.i (coefficients_in r))
+          (λ (r : SparseRow). (ns : List Node) → IsOver ns here → IsRow (position_over ns here).forms (is_nonbasic (position_over ns here).point) c.args.i (coefficients_in r))
           (sym c.row.ensures.row)
           (λ ns over. row_told stands x.tab x.trail x.values.items x.why.items c.self.invariant.sound c.known_tableau.ensures.tableau ns over c.args.i inside basic));
     }

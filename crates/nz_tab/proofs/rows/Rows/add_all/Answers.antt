@@ -24,7 +24,7 @@ pub add_one-requires : goal.add_one-requires
 add_one-requires c = record {
   within = subst (λ (a : ℕ × Fraction). a.0 < length c.args.self.now.marks) (sym c.addend-item.is) (c.requires.within c.loop-addend.addend-index c.addend-item.result (omega arith));
   columns = c.requires.columns;
-  width = c.loop-addend.invariant.width ∙ c.requires.width;
+  long = c.loop-addend.invariant.width ∙ c.requires.long;
 }
 
 pub returns-in_err-add_one-clause-added : goal.returns-in_err-add_one-clause-added
@@ -37,8 +37,8 @@ returns-in_err-add_one-clause-added c = λ d e.
     let error : c.from_residual.result ≡ Err w = search rules in
     let done = c.loop-addend.invariant.done d e in
     let here : Coefficients = (all_added ks (is_nonbasic g) (rows_of g) d (take i qs)).result in
-    subst (λ r. Comes (turned_into (λ (x : Coefficients). map x ks) (all_added ks (is_nonbasic g) (rows_of g) d qs)) (coefficients_at g.places ks c.add_one.new.row.items) r) (sym error)
-    (added_stop ks (is_nonbasic g) (rows_of g) d qs i c.addend-item.result (omega arith) c.addend-item.is (coefficients_at g.places ks c.loop-addend.row.items) done (operation_of w) (c.in_err-add_one.ensures.added here done.result))
+    subst (λ r. Comes (turned_into (λ (x : Coefficients). map x ks) (all_added ks (is_nonbasic g) (rows_of g) d qs)) (coefficients_at ks c.add_one.new.row.items) r) (sym error)
+    (added_stop ks (is_nonbasic g) (rows_of g) d qs i c.addend-item.result (omega arith) c.addend-item.is (coefficients_at ks c.loop-addend.row.items) done (operation_of w) (c.in_err-add_one.ensures.added here done.result))
 
 pub loop-addend-preserved : goal.loop-addend-preserved
 loop-addend-preserved c =
@@ -50,8 +50,8 @@ loop-addend-preserved c =
       done = λ d e.
           let done = c.loop-addend.invariant.done d e in
           let here : Coefficients = (all_added ks (is_nonbasic g) (rows_of g) d (take i qs)).result in
-          added_more ks (is_nonbasic g) (rows_of g) d qs i c.addend-item.result (omega arith) c.addend-item.is (coefficients_at g.places ks c.loop-addend.row.items) done
-          (coefficients_at g.places ks c.add_one.new.row.items) (c.in_ok-add_one.ensures.added here done.result);
+          added_more ks (is_nonbasic g) (rows_of g) d qs i c.addend-item.result (omega arith) c.addend-item.is (coefficients_at ks c.loop-addend.row.items) done
+          (coefficients_at ks c.add_one.new.row.items) (c.in_ok-add_one.ensures.added here done.result);
       width = c.add_one.ensures.width ∙ c.loop-addend.invariant.width;
       capacity = c.add_one.ensures.capacity ∙ c.loop-addend.invariant.capacity;
     }
@@ -59,4 +59,4 @@ loop-addend-preserved c =
 pub returns-clause-added : goal.returns-clause-added
 returns-clause-added c = λ d e.
     let g = c.args.self.now in
-    added_all c.args.columns.now (is_nonbasic g) (rows_of g) d c.args.addends.now c.loop-addend.addend-index (coefficients_at g.places c.args.columns.now c.loop-addend.row.items) (omega arith) (c.loop-addend.invariant.done d e)
+    added_all c.args.columns.now (is_nonbasic g) (rows_of g) d c.args.addends.now c.loop-addend.addend-index (coefficients_at c.args.columns.now c.loop-addend.row.items) (omega arith) (c.loop-addend.invariant.done d e)

@@ -1,69 +1,82 @@
--- Two forms exchange their slots, and each form that is written has its own.
-use Rattle.std.proofs.Common.{◌≡◌, ◌<◌, ℕ, true, false, List, length, map, sym, ap, subst, ◌∙◌, arith}
-use Rattle.std.specs.Prelude.{All}
-use Rattle.std.proofs.lemmas.List.{length-map}
-use Rattle.nz_fractions.specs.Fraction.{Fraction}
-use Rattle.nz_spec.specs.simplex.BasisMoves.{numbers}
-use Rattle.nz_tab.specs.Exchanges.{places_exchanged, written_forms}
-use Rattle.nz_tab.specs.Rows.{AreSlotted, Grid, IsGrid, is_marked}
-use Rattle.nz_tab.specs.Sums.{IsStoredGrid}
-use Rattle.nz_tab.proofs.Exchanged.{grid_then, marks_after}
-use Rattle.nz_tab.proofs.Pivots.{IsReady, columns_after, columns_long, columns_slotted, rows_full, rows_slotted}
-use Rattle.nz_tab.proofs.StoredRows.{items, stored_in}
+-- Two forms change places, and each row that was computed comes to its form.
+use Rattle.std.proofs.Common.{◌≡◌, ℕ, ◌<◌, List, get_or, length, map, set, sym, ap, subst, ◌∙◌, arith}
+use Rattle.std.specs.Prelude.{All, vec_capacity}
+use Rattle.nz_tab.specs.Exchanges.{AreDistinct, AreExchanged, IsReplaced}
+use Rattle.nz_tab.specs.Rows.{Grid}
+use Rattle.nz_tab.proofs.Exchanged.{marks_after}
+use Rattle.nz_tab.proofs.ReplacedRows.{MayReplace, V, distinct, forms, has_room, inside, replaced, roomy, spare_fits}
+use Rattle.nz_tab.proofs.StoredRows.{items, made}
 use Rattle.nz_tab.proofs.rows.Rows.replace.Goals as goal
-use Rattle.nz_tab.proofs.rows.Rows.replace.Goals.{After-as_slice}
+use Rattle.nz_tab.proofs.rows.Rows.replace.Goals.{After-as_slice, After-exchange_rows}
 
-ready : (c : After-as_slice) → IsReady c.args.self.now c.args.leaves c.args.enters
-ready c = record { inside = c.requires.listed; leaves = c.requires.basic; enters = c.requires.nonbasic }
+-- what is known before, of the fields
+may : (c : After-as_slice) → MayReplace (made c.self.inside.nonbasic.items (map items c.self.inside.rows.items)) c.args.leaves c.args.enters c.args.room.now.solved c.args.room.now.written.items c.args.room.now.spare.items
+    (vec_capacity c.args.room.now.columns) (vec_capacity c.args.room.now.written)
+may c =
+    subst
+    (λ (x : Grid). MayReplace x c.args.leaves c.args.enters c.args.room.now.solved c.args.room.now.written.items c.args.room.now.spare.items (vec_capacity c.args.room.now.columns) (vec_capacity c.args.room.now.written))
+    (sym c.self.view_is)
+    (record {
+      ready = c.requires.ready;
+      written_are = c.requires.written;
+      stay = c.requires.stay;
+      solved_is = c.requires.solved;
+      rows_are = c.requires.rows;
+      room = c.requires.room;
+    })
 
-stored : (c : After-as_slice) → IsStoredGrid c.args.self.now
-stored c = stored_in c.self.view_is c.self.invariant
+pub exchange_rows-requires-clause-forms : goal.exchange_rows-requires-clause-forms
+exchange_rows-requires-clause-forms c =
+    let here = (goal.at.exchange_rows-requires-clause-forms c).After-as_slice in
+    λ k d e.
+    omega (
+      arith,
+      subst (λ (l : List ℕ). All (λ m. m < length c.self.inside.rows.items) l) (sym c.as_slice.ensures.value) (forms c.self.inside.nonbasic.items c.self.inside.rows.items c.self.inside.width c.self.invariant c.args.leaves c.args.enters c.args.room.now.solved c.args.room.now.written.items c.args.room.now.spare.items (vec_capacity c.args.room.now.columns) (vec_capacity c.args.room.now.written) (may here)) k d e,
+      c.swap.ensures.len,
+      c.self.inside.rows.ok.0,
+    )
 
-places : (c : After-as_slice) → c.as_slice.result.now ≡ places_exchanged c.args.self.now.places c.args.leaves c.args.enters
-places c =
-    c.as_slice.ensures.value
-    ∙ c.exchange_places.ensures.exchanged
-    ∙ ap (λ (x : Grid). places_exchanged x.places c.args.leaves c.args.enters) c.self.view_is
+pub exchange_rows-requires-clause-distinct : goal.exchange_rows-requires-clause-distinct
+exchange_rows-requires-clause-distinct c =
+    let here = (goal.at.exchange_rows-requires-clause-distinct c).After-as_slice in
+    subst AreDistinct (sym c.as_slice.ensures.value) (distinct c.self.inside.nonbasic.items c.self.inside.rows.items c.self.inside.width c.self.invariant c.args.leaves c.args.enters c.args.room.now.solved c.args.room.now.written.items c.args.room.now.spare.items (vec_capacity c.args.room.now.columns) (vec_capacity c.args.room.now.written) (may here))
 
-rows_long : (c : After-as_slice) → length c.args.self.now.rows ≡ c.self.inside.rows.len
-rows_long c = omega (arith, ap (λ (x : Grid). length x.rows) c.self.view_is, length-map c.self.inside.rows.items items, c.self.inside.rows.ok.0)
+pub exchange_rows-requires-clause-spare : goal.exchange_rows-requires-clause-spare
+exchange_rows-requires-clause-spare c =
+    let here = (goal.at.exchange_rows-requires-clause-spare c).After-as_slice in
+    omega (arith, ap length c.as_slice.ensures.value, spare_fits c.self.inside.nonbasic.items c.self.inside.rows.items c.self.inside.width c.self.invariant c.args.leaves c.args.enters c.args.room.now.solved c.args.room.now.written.items c.args.room.now.spare.items (vec_capacity c.args.room.now.columns) (vec_capacity c.args.room.now.written) (may here), c.args.room.now.spare.ok.0)
 
-pub write_rows-requires-clause-columns : goal.write_rows-requires-clause-columns
-write_rows-requires-clause-columns c =
-    let here = (goal.at.write_rows-requires-clause-columns c).After-as_slice in
-    let ks = columns_after c.args.self.now c.args.leaves c.args.enters in
-    subst (λ (l : List ℕ). AreSlotted c.as_slice.result.now l (length l)) (sym c.requires.columns)
-    (subst (λ (l : List ℕ). AreSlotted l ks (length ks)) (sym (places here)) (columns_slotted (ready here) (stored here)))
+-- ---- At the end
 
-pub write_rows-requires-clause-rows : goal.write_rows-requires-clause-rows
-write_rows-requires-clause-rows c =
-    let here = (goal.at.write_rows-requires-clause-rows c).After-as_slice in
-    subst (AreSlotted c.as_slice.result.now c.args.written.now) (rows_long here)
-    (subst (λ (l : List ℕ). AreSlotted c.as_slice.result.now l (length c.args.self.now.rows)) (sym c.requires.written)
-    (subst (λ (l : List ℕ). AreSlotted l (written_forms c.args.self.now c.args.leaves c.args.enters) (length c.args.self.now.rows)) (sym (places here)) (rows_slotted (ready here) (stored here))))
+abbrev before : After-exchange_rows → After-as_slice
+before c = (goal.at.After-exchange_rows c).After-as_slice
 
-pub write_rows-requires-clause-full : goal.write_rows-requires-clause-full
-write_rows-requires-clause-full c =
-    let here = (goal.at.write_rows-requires-clause-full c).After-as_slice in
-    subst (λ (l : List ℕ). All (λ (row : List Fraction). length row ≡ length l) (map items c.self.inside.rows.items)) (sym c.requires.columns)
-    (subst (λ (x : Grid). All (λ (row : List Fraction). length row ≡ length (columns_after c.args.self.now c.args.leaves c.args.enters)) x.rows) (sym c.self.view_is) (rows_full (ready here) (stored here)))
+long : (c : After-exchange_rows) → length c.swap.new.self.items ≡ length c.self.inside.rows.items
+long c = omega (arith, c.swap.ensures.len, c.swap.new.self.ok.0, c.self.inside.rows.ok.0)
+
+given : (c : After-exchange_rows) → c.swap-2.new.y ≡ get_or c.swap.new.self.items c.args.enters c.swap-2.new.y
+given c = c.swap-2.ensures.y_after ∙ c.index_mut-3.ensures.value ∙ ap (get_or c.swap.new.self.items c.args.enters) (sym c.swap-2.ensures.y_after)
+
+rows_exchanged : (c : After-exchange_rows)
+    → AreExchanged c.args.room.now.written.items (length c.args.room.now.written.items) (set c.swap.new.self.items c.args.enters c.args.room.now.solved) c.exchange_rows.new.rows.items c.args.room.now.spare.items c.exchange_rows.new.spare.items
+rows_exchanged c =
+    subst (λ (l : List ℕ). AreExchanged l (length l) (set c.swap.new.self.items c.args.enters c.args.room.now.solved) c.exchange_rows.new.rows.items c.args.room.now.spare.items c.exchange_rows.new.spare.items) c.as_slice.ensures.value
+    (subst (λ (x : V). AreExchanged c.as_slice.result.now (length c.as_slice.result.now) (set c.swap.new.self.items c.args.enters x) c.exchange_rows.new.rows.items c.args.room.now.spare.items c.exchange_rows.new.spare.items) c.swap-2.ensures.x_after
+    c.exchange_rows.ensures.exchanged)
 
 pub invariant_of-self : goal.invariant_of-self
 invariant_of-self c =
-    let here = (goal.at.invariant_of-self c).After-as_slice in
-    let g = c.self.inside in
-    let marks = g.nonbasic.items in
-    let i = c.args.leaves in
-    let j = c.args.enters in
-    let inside = subst (λ (x : Grid). i < length x.marks) (sym c.self.view_is) c.requires.listed in
-    let leaves : is_marked marks i ≡ false = ap (λ (x : Grid). is_marked x.marks i) c.self.view_is ∙ c.requires.basic in
-    let enters : is_marked marks j ≡ true = ap (λ (x : Grid). is_marked x.marks j) c.self.view_is ∙ c.requires.nonbasic in
-    let later = map items c.write_rows.new.rows.items in
-    let width : length c.args.columns.now ≡ g.width =
-    ap length c.requires.columns
-    ∙ columns_long (ready here)
-    ∙ ap (λ (x : Grid). length (numbers (length x.marks) (is_marked x.marks))) (sym c.self.view_is)
-    ∙ sym c.self.invariant.wide in
-    subst (λ (l : List ℕ). IsGrid (marks_after marks i j inside leaves enters) l g.width later) (sym c.exchange_places.ensures.exchanged)
-    (grid_then marks i j inside leaves enters g.places.items c.self.invariant.placed g.width (map items g.rows.items) later c.self.invariant c.write_rows.ensures.rows.count
-    (subst (λ (m : ℕ). All (λ (row : List Fraction). length row ≡ m) later) width c.write_rows.ensures.rows.full))
+    let here = (goal.at.invariant_of-self c).After-exchange_rows in
+    roomy c.self.inside.nonbasic.items c.self.inside.rows.items c.self.inside.width c.self.invariant c.args.leaves c.args.enters c.args.room.now.solved c.args.room.now.written.items c.args.room.now.spare.items (vec_capacity c.args.room.now.columns) (vec_capacity c.args.room.now.written) (may (before here)) c.swap.new.self.items c.exchange_rows.new.rows.items c.exchange_rows.new.spare.items c.swap-2.new.y c.swap.ensures.by_index (long here) (given here) (rows_exchanged here)
+
+pub returns-clause-replaced : goal.returns-clause-replaced
+returns-clause-replaced c =
+    let here = (goal.at.returns-clause-replaced c).After-exchange_rows in
+    let now = made (marks_after c.self.inside.nonbasic.items c.args.leaves c.args.enters (inside c.self.inside.nonbasic.items c.self.inside.rows.items c.self.inside.width c.self.invariant c.args.leaves c.args.enters c.args.room.now.solved c.args.room.now.written.items c.args.room.now.spare.items (vec_capacity c.args.room.now.columns) (vec_capacity c.args.room.now.written) (may (before here))) (may (before here)).ready.leaves (may (before here)).ready.enters) (map items c.exchange_rows.new.rows.items) in
+    subst (λ (x : Grid). IsReplaced x now c.args.leaves c.args.enters c.args.room.now.solved.items c.args.room.now.written.items (map items c.args.room.now.spare.items)) c.self.view_is
+    (replaced c.self.inside.nonbasic.items c.self.inside.rows.items c.self.inside.width c.self.invariant c.args.leaves c.args.enters c.args.room.now.solved c.args.room.now.written.items c.args.room.now.spare.items (vec_capacity c.args.room.now.columns) (vec_capacity c.args.room.now.written) (may (before here)) c.swap.new.self.items c.exchange_rows.new.rows.items c.exchange_rows.new.spare.items c.swap-2.new.y c.swap.ensures.by_index (long here) (given here) (rows_exchanged here))
+
+pub returns-clause-room : goal.returns-clause-room
+returns-clause-room c =
+    let here = (goal.at.returns-clause-room c).After-exchange_rows in
+    has_room c.self.inside.nonbasic.items c.self.inside.rows.items c.self.inside.width c.self.invariant c.args.leaves c.args.enters c.args.room.now.solved c.args.room.now.written.items c.args.room.now.spare.items (vec_capacity c.args.room.now.columns) (vec_capacity c.args.room.now.written) (may (before here)) c.swap.new.self.items c.exchange_rows.new.rows.items c.exchange_rows.new.spare.items c.swap-2.new.y c.swap.ensures.by_index (long here) (given here) (rows_exchanged here)

@@ -11,6 +11,8 @@ use Rattle.nz_tab.specs.Tables.{IsStored, Table}
 use Rattle.nz_tab.specs.Units.{AreNumbers, is_unit_form, with_units}
 use Rattle.nz_tab.proofs.Added.{IsPrepared, forms_then, grown, kept, long_then, prepared, stopped, told, units_then, within}
 use Rattle.nz_tab.proofs.TableStorage.{items, units_are}
+use Rattle.nz_tab.specs.declared.entries.Entry.{Entry}
+use Rattle.nz_tab.proofs.StoredRows.{room_of}
 use Rattle.nz_tab.proofs.tab.Tab.add_sum.Goals as goal
 use Rattle.nz_tab.proofs.tab.Tab.add_sum.Goals.{After-as_slice, After-push_reserved}
 
@@ -79,18 +81,20 @@ invariant_of-self-2 c =
     let first : length forms ≡ c.len-6.result = length-map t.forms.items items ∙ omega (arith, c.len-6.ensures, c.reserve-2.ensures.len, t.forms.ok.0) in
     let numbers : AreNumbers now (with_units forms c.args.parts.now) =
     units_then p t.rows s.count now c.as_slice-2.result.now c.as_slice-2.ensures.value (c.number_units.ensures.numbers forms first agree) in
-    let wanted : HasRoomForSum t.rows c.len-5.result (vec_capacity made.columns) (vec_capacity made.written) (vec_capacity made.solved) (vec_capacity made.spare) =
-    subst (λ (n : ℕ). HasRoomForSum t.rows n (vec_capacity made.columns) (vec_capacity made.written) (vec_capacity made.solved) (vec_capacity made.spare)) (c.len-2.ensures ∙ sym c.len-5.ensures) c.in_ok-reserve.ensures.room in
-    subst (λ (l : List (List Part)). IsStored l c.join.new.self now (vec_capacity room.columns) (vec_capacity room.written) (vec_capacity room.solved) (vec_capacity room.spare))
+    let wanted : HasRoomForSum t.rows c.len-5.result (vec_capacity made.columns) (vec_capacity made.written) (vec_capacity made.solved) (map room_of made.spare.items) =
+    subst (λ (n : ℕ). HasRoomForSum t.rows n (vec_capacity made.columns) (vec_capacity made.written) (vec_capacity made.solved) (map room_of made.spare.items)) (c.len-2.ensures ∙ sym c.len-5.ensures) c.in_ok-reserve.ensures.room in
+    subst (λ (l : List (List Part)). IsStored l c.join.new.self now (vec_capacity room.columns) (vec_capacity room.written) (vec_capacity room.solved) (map room_of room.spare.items))
     (sym (listed (goal.at.invariant_of-self-2 c).After-push_reserved))
-    (kept p t.rows s.count c.join.new.self c.in_ok-join.ensures.joined (get nat_eq t.units) now (vec_capacity t.room.columns) (vec_capacity t.room.written) (vec_capacity t.room.solved) (vec_capacity t.room.spare)
-    (vec_capacity room.columns) (vec_capacity room.written) (vec_capacity room.solved) (vec_capacity room.spare) s c.joins_keep_basis.ensures.kept c.term_has_its_number.ensures.number c.requires.sum
+    (kept p t.rows s.count c.join.new.self c.in_ok-join.ensures.joined (get nat_eq t.units) now (vec_capacity t.room.columns) (vec_capacity t.room.written) (vec_capacity t.room.solved) (map room_of t.room.spare.items)
+    (vec_capacity room.columns) (vec_capacity room.written) (vec_capacity room.solved) (map room_of room.spare.items) s c.joins_keep_basis.ensures.kept c.term_has_its_number.ensures.number c.requires.sum
+    (subst (λ (v : Vec (Vec Entry Global) Global). HasRoomForSum t.rows c.len-5.result (vec_capacity room.columns) (vec_capacity room.written) (vec_capacity room.solved) (map room_of v.items)) (sym c.join.ensures.spare)
     (record {
       for_columns = omega (arith, wanted.for_columns, c.join.ensures.columns);
-      for_written = omega (arith, wanted.for_written, c.join.ensures.written);
-      for_solved = omega (arith, wanted.for_solved, c.join.ensures.solved);
-      for_block = omega (arith, wanted.for_block, c.join.ensures.spare);
-    })
+      for_written = omega (arith, wanted.for_written, ap (λ (v : Vec ℕ Global). vec_capacity v) c.join.ensures.written);
+      for_solved = omega (arith, wanted.for_solved, ap room_of c.join.ensures.solved);
+      for_rows = wanted.for_rows;
+      for_entries = wanted.for_entries;
+    }))
     numbers)
 
 pub returns-clause-grown : goal.returns-clause-grown

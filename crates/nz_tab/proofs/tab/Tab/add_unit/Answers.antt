@@ -8,6 +8,7 @@ use Rattle.nz_tab.specs.Joins.{IsUnitJoined}
 use Rattle.nz_tab.specs.Tables.{IsStored, Table}
 use Rattle.nz_tab.specs.Units.{AreNumbers, unit_number, unit_of}
 use Rattle.nz_tab.proofs.TableStorage.{items, stored_unit, unit_joined}
+use Rattle.nz_tab.proofs.StoredRows.{room_of}
 use Rattle.nz_tab.proofs.tab.Tab.add_unit.Goals as goal
 use Rattle.nz_tab.proofs.tab.Tab.add_unit.Goals.{After-push_reserved}
 
@@ -30,9 +31,9 @@ invariant_of-self-2 c =
     let long : length forms ≡ c.len-var.result = length-map t.forms.items items ∙ omega (arith, c.len-var.ensures, c.reserve-2.ensures.len, t.forms.ok.0) in
     let numbers : AreNumbers (get nat_eq c.number_unit.new.numbers) (forms ++ unit_of p ∷ []) =
     subst (λ (l : List Part). AreNumbers (get nat_eq c.number_unit.new.numbers) (forms ++ l ∷ [])) (c.as_slice.ensures.value ∙ c.in_ok-unit.ensures.unit) (c.number_unit.ensures.numbers forms long agree) in
-    subst (λ (l : List (List Part)). IsStored l c.widen.new.self (get nat_eq c.number_unit.new.numbers) (vec_capacity c.reserve.new.self.columns) (vec_capacity c.reserve.new.self.written) (vec_capacity c.reserve.new.self.solved) (vec_capacity c.reserve.new.self.spare)) (sym (listed (goal.at.invariant_of-self-2 c).After-push_reserved))
-    (stored_unit forms t.rows (get nat_eq t.units) (vec_capacity t.room.columns) (vec_capacity t.room.written) (vec_capacity t.room.solved) (vec_capacity t.room.spare) s (get nat_eq c.number_unit.new.numbers)
-    (vec_capacity c.reserve.new.self.columns) (vec_capacity c.reserve.new.self.written) (vec_capacity c.reserve.new.self.solved) (vec_capacity c.reserve.new.self.spare)
+    subst (λ (l : List (List Part)). IsStored l c.widen.new.self (get nat_eq c.number_unit.new.numbers) (vec_capacity c.reserve.new.self.columns) (vec_capacity c.reserve.new.self.written) (vec_capacity c.reserve.new.self.solved) (map room_of c.reserve.new.self.spare.items)) (sym (listed (goal.at.invariant_of-self-2 c).After-push_reserved))
+    (stored_unit forms t.rows (get nat_eq t.units) (vec_capacity t.room.columns) (vec_capacity t.room.written) (vec_capacity t.room.solved) (map room_of t.room.spare.items) s (get nat_eq c.number_unit.new.numbers)
+    (vec_capacity c.reserve.new.self.columns) (vec_capacity c.reserve.new.self.written) (vec_capacity c.reserve.new.self.solved) (map room_of c.reserve.new.self.spare.items)
     c.joins_keep_basis.ensures.kept c.term_has_its_number.ensures.number c.widen.new.self p none c.in_ok-widen.ensures.joined c.in_ok-reserve.ensures.room numbers)
 
 pub returns-clause-joins : goal.returns-clause-joins

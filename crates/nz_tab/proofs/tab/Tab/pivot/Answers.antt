@@ -9,6 +9,7 @@ use Rattle.nz_tab.specs.Comes.{Stops}
 use Rattle.nz_tab.specs.Rows.{is_nonbasic, rows_of}
 use Rattle.nz_tab.specs.Tables.{Table}
 use Rattle.nz_tab.proofs.Tableau.{stored_after}
+use Rattle.nz_tab.proofs.StoredRows.{room_of}
 use Rattle.nz_tab.proofs.tab.Tab.pivot.Goals as goal
 
 pub invariant_of-self : goal.invariant_of-self
@@ -21,8 +22,8 @@ invariant_of-self c =
     let enters : is_nonbasic t.rows c.args.j ≡ true = ap (λ (x : Table). is_nonbasic x.grid c.args.j) c.self.view_is ∙ c.requires.enters in
     let nonzero : is_zero (rows_of t.rows i c.args.j) ≡ false = ap (λ (x : Table). is_zero (rows_of x.grid i c.args.j)) c.self.view_is ∙ c.requires.nonzero in
     stored_after c.exchange_keeps_basis.ensures.kept (map (λ (v : Vec Part Global). v.items) t.forms.items) t.rows c.exchange.new.self (get nat_eq t.units)
-    (vec_capacity t.room.columns) (vec_capacity t.room.written) (vec_capacity t.room.solved) (vec_capacity t.room.spare)
-    (vec_capacity c.exchange.new.room.columns) (vec_capacity c.exchange.new.room.written) (vec_capacity c.exchange.new.room.solved) (vec_capacity c.exchange.new.room.spare)
+    (vec_capacity t.room.columns) (vec_capacity t.room.written) (vec_capacity t.room.solved) (map room_of t.room.spare.items)
+    (vec_capacity c.exchange.new.room.columns) (vec_capacity c.exchange.new.room.written) (vec_capacity c.exchange.new.room.solved) (map room_of c.exchange.new.room.spare.items)
     i c.args.j s inside leaves enters nonzero c.exchange.result c.exchange.ensures.exchanged c.exchange.ensures.unchanged c.exchange.ensures.room
 
 pub returns-clause-stops : goal.returns-clause-stops
